@@ -1,0 +1,21 @@
+-- A number taken apart: x = 2^k·m with 1 ≤ m < 2. Definitions only (RULES.md, K2).
+use Prim.Native.Nat.{ℕ, _-_}
+use mathlib.Core.Bool.{false}
+use lib.IntN.{ℤ, pos, _+ℤ_}
+use lib.Ieee.{Float, nan, inf, fin, minus, size}
+
+-- A finite x is m·2^e in size. An m of d binary digits is 2^(d−1) times a number from 1 up to 2.
+abbrev pub lead : ℕ → ℕ
+lead m = size m - 1
+
+-- k, of an x that is finite and not zero; of any other, a number that no definition uses
+unfoldable pub exponent : Float → ℤ
+exponent nan = pos 0
+exponent (inf s) = pos 0
+exponent (fin s m e) = e +ℤ pos (lead m)
+
+-- m, likewise
+unfoldable pub significand : Float → Float
+significand nan = nan
+significand (inf s) = nan
+significand (fin s m e) = fin false m (minus 0 (lead m))

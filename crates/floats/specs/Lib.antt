@@ -1,0 +1,6 @@
+-- The definitions of `floats`: operators and constants, a number taken apart, the score key; and bounds, for the laws.
+pub mod F64
+pub mod Apart
+pub mod Key
+pub mod Within
+pub mod Under

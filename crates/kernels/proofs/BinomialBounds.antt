@@ -1,0 +1,40 @@
+-- The binomial's coefficient and log probability are finite for a k up to n and an n below 2 ^ 23: at most 2 ^ 38 and 2 ^ 39 in size.
+-- Assumes nothing.
+use Prim.Native.Nat.{ℕ, _+_, _-_, _^_, _≤_, _<_}
+use native.Mathlib.Omega.{arith}
+use lib.IntN.{pos}
+use lib.Dec.{T, lit≤}
+use lib.Ieee.{Float, binary64, fits}
+use lib.Ieee.Fits.{sub-fits, ofInt-fits}
+use lib.Ieee.Positive.{positive}
+use Rattle.floats.specs.F64.{_⊕_, _⊖_, _⊗_, nat}
+use Rattle.floats.specs.Within.{Within}
+use Rattle.floats.proofs.Bounds.{within-more, within-whole, within-add, within-sub, within-mul, above-whole}
+use Rattle.floats.proofs.Whole.{add-whole, sub-whole}
+use Rattle.kernels.specs.Ln.{lnOf}
+use Rattle.kernels.specs.Gamma.{lnGammaOf}
+use Rattle.kernels.specs.Binomial.{lnChoose, lnPmf}
+use Rattle.kernels.proofs.LnBounds.{within-ln}
+use Rattle.kernels.proofs.GammaBounds.{within-ln-gamma}
+
+-- ln Γ(n + 1)
+factorial-within : (n : ℕ) → n < 2 ^ 23 → Within (2 ^ 36) (lnGammaOf (nat n ⊕ nat 1))
+factorial-within n h =
+    rw (add-whole n 1 (omega arith) (lit≤ tt))
+    (within-ln-gamma (nat (n + 1)) (ofInt-fits binary64 (pos (n + 1))) (above-whole (n + 1) (omega arith) (omega arith) .is-positive) (within-whole (pos (n + 1)) (2 ^ 23) (omega arith) (lit≤ tt)))
+
+pub within-ln-choose : (k n : ℕ) → k ≤ n → n < 2 ^ 23 → Within (2 ^ 38) (lnChoose k n)
+unfolding lnChoose
+within-ln-choose k n h l =
+    let rest : Within (2 ^ 36) (lnGammaOf (nat n ⊖ nat k ⊕ nat 1)) = rw (sub-whole n k h (omega arith)) (factorial-within (n - k) (omega arith)) in
+    within-more (within-sub (within-sub (factorial-within n l) (factorial-within k (omega arith)) (lit≤ tt)) rest (lit≤ tt)) (lit≤ tt)
+
+-- a count times a logarithm
+term-within : (n : ℕ) (p : Float) → n < 2 ^ 23 → T (fits binary64 p) → T (positive p) → Within (2 ^ 35) (nat n ⊗ lnOf p)
+term-within n p h f a = within-mul (within-whole (pos n) (2 ^ 23) (omega arith) (lit≤ tt)) (within-ln p f a) (lit≤ tt)
+
+pub within-ln-pmf : (k n : ℕ) (p : Float) → k ≤ n → n < 2 ^ 23 → T (fits binary64 p) → T (positive p) → T (positive (nat 1 ⊖ p)) → Within (2 ^ 39) (lnPmf k n p)
+unfolding lnPmf
+within-ln-pmf k n p h l f a b =
+    let rest : Within (2 ^ 35) ((nat n ⊖ nat k) ⊗ lnOf (nat 1 ⊖ p)) = rw (sub-whole n k h (omega arith)) (term-within (n - k) (nat 1 ⊖ p) (omega arith) (sub-fits binary64 (nat 1) p) b) in
+    within-more (within-add (within-add (within-ln-choose k n h l) (term-within k p (omega arith) f a) (lit≤ tt)) rest (lit≤ tt)) (lit≤ tt)

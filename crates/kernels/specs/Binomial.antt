@@ -1,0 +1,14 @@
+-- The binomial log probability at every k, n and p. Definitions only (RULES.md, K7).
+use Prim.Native.Nat.{ℕ}
+use lib.Ieee.{Float}
+use Rattle.floats.specs.F64.{_⊕_, _⊖_, _⊗_, nat}
+use Rattle.kernels.specs.Ln.{lnOf}
+use Rattle.kernels.specs.Gamma.{lnGammaOf}
+
+-- the coefficient: ln Γ(n + 1) − ln Γ(k + 1) − ln Γ((n − k) + 1)
+unfoldable pub lnChoose : ℕ → ℕ → Float
+lnChoose k n = lnGammaOf (nat n ⊕ nat 1) ⊖ lnGammaOf (nat k ⊕ nat 1) ⊖ lnGammaOf (nat n ⊖ nat k ⊕ nat 1)
+
+-- the coefficient, plus k·ln p, plus (n − k)·ln(1 − p)
+unfoldable pub lnPmf : ℕ → ℕ → Float → Float
+lnPmf k n p = lnChoose k n ⊕ nat k ⊗ lnOf p ⊕ (nat n ⊖ nat k) ⊗ lnOf (nat 1 ⊖ p)

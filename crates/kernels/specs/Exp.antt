@@ -1,0 +1,40 @@
+-- The exponential at every f64. Definitions only (RULES.md, K4).
+use Prim.Native.Nat.{ℕ, zero, suc, _*_}
+use mathlib.Core.Bool.{false, cond}
+use mathlib.Core.List.{List, [], _∷_}
+use lib.IntN.{ℤ, pos, negℤ}
+use lib.Ieee.{Float, nan, inf, fin, up, down, lt, isNan}
+use lib.Ieee.Nearest.{closest}
+use Rattle.floats.specs.F64.{_⊖_, _⊗_, whole, nat, decimal, reciprocals, horner}
+use Rattle.kernels.specs.Ln.{hi, lo}
+
+-- the whole number that a finite x = ±m·2^e is nearest to, at a tie the even one: `closest a b` rounds the fraction a / b so
+abbrev pub nearestWhole : Float → ℤ
+nearestWhole nan = pos 0
+nearestWhole (inf s) = pos 0
+nearestWhole (fin s m e) = let n = pos (closest (m * up e) (down e)) in cond s (negℤ n) n
+
+-- n!, and the factorials from n! down to 0!
+abbrev pub factorial : ℕ → ℕ
+factorial zero = 1
+factorial (suc n) = suc n * factorial n
+
+abbrev pub factorials : ℕ → List ℕ
+factorials zero = factorial zero ∷ []
+factorials (suc n) = factorial (suc n) ∷ factorials n
+
+-- Horner's rule in r from 1/13! to 1/0!
+unfoldable pub expSeries : Float → Float
+expSeries r = horner r (reciprocals (factorials 13))
+
+-- the series at r = (x − k·hi) − k·lo, times 2^k
+unfoldable pub expParts : ℤ → Float → Float
+expParts k x = expSeries (x ⊖ whole k ⊗ hi ⊖ whole k ⊗ lo) ⊗ fin false 1 k
+
+-- NaN gives NaN, below −708 gives 0, above 709 plus infinity; else k is the whole number nearest to x·1.4426950408889634
+unfoldable pub expOf : Float → Float
+expOf x =
+    cond (isNan x) nan
+    (cond (lt x (whole (negℤ (pos 708)))) (nat 0)
+    (cond (lt (nat 709) x) (inf false)
+    (expParts (nearestWhole (x ⊗ decimal 14426950408889634 16)) x)))

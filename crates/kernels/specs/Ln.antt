@@ -1,0 +1,50 @@
+-- The natural logarithm at every f64. Definitions only (RULES.md, K3).
+use Prim.Native.Nat.{ℕ}
+use mathlib.Core.Bool.{true, false, cond}
+use mathlib.Core.List.{List, [], _∷_}
+use lib.IntN.{ℤ, pos, negsuc, _+ℤ_, _-ℤ_}
+use lib.Dec.{eqb}
+use lib.Ieee.{Float, nan, inf, fin, binary64, lt, le, ofBits}
+use Rattle.floats.specs.F64.{_⊕_, _⊖_, _⊗_, _⊘_, whole, nat, ratio, decimal, reciprocals, horner}
+use Rattle.floats.specs.Apart.{exponent, significand}
+
+-- ln 2 in two parts, by their bits
+abbrev pub hi : Float
+hi = ofBits binary64 0x3FE6_2E42_FEE0_0000
+
+abbrev pub lo : Float
+lo = ofBits binary64 0x3DEA_39EF_3579_3C76
+
+-- p, by Horner's rule in z from 1/21 through 1/19 and 1/17 down to 1/3
+abbrev pub odds : List ℕ
+odds = 21 ∷ 19 ∷ 17 ∷ 15 ∷ 13 ∷ 11 ∷ 9 ∷ 7 ∷ 5 ∷ 3 ∷ []
+
+abbrev pub series : Float → Float
+series z = horner z (reciprocals odds)
+
+-- t = 2s + (2s)·(z·p), with s = (m − 1)/(m + 1) and z = s·s
+unfoldable pub lnMantissa : Float → Float
+lnMantissa m =
+    let s = (m ⊖ nat 1) ⊘ (m ⊕ nat 1) in
+    let z = s ⊗ s in
+    nat 2 ⊗ s ⊕ nat 2 ⊗ s ⊗ (z ⊗ series z)
+
+-- k·hi + (t + k·lo)
+unfoldable pub lnParts : ℤ → Float → Float
+lnParts k m = whole k ⊗ hi ⊕ (lnMantissa m ⊕ whole k ⊗ lo)
+
+-- of 2^k·m: when m ≥ 1.4142135623730951, halve m and add 1 to k
+unfoldable pub lnHalved : ℤ → Float → Float
+lnHalved k m = cond (le (decimal 14142135623730951 16) m) (lnParts (k +ℤ pos 1) (m ⊗ ratio 1 2)) (lnParts k m)
+
+-- of a finite x above zero, x = 2^k·m; a subnormal x, one below 2^−1022, is first multiplied by 2^54, and 54 is taken off k
+unfoldable pub lnPositive : Float → Float
+lnPositive x =
+    let y = x ⊗ fin false 1 (pos 54) in
+    cond (lt x (fin false 1 (negsuc 1021))) (lnHalved (exponent y -ℤ pos 54) (significand y)) (lnHalved (exponent x) (significand x))
+
+-- zeros give minus infinity, negatives and NaN give NaN, plus infinity itself
+unfoldable pub lnOf : Float → Float
+lnOf nan = nan
+lnOf (inf s) = cond s nan (inf s)
+lnOf (fin s m e) = cond (eqb m 0) (inf true) (cond s nan (lnPositive (fin s m e)))

@@ -1,0 +1,23 @@
+// The binomial log probability.
+ghost use mathlib.Core.Path.{_≡_};
+ghost use Rattle.kernels.specs.Binomial.{lnChoose, lnPmf};
+use crate::gamma::ln_gamma;
+use crate::ln::ln;
+
+// The logarithm of the number of ways to choose k of n, by three log gammas.
+pub fn ln_choose(k: u32, n: u32) -> f64
+    ensures { λ r. ⌜ r ≡ lnChoose k n ⌝ }
+{
+    let some = k as f64;
+    let all = n as f64;
+    ln_gamma(all + 1.0) - ln_gamma(some + 1.0) - ln_gamma(all - some + 1.0)
+}
+
+// The logarithm of the probability of k successes among n, each of probability p.
+pub fn ln_pmf(k: u32, n: u32, p: f64) -> f64
+    ensures { λ r. ⌜ r ≡ lnPmf k n p ⌝ }
+{
+    let some = k as f64;
+    let all = n as f64;
+    ln_choose(k, n) + some * ln(p) + (all - some) * ln(1.0 - p)
+}

@@ -1,0 +1,74 @@
+// The exponential.
+ghost use mathlib.Core.Path.{_≡_};
+ghost use mathlib.Core.Bool.{false};
+ghost use lib.Ieee.{fin};
+ghost use Rattle.floats.specs.F64.{whole};
+ghost use Rattle.floats.specs.Within.{Within};
+ghost use Rattle.kernels.specs.Exp.{nearestWhole, expSeries, expParts, expOf};
+ghost use Rattle.kernels.specs.Inner.{Normal};
+
+// 1.5·2^52.
+const SHIFT: f64 = 6755399441055744.0;
+
+// The whole number nearest to y, at a tie the even one. Between 2^52 and 2^53 the floats are the whole numbers, so that the sum
+// is rounded to one of them.
+fn nearest_whole(y: f64) -> f64
+    requires { ⌜ Within 2000 y ⌝ }
+    ensures { λ r. ⌜ r ≡ whole (nearestWhole y) ⌝ }
+{
+    y + SHIFT - SHIFT
+}
+
+// 2^k.
+fn power(k: i32) -> f64
+    requires { ⌜ Normal k ⌝ }
+    ensures { λ r. ⌜ r ≡ fin false 1 k ⌝ }
+{
+    f64::from_bits(((k + 1023) as u64) << 52)
+}
+
+// e^r, for an r near 0.
+fn exp_series(r: f64) -> f64
+    ensures { λ v. ⌜ v ≡ expSeries r ⌝ }
+{
+    let mut p = 1.0 / 6227020800.0;
+    p = p * r + 1.0 / 479001600.0;
+    p = p * r + 1.0 / 39916800.0;
+    p = p * r + 1.0 / 3628800.0;
+    p = p * r + 1.0 / 362880.0;
+    p = p * r + 1.0 / 40320.0;
+    p = p * r + 1.0 / 5040.0;
+    p = p * r + 1.0 / 720.0;
+    p = p * r + 1.0 / 120.0;
+    p = p * r + 1.0 / 24.0;
+    p = p * r + 1.0 / 6.0;
+    p = p * r + 1.0 / 2.0;
+    p = p * r + 1.0;
+    p * r + 1.0
+}
+
+// 2^k e^(x - k ln 2). The caller has k as a float too.
+fn exp_parts(k: i32, n: f64, x: f64) -> f64
+    requires { ⌜ Normal k ⌝ }
+    requires { ⌜ n ≡ whole k ⌝ }
+    ensures { λ r. ⌜ r ≡ expParts k x ⌝ }
+{
+    exp_series(x - n * 0.6931471803691238 - n * 1.9082149292705877e-10) * power(k)
+}
+
+// e^x, at every x.
+pub fn exp(x: f64) -> f64
+    ensures { λ r. ⌜ r ≡ expOf x ⌝ }
+{
+    if x != x {
+        return x;
+    }
+    if x < -708.0 {
+        return 0.0;
+    }
+    if x > 709.0 {
+        return 1.0 / 0.0;
+    }
+    let n = nearest_whole(x * 1.4426950408889634);
+    exp_parts(n as i32, n, x)
+}

@@ -1,0 +1,129 @@
+//! Times each kernel of the port, of kernels.rs and of the standard library on the same inputs, and prints a Markdown table.
+//! All are called through a pointer to an `extern "C"` function, so that none is inlined where another cannot be.
+use crate::inputs::{Random, Trial};
+use crate::{kernels, port};
+use std::hint::black_box;
+use std::time::Instant;
+
+const INPUTS: usize = 4096;
+const PASSES: usize = 4;
+const REPEATS: usize = 101;
+
+type FloatKernel = extern "C" fn(f64) -> f64;
+
+#[link(name = "m")]
+unsafe extern "C" {
+    #[link_name = "lgamma"]
+    safe fn c_lgamma(x: f64) -> f64;
+}
+
+macro_rules! called_as_c {
+    ($($name:ident: $f:expr;)*) => {
+        $(#[inline(never)] extern "C" fn $name(x: f64) -> f64 { $f(x) })*
+    };
+}
+
+called_as_c! {
+    plain_ln: kernels::ln;
+    plain_exp: kernels::exp;
+    plain_log10: kernels::log10;
+    plain_pow10: kernels::pow10;
+    plain_ln_gamma: kernels::ln_gamma;
+    std_ln: f64::ln;
+    std_exp: f64::exp;
+    std_log10: f64::log10;
+    std_pow10: |y| 10.0_f64.powf(y);
+}
+
+#[inline(never)]
+extern "C" fn plain_ln_pmf(k: u32, n: u32, p: f64) -> f64 {
+    kernels::ln_pmf(k, n, p)
+}
+
+#[inline(never)]
+extern "C" fn plain_key(x: f64) -> i64 {
+    kernels::key(x)
+}
+
+/// One timing of a kernel: ns a call.
+type Timing<'a> = Box<dyn Fn() -> f64 + 'a>;
+
+fn timing<'a, I: Copy, O>(inputs: &'a [I], call: impl Fn(I) -> O + 'a) -> Timing<'a> {
+    Box::new(move || {
+        let began = Instant::now();
+        for _ in 0..PASSES {
+            for &input in inputs {
+                black_box(call(input));
+            }
+        }
+        began.elapsed().as_nanos() as f64 / (PASSES * inputs.len()) as f64
+    })
+}
+
+/// The median of each timing. They take turns, so that a slow moment of the machine hits all alike.
+fn medians(timings: &[Timing]) -> Vec<f64> {
+    let mut taken = vec![Vec::new(); timings.len()];
+    for _ in 0..REPEATS {
+        for (timing, times) in timings.iter().zip(&mut taken) {
+            times.push(timing());
+        }
+    }
+    taken.iter_mut().for_each(|times| times.sort_by(f64::total_cmp));
+    taken.iter().map(|times| times[REPEATS / 2]).collect()
+}
+
+/// A line of the table. The timings are of the port, of plain Rust, and of the standard library if it has the kernel.
+fn row(name: &str, range: &str, timings: &[Timing]) {
+    let ns = medians(timings);
+    let (port, plain) = (ns[0], ns[1]);
+    let (std, ratio) = match ns.get(2) {
+        Some(std) => (format!("{std:.1}"), format!("{:.2}", port / std)),
+        None => ("".to_string(), "".to_string()),
+    };
+    println!("| {name} | {range} | {port:.1} | {plain:.1} | {std} | {:.2} | {ratio} |", port / plain);
+}
+
+fn float_row(name: &str, range: &str, xs: &[f64], kernels: [FloatKernel; 3]) {
+    let kernels = black_box(kernels);
+    row(name, range, &kernels.map(|kernel| timing(xs, move |x| kernel(x))));
+}
+
+fn binomial_row(trials: &[Trial]) {
+    type Kernel = extern "C" fn(u32, u32, f64) -> f64;
+    let kernels = black_box([port::ln_pmf as Kernel, plain_ln_pmf as Kernel]);
+    row("binomial", "n to 3,000,000", &kernels.map(|kernel| timing(trials, move |(k, n, p)| kernel(k, n, p))));
+}
+
+fn key_row(xs: &[f64]) {
+    type Kernel = extern "C" fn(f64) -> i64;
+    let kernels = black_box([port::key as Kernel, plain_key as Kernel]);
+    row("key", "-1000 to 1000", &kernels.map(|kernel| timing(xs, move |x| kernel(x))));
+}
+
+fn many<T>(mut draw: impl FnMut() -> T) -> Vec<T> {
+    (0..INPUTS).map(|_| draw()).collect()
+}
+
+fn trial(random: &mut Random) -> Trial {
+    let n = random.below(3_000_001);
+    (random.below(n + 1) as u32, n as u32, random.between(1e-6, 0.999999))
+}
+
+pub fn run() {
+    let random = &mut Random::new(5);
+    println!("| kernel | inputs | port, ns | plain Rust, ns | standard library, ns | port / plain | port / standard |");
+    println!("|---|---|---|---|---|---|---|");
+    let xs = many(|| random.scaled(-30, 30));
+    float_row("ln", "2^-30 to 2^30", &xs, [port::ln, plain_ln, std_ln]);
+    float_row("log10", "2^-30 to 2^30", &xs, [port::log10, plain_log10, std_log10]);
+    let xs = many(|| random.between(-700.0, 700.0));
+    float_row("exp", "-700 to 700", &xs, [port::exp, plain_exp, std_exp]);
+    let xs = many(|| random.between(-300.0, 300.0));
+    float_row("ten to the y", "-300 to 300", &xs, [port::pow10, plain_pow10, std_pow10]);
+    let xs = many(|| random.between(0.001, 16.0));
+    float_row("log gamma", "0.001 to 16", &xs, [port::ln_gamma, plain_ln_gamma, c_lgamma]);
+    let xs = many(|| random.between(16.0, 3e6));
+    float_row("log gamma", "16 to 3,000,000", &xs, [port::ln_gamma, plain_ln_gamma, c_lgamma]);
+    binomial_row(&many(|| trial(random)));
+    key_row(&many(|| random.between(-1000.0, 1000.0)));
+}
