@@ -1,8 +1,23 @@
--- No second answer meets a public contract (RULES.md, C1). `Post` of a function's `Reads` is what its contract, as the source has it, asks of the result.
--- Assumes nothing.
+-- No second answer meets a public contract (RULES.md, C1). `Post` of a function's `Reads` is what its contract, as its source has it, asks of the result.
+-- A crate that comes adds its public functions here. Assumes nothing.
 use mathlib.Core.Path.{_≡_, sym, _∙_}
+use Rattle.refusals.proofs.number.Reads as number
+use Rattle.refusals.proofs.name.Reads as name
+use Rattle.floats.proofs.key.key.Reads as key
 use Rattle.kernels.proofs.ln.ln.Reads as ln
 use Rattle.kernels.proofs.exp.exp.Reads as exp
+use Rattle.kernels.proofs.log10.log10.Reads as log10
+use Rattle.kernels.proofs.log10.pow10.Reads as pow10
+use Rattle.kernels.proofs.gamma.ln_gamma.Reads as ln-gamma
+use Rattle.kernels.proofs.binomial.ln_choose.Reads as ln-choose
+use Rattle.kernels.proofs.binomial.ln_pmf.Reads as ln-pmf
+use Rattle.exports.proofs.admulfas_ln.Reads as c-ln
+use Rattle.exports.proofs.admulfas_exp.Reads as c-exp
+use Rattle.exports.proofs.admulfas_log10.Reads as c-log10
+use Rattle.exports.proofs.admulfas_pow10.Reads as c-pow10
+use Rattle.exports.proofs.admulfas_ln_gamma.Reads as c-ln-gamma
+use Rattle.exports.proofs.admulfas_ln_pmf.Reads as c-ln-pmf
+use Rattle.exports.proofs.admulfas_key.Reads as c-key
 
 -- Whatever the lifetimes, the arguments and what they refer to at the end, at most one result meets the contract.
 abbrev pub OneAnswer : {K : Type 0} {A R E : K → Type 0} → ((κ : K) → A κ → R κ → E κ → Type 0) → Type 0
@@ -12,8 +27,61 @@ OneAnswer {K} {A} {R} {E} post = (κ : K) (a : A κ) (e : E κ) (v w : R κ) →
 pub only : {A : Type 0} {a v w : A} → v ≡ a → w ≡ a → v ≡ w
 only p q = p ∙ sym q
 
+-- ---- refusals
+
+pub number-once : OneAnswer number.Post
+number-once κ a e v w = only
+
+pub name-once : OneAnswer name.Post
+name-once κ a e v w = only
+
+-- ---- floats
+
+pub key-once : OneAnswer key.Post
+key-once κ a e v w = only
+
+-- ---- kernels
+
 pub ln-once : OneAnswer ln.Post
 ln-once κ a e v w = only
 
 pub exp-once : OneAnswer exp.Post
 exp-once κ a e v w = only
+
+pub log10-once : OneAnswer log10.Post
+log10-once κ a e v w = only
+
+pub pow10-once : OneAnswer pow10.Post
+pow10-once κ a e v w = only
+
+pub ln-gamma-once : OneAnswer ln-gamma.Post
+ln-gamma-once κ a e v w = only
+
+pub ln-choose-once : OneAnswer ln-choose.Post
+ln-choose-once κ a e v w = only
+
+pub ln-pmf-once : OneAnswer ln-pmf.Post
+ln-pmf-once κ a e v w = only
+
+-- ---- exports
+
+pub c-ln-once : OneAnswer c-ln.Post
+c-ln-once κ a e v w = only
+
+pub c-exp-once : OneAnswer c-exp.Post
+c-exp-once κ a e v w = only
+
+pub c-log10-once : OneAnswer c-log10.Post
+c-log10-once κ a e v w = only
+
+pub c-pow10-once : OneAnswer c-pow10.Post
+c-pow10-once κ a e v w = only
+
+pub c-ln-gamma-once : OneAnswer c-ln-gamma.Post
+c-ln-gamma-once κ a e v w = only
+
+pub c-ln-pmf-once : OneAnswer c-ln-pmf.Post
+c-ln-pmf-once κ a e v w = only
+
+pub c-key-once : OneAnswer c-key.Post
+c-key-once κ a e v w = only
