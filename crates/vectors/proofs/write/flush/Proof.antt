@@ -1,0 +1,25 @@
+-- `vectors::write::flush` is safe: what it writes lies in the buffer. Assumes nothing.
+use mathlib.Core.Path.{sym}
+use lib.Seq.{length-take-le}
+use borrow.Author.Needs.{needs}
+use Rattle.vectors.proofs.write.flush.Statement.{statement}
+use Rattle.vectors.proofs.write.flush.Tie as tie
+
+slice-aggregate-write-all : tie.Need-slice-aggregate-write-all
+slice-aggregate-write-all c = sym (length-take-le _ _ (search needs))
+
+write-all-requires : tie.Need-write-all-requires
+write-all-requires c κs = search needs
+
+returns : tie.Need-returns
+returns c = search needs
+
+returns-2 : tie.Need-returns-2
+returns-2 c = search needs
+
+returns-3 : tie.Need-returns-3
+returns-3 c = search needs
+
+pub flush-spec : {M : Type 1} → statement M
+flush-spec =
+    tie.close (tie.spec slice-aggregate-write-all write-all-requires returns returns-2 returns-3)
