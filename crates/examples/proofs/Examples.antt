@@ -3,10 +3,10 @@ use mathlib.Core.Path.{refl}
 use lib.Ieee.{size, isNan, neg, add, sub, mul, div, round, lt, le, ofInt, ofBits, toBits}
 use Rattle.floats.specs.Apart.{exponent, significand}
 use Rattle.floats.specs.Key.{keyOf}
-use Rattle.kernels.specs.Ln.{lnMantissa, lnParts, lnHalved, lnPositive, lnOf}
+use Rattle.kernels.specs.Ln.{lnNearOne, lnParts, lnReduced, lnPositive, lnOf}
 use Rattle.kernels.specs.Exp.{expSeries, expParts, expOf}
 use Rattle.examples.specs.Examples.{Examples}
 
 pub examples : Examples
-unfolding keyOf lnOf lnPositive lnHalved lnParts lnMantissa exponent significand expOf expParts expSeries size isNan neg add sub mul div round lt le ofInt ofBits toBits
+unfolding keyOf lnOf lnPositive lnReduced lnParts lnNearOne exponent significand expOf expParts expSeries size isNan neg add sub mul div round lt le ofInt ofBits toBits
 examples = record { zero-keys = refl; ln-of-one = refl; exp-of-zero = refl }

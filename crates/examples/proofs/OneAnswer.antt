@@ -19,9 +19,10 @@ use Rattle.exports.proofs.admulfas_ln_gamma.Reads as c-ln-gamma
 use Rattle.exports.proofs.admulfas_ln_pmf.Reads as c-ln-pmf
 use Rattle.exports.proofs.admulfas_key.Reads as c-key
 
--- Whatever the lifetimes, the arguments and what they refer to at the end, at most one result meets the contract.
+-- Whatever the lifetimes and the arguments, and whatever these refer to at the end of either call, at most one result meets the contract.
+-- No public function lends mutably, so that a result is all that a call can change.
 abbrev pub OneAnswer : {K : Type 0} {A R E : K → Type 0} → ((κ : K) → A κ → R κ → E κ → Type 0) → Type 0
-OneAnswer {K} {A} {R} {E} post = (κ : K) (a : A κ) (e : E κ) (v w : R κ) → post κ a v e → post κ a w e → v ≡ w
+OneAnswer {K} {A} {R} {E} post = (κ : K) (a : A κ) (v w : R κ) (e f : E κ) → post κ a v e → post κ a w f → v ≡ w
 
 -- the law: two results that equal one definition at the arguments are equal
 pub only : {A : Type 0} {a v w : A} → v ≡ a → w ≡ a → v ≡ w
@@ -30,58 +31,58 @@ only p q = p ∙ sym q
 -- ---- refusals
 
 pub number-once : OneAnswer number.Post
-number-once κ a e v w = only
+number-once κ a v w e f = only
 
 pub name-once : OneAnswer name.Post
-name-once κ a e v w = only
+name-once κ a v w e f = only
 
 -- ---- floats
 
 pub key-once : OneAnswer key.Post
-key-once κ a e v w = only
+key-once κ a v w e f = only
 
 -- ---- kernels
 
 pub ln-once : OneAnswer ln.Post
-ln-once κ a e v w = only
+ln-once κ a v w e f = only
 
 pub exp-once : OneAnswer exp.Post
-exp-once κ a e v w = only
+exp-once κ a v w e f = only
 
 pub log10-once : OneAnswer log10.Post
-log10-once κ a e v w = only
+log10-once κ a v w e f = only
 
 pub pow10-once : OneAnswer pow10.Post
-pow10-once κ a e v w = only
+pow10-once κ a v w e f = only
 
 pub ln-gamma-once : OneAnswer ln-gamma.Post
-ln-gamma-once κ a e v w = only
+ln-gamma-once κ a v w e f = only
 
 pub ln-choose-once : OneAnswer ln-choose.Post
-ln-choose-once κ a e v w = only
+ln-choose-once κ a v w e f = only
 
 pub ln-pmf-once : OneAnswer ln-pmf.Post
-ln-pmf-once κ a e v w = only
+ln-pmf-once κ a v w e f = only
 
 -- ---- exports
 
 pub c-ln-once : OneAnswer c-ln.Post
-c-ln-once κ a e v w = only
+c-ln-once κ a v w e f = only
 
 pub c-exp-once : OneAnswer c-exp.Post
-c-exp-once κ a e v w = only
+c-exp-once κ a v w e f = only
 
 pub c-log10-once : OneAnswer c-log10.Post
-c-log10-once κ a e v w = only
+c-log10-once κ a v w e f = only
 
 pub c-pow10-once : OneAnswer c-pow10.Post
-c-pow10-once κ a e v w = only
+c-pow10-once κ a v w e f = only
 
 pub c-ln-gamma-once : OneAnswer c-ln-gamma.Post
-c-ln-gamma-once κ a e v w = only
+c-ln-gamma-once κ a v w e f = only
 
 pub c-ln-pmf-once : OneAnswer c-ln-pmf.Post
-c-ln-pmf-once κ a e v w = only
+c-ln-pmf-once κ a v w e f = only
 
 pub c-key-once : OneAnswer c-key.Post
-c-key-once κ a e v w = only
+c-key-once κ a v w e f = only

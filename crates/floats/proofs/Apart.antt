@@ -12,7 +12,7 @@ use lib.Ieee.{Float, nan, inf, fin, up, down, minus, size}
 use lib.Ieee.Digits.{size-lt, size-reaches}
 use lib.Ieee.Fits.{up-pos, down-pos}
 use lib.Ieee.Positive.{num, den}
-use Rattle.floats.specs.Apart.{lead, exponent, significand}
+use Rattle.floats.specs.Apart.{lead, exponent, significand, TakenApart}
 use Rattle.floats.specs.Within.{Above}
 
 -- ---- an m above 0 has a leading digit: 2 ^ lead m ≤ m < 2 ^ (lead m + 1)
@@ -63,11 +63,6 @@ shifted (negsuc a) z = go (ltb z (suc a)) (ltb→lt z (suc a)) (nltb→le z (suc
     go false l g = simp (one-mul, mul-one) (sym (ap (λ (n : ℕ). 2 ^ n) (past (g tt)) ∙ pow-add 2 (z - suc a) (suc a)))
 
 -- ---- 2^k·m is the number
-
-pub record TakenApart (x : Float) : Type 0 where
-  pub same : num (significand x) * up (exponent x) * den x ≡ num x * (den (significand x) * down (exponent x))
-  pub at-least-one : den (significand x) ≤ num (significand x)
-  pub under-two : num (significand x) < 2 * den (significand x)
 
 regroup : (m u d a l k : ℕ) → u * d ≡ a * l * k → m * 1 * u * d ≡ m * a * (l * k)
 regroup m u d a l k h = simp (mul-one, mul-assoc) (ap (λ (n : ℕ). m * n) (h ∙ mul-assoc a l k))

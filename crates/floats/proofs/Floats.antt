@@ -97,12 +97,6 @@ itself-is-number (fin s m e) h = refl
 pub nan-by-test : (x : Float) → ne x x ≡ true → x ≡ nan
 nan-by-test x h = differs-from-itself x (subst T (sym h) tt)
 
-pub scaled-is-number : (x : Float) (k : ℕ) → ne x x ≡ false → isNan (mul binary64 x (fin false 1 (pos k))) ≡ false
-unfolding ne isNan mul
-scaled-is-number nan k h = h
-scaled-is-number (inf s) k h = refl
-scaled-is-number (fin s m e) k h = mul-is-number s m e false 1 (pos k)
-
 -- the bits of 1, with any digits, are no NaN's
 pub one-to-two-is-number : (t : ℕ) → t < 2 ^ 52 → nanBits binary64 (1023 * 2 ^ 52 + t) ≡ false
 one-to-two-is-number t h = nanBits-above binary64 (1023 * 2 ^ 52 + t) ∙ le-ltb (2047 * 2 ^ 52) ((1023 * 2 ^ 52 + t) % 2 ^ 63) (omega arith)

@@ -1,17 +1,18 @@
 -- Two floats that are no NaN have the same key exactly where they are equal as floats: both zeros have one key, and no other two numbers share one.
--- Of two numbers that are not equal one is below the other, so this follows from `key-order`. Assumes nothing.
+-- Of two numbers that are not equal one is below the other, so this follows from `key-order`. And the key of a NaN is below them all. Assumes nothing.
 use mathlib.Core.Path.{_≡_, refl, sym, ap, _∙_}
 use mathlib.Core.Bool.{Bool, true, false, not, _&&_, true≢false}
-use Prim.Native.Nat.{ℕ, zero, suc, _+_, _*_, _≤_, _<_}
+use Prim.Native.Nat.{ℕ, zero, suc, _+_, _*_, _%_, _^_, _≤_, _<_}
 use native.Mathlib.Nat.{le-antisymm, zero-lt-suc, zero-add, suc-add, add-comm}
 use native.Mathlib.Omega.{arith}
 use borrow.Author.Tests.{eq-eqb, ne-eqb, lt-ltb, le-ltb, ltb-false}
 use lib.IntN.{ℤ, pos, negsuc}
-use lib.Dec.{T, ltb, eqb, ltb→lt, nltb→le, eqb·suc-zero}
+use lib.Dec.{T, ltb, leb, eqb, ltb→lt, nltb→le, eqb·suc-zero}
 use lib.Signed.{ltZ}
-use lib.Ieee.{Float, nan, inf, fin, binary64, up, down, below, level, lt, eq, isNan, fits}
-use Rattle.floats.specs.Key.{keyOf}
-use Rattle.floats.proofs.KeyOrder.{key-order}
+use lib.Ieee.{Float, nan, inf, fin, binary64, up, down, below, level, lt, eq, isNan, nanBits, fits, toBits}
+use lib.Ieee.Bits.{ofBits-toBits, toBits-lt, nanBits-is, nanBits-above}
+use Rattle.floats.specs.Key.{keyOfNan, keyOf}
+use Rattle.floats.proofs.KeyOrder.{signed, key-is, key-order}
 
 -- ---- equal means that neither is below the other
 
@@ -98,3 +99,17 @@ module _ (x y : Float) (fits-x : T (fits binary64 x)) (fits-y : T (fits binary64
       let below : lt x y ≡ false = sym (key-order x y fits-x fits-y number-x number-y) ∙ ap (λ (z : ℤ). ltZ z (keyOf y)) h ∙ not-below-itself (keyOf y) in
       let above : lt y x ≡ false = sym (key-order y x fits-y fits-x number-y number-x) ∙ ap (λ (z : ℤ). ltZ (keyOf y) z) h ∙ not-below-itself (keyOf y) in
       equal-is x y number-x number-y ∙ rw (below, above)
+
+-- ---- a NaN would lose to every number
+
+below-every : (t : Bool) (c : ℕ) → c ≤ 2047 * 2 ^ 52 → ltZ keyOfNan (signed t c) ≡ true
+below-every false c h = refl
+below-every true zero h = refl
+below-every true (suc c) h = lt-ltb c (2047 * 2 ^ 52) h
+
+pub nan-loses : (x : Float) → T (fits binary64 x) → isNan x ≡ false → ltZ keyOfNan (keyOf x) ≡ true
+nan-loses x f n =
+    let b = toBits binary64 x in
+    let no-nan : nanBits binary64 b ≡ false = nanBits-is binary64 b ∙ ap isNan (ofBits-toBits binary64 x f) ∙ n in
+    let low : b % 2 ^ 63 ≤ 2047 * 2 ^ 52 = ltb-false (2047 * 2 ^ 52) (b % 2 ^ 63) (sym (nanBits-above binary64 b) ∙ no-nan) in
+    ap (ltZ keyOfNan) (key-is x n (toBits-lt binary64 x f)) ∙ below-every (leb (2 ^ 63) b) (b % 2 ^ 63) low

@@ -95,7 +95,7 @@ by-patterns true b true c = sym (same-test c b (sizeOf c) (sizeOf b) (size-mono 
 by-patterns true b false c = sym (same-test 0 (b + c) 0 (sizeOf b + sizeOf c) (some b c) (none b c))
 
 -- ---- the same of the keys
-abbrev signed : Bool → ℕ → ℤ
+abbrev pub signed : Bool → ℕ → ℤ
 signed s b = cond s (negℤ (pos b)) (pos b)
 
 by-keys : (s : Bool) (b : ℕ) (t : Bool) (c : ℕ) → ltZ (signed s b) (signed t c) ≡ below s b t c

@@ -1,8 +1,10 @@
 -- A number taken apart: x = 2^k·m with 1 ≤ m < 2. Definitions only (RULES.md, K2).
-use Prim.Native.Nat.{ℕ, _-_}
+use Prim.Native.Nat.{ℕ, _-_, _*_, _≤_, _<_}
+use mathlib.Core.Path.{_≡_}
 use mathlib.Core.Bool.{false}
 use lib.IntN.{ℤ, pos, _+ℤ_}
-use lib.Ieee.{Float, nan, inf, fin, minus, size}
+use lib.Ieee.{Float, nan, inf, fin, minus, size, up, down}
+use lib.Ieee.Positive.{num, den}
 
 -- A finite x is m·2^e in size. An m of d binary digits is 2^(d−1) times a number from 1 up to 2.
 abbrev pub lead : ℕ → ℕ
@@ -19,3 +21,9 @@ unfoldable pub significand : Float → Float
 significand nan = nan
 significand (inf s) = nan
 significand (fin s m e) = fin false m (minus 0 (lead m))
+
+-- what the law says of the two: m·2^k is x in size, and 1 ≤ m < 2. Sizes are fractions, `num` over `den`, and 2^k is `up k` over `down k`.
+pub record TakenApart (x : Float) : Type 0 where
+  pub same : num (significand x) * up (exponent x) * den x ≡ num x * (den (significand x) * down (exponent x))
+  pub at-least-one : den (significand x) ≤ num (significand x)
+  pub under-two : num (significand x) < 2 * den (significand x)

@@ -1,4 +1,4 @@
-// The key of a score: a whole number in the order of the scores, with both zeros at 0. Every choice compares keys.
+// The key of a score: a whole number in the order of the scores, with both zeros at 0. Every choice compares keys (docs/RULES.md, K8).
 ghost use mathlib.Core.Path.{_≡_};
 ghost use Rattle.floats.specs.Key.{keyOf};
 

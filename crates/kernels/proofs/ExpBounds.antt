@@ -17,13 +17,14 @@ use Rattle.floats.specs.F64.{_⊕_, _⊖_, _⊗_, whole, nat, ratio, reciprocal
 use Rattle.floats.specs.Within.{Within, NotBelow}
 use Rattle.floats.specs.Under.{Under, Over}
 use Rattle.floats.proofs.Ranges.{le-number, le-not-lt}
+use Rattle.floats.proofs.KeyOrder.{signed}
 use Rattle.floats.proofs.Rounded.{fraction-val, round-smaller, le-values}
-use Rattle.floats.proofs.Bounds.{within-whole}
+use Rattle.floats.proofs.Bounds.{within-whole, positive-not-below}
 use Rattle.floats.proofs.Sizes.{round-at-most, round-over, under-more, under-within, under-mul, over-mul, under-add, over-add}
 use Rattle.kernels.specs.Exp.{nearestWhole, factorial, factorials, expSeries, expParts, expOf}
 use Rattle.kernels.specs.Ln.{hi, lo}
 use Rattle.kernels.specs.Inner.{Normal}
-use Rattle.kernels.proofs.ExpSteps.{log2e, digits, steps, signed, product-is, steps-at-most, size-by-tests, few-steps, scaled-within, nearest-is, exponent-normal}
+use Rattle.kernels.proofs.ExpSteps.{log2e, digits, steps, product-is, steps-at-most, size-by-tests, few-steps, scaled-within, nearest-is, exponent-normal}
 use Rattle.kernels.proofs.ExpReduced.{reduced-under}
 
 -- ---- the series, at an r of at most 1/2: all but its last two coefficients are at most 1/2, so what runs stays within 1, and the last two steps
@@ -244,12 +245,6 @@ module _ (j : ℕ) (l : j ≤ 50) where
   middle-within : (x : Float) → isNan x ≡ false → T (le x (ratio j 2)) → lt x least ≡ false → lt most x ≡ false → Within (2 ^ suc j) (expParts (kOf x) x)
   unfolding expParts
   middle-within x n h a b = parts-within (expSeries (argument x)) j (kOf x) (series-bounds (argument x) (argument-under x n a b) .0) l (k-at-most x h a)
-
-positive-not-below : (x : Float) → T (positive x) → NotBelow x
-positive-not-below nan p = absurd p
-positive-not-below (inf s) p = absurd p
-positive-not-below (fin true m e) p = absurd p
-positive-not-below (fin false m e) p = record { not-below = tt }
 
 zero-not-below : NotBelow (nat 0)
 unfolding ofInt

@@ -13,11 +13,12 @@ use lib.Ieee.Scale.{finite, round-same}
 use lib.Ieee.Back.{round-whole}
 use Rattle.floats.specs.F64.{_⊖_, _⊗_, whole}
 use Rattle.floats.specs.Under.{Under}
+use Rattle.floats.proofs.KeyOrder.{signed}
 use Rattle.floats.proofs.Rounded.{fraction-val}
 use Rattle.floats.proofs.Bounds.{within-whole}
 use Rattle.floats.proofs.Sizes.{under-more, within-under, under-mul, under-sub, under-apart}
 use Rattle.kernels.specs.Ln.{hi, lo}
-use Rattle.kernels.proofs.ExpSteps.{digits, scaled, steps, signed, below-next, above-last}
+use Rattle.kernels.proofs.ExpSteps.{digits, scaled, steps, below-next, above-last}
 
 -- ---- hi is high / 2 ^ 32, and x and k·hi are no more than 7/16 apart
 

@@ -16,6 +16,7 @@ use lib.Ieee.Positive.{num, den, den-pos}
 use Rattle.floats.specs.F64.{_⊗_, whole, decimal}
 use Rattle.floats.specs.Within.{Within}
 use Rattle.floats.specs.Under.{Under}
+use Rattle.floats.proofs.KeyOrder.{signed}
 use Rattle.floats.proofs.Rounded.{round-within, signed-val}
 use Rattle.floats.proofs.Sizes.{round-at-most, round-at-least}
 use Rattle.kernels.specs.Exp.{nearestWhole}
@@ -48,9 +49,6 @@ product-is s m e = ap (mul binary64 (fin s m e)) log2e-is ∙ go s
 
 abbrev pub steps : Bool → ℕ → ℕ → ℕ
 steps s p d = closest (num (scaled s p d)) (den (scaled s p d))
-
-abbrev pub signed : Bool → ℕ → ℤ
-signed s n = cond s (negℤ (pos n)) (pos n)
 
 nearest-signed : (y : Float) (s : Bool) (a c : ℕ) → HasValue y s a c → nearestWhole y ≡ signed s (closest (num y) (den y))
 nearest-signed nan s a c v = absurd v

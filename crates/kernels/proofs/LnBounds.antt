@@ -13,7 +13,7 @@ use lib.Ieee.Fits.{down-pos, mul-fits}
 use Rattle.floats.specs.F64.{_⊕_, _⊖_, _⊗_, _⊘_, nat, ratio, decimal}
 use Rattle.floats.specs.Apart.{exponent, significand}
 use Rattle.floats.specs.Within.{Within, Above, NotBelow, Low, least, finite-low}
-use Rattle.kernels.specs.Ln.{hi, lo, odds, series, lnMantissa, lnParts, lnHalved, lnPositive, lnOf}
+use Rattle.kernels.specs.Ln.{hi, lo, odds, series, lnNearOne, lnParts, lnReduced, lnPositive, lnOf}
 use Rattle.floats.proofs.Floats.{eqb-zero}
 use Rattle.floats.proofs.Signed.{sum-small}
 use Rattle.floats.proofs.Apart.{taken-apart, exponent-within}
@@ -81,9 +81,9 @@ shrunk-within (fin false m e) h w l =
 series-within : {z : Float} → Within 1 z → Within 11 (series z)
 series-within h = within-reciprocals odds h tt (lit≤ tt)
 
-mantissa-within : (m : Float) → T (clear m) → Within 2 m → Within 24 (lnMantissa m)
-unfolding lnMantissa
-mantissa-within m h w =
+near-one-within : (m : Float) → T (clear m) → Within 2 m → Within 24 (lnNearOne m)
+unfolding lnNearOne
+near-one-within m h w =
     let s = shrunk-within m h w (lit≤ tt) in
     let z = within-mul s s (lit≤ tt) in
     let d = within-mul (within-whole (pos 2) 2 (lit≤ tt) (lit≤ tt)) s (lit≤ tt) in
@@ -103,10 +103,10 @@ parts-within : (k : ℤ) (m : Float) → natAbs k ≤ 1129 → T (clear m) → W
 unfolding lnParts
 parts-within k m l h w =
     let n = within-whole k 1129 l (lit≤ tt) in
-    within-more (within-add (within-mul n hi-within (lit≤ tt)) (within-add (mantissa-within m h w) (within-mul n lo-within (lit≤ tt)) (lit≤ tt)) (lit≤ tt)) (lit≤ tt)
+    within-more (within-add (within-mul n hi-within (lit≤ tt)) (within-add (near-one-within m h w) (within-mul n lo-within (lit≤ tt)) (lit≤ tt)) (lit≤ tt)) (lit≤ tt)
 
-halved-within : (k : ℤ) (m : Float) → natAbs k ≤ 1128 → T (clear m) → Within 2 m → Within (2 ^ 12) (lnHalved k m)
-unfolding lnHalved
+halved-within : (k : ℤ) (m : Float) → natAbs k ≤ 1128 → T (clear m) → Within 2 m → Within (2 ^ 12) (lnReduced k m)
+unfolding lnReduced
 halved-within k m l h w = go (le (decimal 14142135623730951 16) m)
   where
     half : Within 2 (m ⊗ ratio 1 2)
@@ -125,13 +125,13 @@ positive-within x a b = go (lt x (fin false 1 (negsuc 1021))) (scaled-up x a)
     y : Float
     y = x ⊗ fin false 1 (pos 54)
 
-    apart : (k : ℤ) (z : Float) → natAbs k ≤ 1128 → T (positive z) → Within (2 ^ 12) (lnHalved k (significand z))
+    apart : (k : ℤ) (z : Float) → natAbs k ≤ 1128 → T (positive z) → Within (2 ^ 12) (lnReduced k (significand z))
     apart k z l p = halved-within k (significand z) l (significand-clear z p) (significand-within z p)
 
     less : (k : ℤ) → natAbs k ≤ 1074 → natAbs (k -ℤ pos 54) ≤ 1128
     less k h = omega (arith, sum-small k (negsuc 53))
 
-    go : (t : Bool) → (T t → Above 1022 y) → Within (2 ^ 12) (cond t (lnHalved (exponent y -ℤ pos 54) (significand y)) (lnHalved (exponent x) (significand x)))
+    go : (t : Bool) → (T t → Above 1022 y) → Within (2 ^ 12) (cond t (lnReduced (exponent y -ℤ pos 54) (significand y)) (lnReduced (exponent x) (significand x)))
     go true h = let p = h tt .is-positive in apart (exponent y -ℤ pos 54) y (less (exponent y) (exponent-small y (mul-fits binary64 x (fin false 1 (pos 54))) p)) p
     go false h = apart (exponent x) x (exponent-within 1074 1024 1128 x (lit≤ tt) (lit≤ tt) a b) (a .is-positive)
 

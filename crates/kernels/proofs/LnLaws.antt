@@ -11,7 +11,7 @@ use Rattle.floats.specs.F64.{_⊗_}
 use Rattle.floats.specs.Apart.{exponent, significand}
 use Rattle.floats.proofs.Floats.{eqb-zero, eq-zero, lt-zero, ne-itself}
 use Rattle.floats.proofs.Subnormal.{SameButFor54, step-changes-nothing}
-use Rattle.kernels.specs.Ln.{lnOf, lnPositive, lnHalved}
+use Rattle.kernels.specs.Ln.{lnOf, lnPositive, lnReduced}
 
 pub ln-by-tests : (x : Float) → lnOf x ≡ cond (ne x x) x (cond (eq x (fin false 0 (pos 0))) (inf true) (cond (lt x (fin false 0 (pos 0))) nan (cond (eq x (inf false)) x (lnPositive x))))
 unfolding lnOf ne lt eq
@@ -33,7 +33,7 @@ positive-by-tests (fin true (suc m) e) a b c d = absurd (true≢false (sym (lt-z
 positive-by-tests (fin false (suc m) e) a b c d = lt→ltb 0 (suc m) (zero-lt-suc m)
 
 -- of a finite x above zero, x = 2^k·m, it is ln (2^k·m): the step for a subnormal x changes neither k, once 54 is taken off, nor m
-pub ln-apart : (x : Float) → T (fits binary64 x) → T (positive x) → lnOf x ≡ lnHalved (exponent x) (significand x)
+pub ln-apart : (x : Float) → T (fits binary64 x) → T (positive x) → lnOf x ≡ lnReduced (exponent x) (significand x)
 unfolding lnOf lnPositive
 ln-apart nan t p = absurd p
 ln-apart (inf s) t p = absurd p
@@ -46,6 +46,6 @@ ln-apart (fin false m e) t p = rw (eqb-zero m (ltb→lt 0 m p)) (go (lt x (fin f
     y : Float
     y = x ⊗ fin false 1 (pos 54)
 
-    go : (b : Bool) → (T b → SameButFor54 x y) → cond b (lnHalved (exponent y -ℤ pos 54) (significand y)) (lnHalved (exponent x) (significand x)) ≡ lnHalved (exponent x) (significand x)
+    go : (b : Bool) → (T b → SameButFor54 x y) → cond b (lnReduced (exponent y -ℤ pos 54) (significand y)) (lnReduced (exponent x) (significand x)) ≡ lnReduced (exponent x) (significand x)
     go true same = rw (same tt .exponent-more, same tt .significand-same, +ℤ-negℤ-cancel)
     go false same = refl

@@ -23,25 +23,25 @@ abbrev pub series : Float → Float
 series z = horner z (reciprocals odds)
 
 -- t = 2s + (2s)·(z·p), with s = (m − 1)/(m + 1) and z = s·s
-unfoldable pub lnMantissa : Float → Float
-lnMantissa m =
+unfoldable pub lnNearOne : Float → Float
+lnNearOne m =
     let s = (m ⊖ nat 1) ⊘ (m ⊕ nat 1) in
     let z = s ⊗ s in
     nat 2 ⊗ s ⊕ nat 2 ⊗ s ⊗ (z ⊗ series z)
 
 -- k·hi + (t + k·lo)
 unfoldable pub lnParts : ℤ → Float → Float
-lnParts k m = whole k ⊗ hi ⊕ (lnMantissa m ⊕ whole k ⊗ lo)
+lnParts k m = whole k ⊗ hi ⊕ (lnNearOne m ⊕ whole k ⊗ lo)
 
 -- of 2^k·m: when m ≥ 1.4142135623730951, halve m and add 1 to k
-unfoldable pub lnHalved : ℤ → Float → Float
-lnHalved k m = cond (le (decimal 14142135623730951 16) m) (lnParts (k +ℤ pos 1) (m ⊗ ratio 1 2)) (lnParts k m)
+unfoldable pub lnReduced : ℤ → Float → Float
+lnReduced k m = cond (le (decimal 14142135623730951 16) m) (lnParts (k +ℤ pos 1) (m ⊗ ratio 1 2)) (lnParts k m)
 
 -- of a finite x above zero, x = 2^k·m; a subnormal x, one below 2^−1022, is first multiplied by 2^54, and 54 is taken off k
 unfoldable pub lnPositive : Float → Float
 lnPositive x =
     let y = x ⊗ fin false 1 (pos 54) in
-    cond (lt x (fin false 1 (negsuc 1021))) (lnHalved (exponent y -ℤ pos 54) (significand y)) (lnHalved (exponent x) (significand x))
+    cond (lt x (fin false 1 (negsuc 1021))) (lnReduced (exponent y -ℤ pos 54) (significand y)) (lnReduced (exponent x) (significand x))
 
 -- zeros give minus infinity, negatives and NaN give NaN, plus infinity itself
 unfoldable pub lnOf : Float → Float

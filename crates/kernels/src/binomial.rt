@@ -1,4 +1,4 @@
-// The binomial log probability.
+// The binomial log probability (docs/RULES.md, K7).
 ghost use mathlib.Core.Path.{_≡_};
 ghost use Rattle.kernels.specs.Binomial.{lnChoose, lnPmf};
 use crate::gamma::ln_gamma;

@@ -1,4 +1,4 @@
-// The exponential.
+// The exponential (docs/RULES.md, K4).
 ghost use mathlib.Core.Path.{_≡_};
 ghost use mathlib.Core.Bool.{false};
 ghost use lib.Ieee.{fin};
@@ -6,6 +6,8 @@ ghost use Rattle.floats.specs.F64.{whole};
 ghost use Rattle.floats.specs.Within.{Within};
 ghost use Rattle.kernels.specs.Exp.{nearestWhole, expSeries, expParts, expOf};
 ghost use Rattle.kernels.specs.Inner.{Normal};
+use crate::ln::HI;
+use crate::ln::LO;
 
 // 1.5·2^52.
 const SHIFT: f64 = 6755399441055744.0;
@@ -53,7 +55,7 @@ fn exp_parts(k: i32, n: f64, x: f64) -> f64
     requires { ⌜ n ≡ whole k ⌝ }
     ensures { λ r. ⌜ r ≡ expParts k x ⌝ }
 {
-    exp_series(x - n * 0.6931471803691238 - n * 1.9082149292705877e-10) * power(k)
+    exp_series(x - n * HI - n * LO) * power(k)
 }
 
 // e^x, at every x.

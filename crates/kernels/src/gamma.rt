@@ -1,4 +1,4 @@
-// The full log gamma.
+// The full log gamma (docs/RULES.md, K6).
 ghost use mathlib.Core.Path.{_≡_};
 ghost use Rattle.floats.specs.F64.{nat};
 ghost use Rattle.kernels.specs.Gamma.{raised, gammaSeries, lnGammaAt, lnGammaOf};

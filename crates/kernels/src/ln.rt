@@ -4,11 +4,16 @@ ghost use Prim.Native.Nat.{_≤_};
 ghost use lib.IntN.{natAbs};
 ghost use Rattle.floats.specs.Apart.{exponent, significand};
 ghost use Rattle.floats.specs.Within.{Above};
-ghost use Rattle.kernels.specs.Ln.{lnOf, lnHalved, lnParts, lnMantissa};
+ghost use Rattle.kernels.specs.Ln.{lnOf, lnReduced, lnParts, lnNearOne};
+
+// ln 2 in two parts: the bits 3FE62E42FEE00000 and 3DEA39EF35793C76.
+pub(crate) const HI: f64 = 0.6931471803691238;
+
+pub(crate) const LO: f64 = 1.9082149292705877e-10;
 
 // ln m, for an m near 1.
-fn ln_mantissa(m: f64) -> f64
-    ensures { λ r. ⌜ r ≡ lnMantissa m ⌝ }
+fn ln_near_one(m: f64) -> f64
+    ensures { λ r. ⌜ r ≡ lnNearOne m ⌝ }
 {
     let s = (m - 1.0) / (m + 1.0);
     let z = s * s;
@@ -30,16 +35,14 @@ fn ln_mantissa(m: f64) -> f64
 fn ln_parts(k: i32, m: f64) -> f64
     ensures { λ r. ⌜ r ≡ lnParts k m ⌝ }
 {
-    let hi = f64::from_bits(0x3FE6_2E42_FEE0_0000);
-    let lo = f64::from_bits(0x3DEA_39EF_3579_3C76);
     let n = k as f64;
-    n * hi + (ln_mantissa(m) + n * lo)
+    n * HI + (ln_near_one(m) + n * LO)
 }
 
-// The same, for an m from 1 up to 2.
-fn ln_halved(k: i32, m: f64) -> f64
+// ln (2^k·m), for an m from 1 up to 2, which is halved from 1.4142135623730951 on.
+fn ln_reduced(k: i32, m: f64) -> f64
     requires { ⌜ natAbs k ≤ 2000 ⌝ }
-    ensures { λ r. ⌜ r ≡ lnHalved k m ⌝ }
+    ensures { λ r. ⌜ r ≡ lnReduced k m ⌝ }
 {
     if m >= 1.4142135623730951 {
         ln_parts(k + 1, m * 0.5)
@@ -83,8 +86,8 @@ pub fn ln(x: f64) -> f64
     }
     if x < 2.2250738585072014e-308 {
         let y = x * 18014398509481984.0;
-        ln_halved(exponent_of(y) - 54, significand_of(y))
+        ln_reduced(exponent_of(y) - 54, significand_of(y))
     } else {
-        ln_halved(exponent_of(x), significand_of(x))
+        ln_reduced(exponent_of(x), significand_of(x))
     }
 }

@@ -1,4 +1,4 @@
-// The decimal logarithm, and ten to the y.
+// The decimal logarithm, and ten to the y (docs/RULES.md, K5).
 ghost use mathlib.Core.Path.{_≡_};
 ghost use Rattle.kernels.specs.Log10.{log10Of, pow10Of};
 use crate::exp::exp;

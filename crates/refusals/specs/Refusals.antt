@@ -1,6 +1,6 @@
 -- The numbers and the names of the refusals. Definitions only (RULES.md, R0 to R12).
 use Prim.Native.Nat.{ℕ, zero, suc}
-use Prim.Native.Char.{Char, code}
+use Prim.Native.Char.{code}
 use Prim.Native.String as text
 use mathlib.Core.List.{List, [], _∷_}
 use Rattle.refusals.specs.declared.Refusal.{Refusal}
@@ -30,7 +30,7 @@ padded (suc n) (text._∷_ c s) = code c ∷ padded n s
 
 -- its name
 abbrev pub spelled : Refusal → text.String
-spelled Done = "Done"
+spelled Done = "done"
 spelled NoCluster = "NoCluster"
 spelled TooMany = "TooMany"
 spelled Shape = "Shape"

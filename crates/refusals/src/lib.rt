@@ -45,7 +45,7 @@ pub fn name(r: Refusal) -> [u8; 11]
     ensures { λ n. ⌜ n ≡ nameOf r ⌝ }
 {
     match r {
-        Refusal::Done => *b"Done\0\0\0\0\0\0\0",
+        Refusal::Done => *b"done\0\0\0\0\0\0\0",
         Refusal::NoCluster => *b"NoCluster\0\0",
         Refusal::TooMany => *b"TooMany\0\0\0\0",
         Refusal::Shape => *b"Shape\0\0\0\0\0\0",

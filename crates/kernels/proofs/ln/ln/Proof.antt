@@ -81,9 +81,9 @@ exponent-of-requires : tie.Need-exponent-of-requires
 unfolding ofBits
 exponent-of-requires c κs = scaled-normal c
 
-sub-ln-halved : tie.Need-sub-ln-halved
+sub-ln-reduced : tie.Need-sub-ln-reduced
 unfolding ofBits
-sub-ln-halved c =
+sub-ln-reduced c =
     let h = scaled-small (c .before) in
     let k = exponent (scaled (c .before)) in
     rw (c .exponent-of .ensures, read-back k (omega (arith, h))) (k-fits (k -ℤ pos 54) (less-small k h))
@@ -92,9 +92,9 @@ significand-of-requires : tie.Need-significand-of-requires
 unfolding ofBits
 significand-of-requires c κs = scaled-normal (c .before)
 
-ln-halved-requires : tie.Need-ln-halved-requires
+ln-reduced-requires : tie.Need-ln-reduced-requires
 unfolding ofBits
-ln-halved-requires c κs =
+ln-reduced-requires c κs =
     let h = scaled-small (c .before .before) in
     let k = exponent (scaled (c .before .before)) in
     rw (c .before .exponent-of .ensures, read-back k (omega (arith, h)), read-back (k -ℤ pos 54) (less-small k h)) (less-small k h)
@@ -114,8 +114,8 @@ exponent-of-requires-2 c κs = arg-normal c
 significand-of-requires-2 : tie.Need-significand-of-requires-2
 significand-of-requires-2 c κs = arg-normal (c .before)
 
-ln-halved-requires-2 : tie.Need-ln-halved-requires-2
-ln-halved-requires-2 c κs =
+ln-reduced-requires-2 : tie.Need-ln-reduced-requires-2
+ln-reduced-requires-2 c κs =
     let h = arg-small (c .before .before) in
     rw (c .before .exponent-of2 .ensures, read-back (exponent (arg (c .before .before .before))) h) h
 
@@ -125,13 +125,13 @@ returns-5 c =
     let t = c .before .before .before in
     let h = scaled-small t in
     let k = exponent (scaled t) in
-    rw (goes-on (t .before), t .if5 .taken, c .ln-halved .ensures, c .before .significand-of .ensures, c .before .before .exponent-of .ensures, read-back k (omega (arith, h)), read-back (k -ℤ pos 54) (less-small k h))
+    rw (goes-on (t .before), t .if5 .taken, c .ln-reduced .ensures, c .before .significand-of .ensures, c .before .before .exponent-of .ensures, read-back k (omega (arith, h)), read-back (k -ℤ pos 54) (less-small k h))
 
 returns-6 : tie.Need-returns-6
 unfolding lnPositive ofBits
 returns-6 c =
     let t = c .before .before .before in
-    rw (goes-on (t .before), t .if5 .left, c .ln-halved2 .ensures, c .before .significand-of2 .ensures, c .before .before .exponent-of2 .ensures, read-back (exponent (arg (t .before))) (arg-small t))
+    rw (goes-on (t .before), t .if5 .left, c .ln-reduced2 .ensures, c .before .significand-of2 .ensures, c .before .before .exponent-of2 .ensures, read-back (exponent (arg (t .before))) (arg-small t))
 
 pub ln-spec : {M : Type 1} → statement M
 ln-spec =
@@ -142,11 +142,11 @@ ln-spec =
     returns-3
     returns-4
     exponent-of-requires
-    sub-ln-halved
+    sub-ln-reduced
     significand-of-requires
-    ln-halved-requires
+    ln-reduced-requires
     exponent-of-requires-2
     significand-of-requires-2
-    ln-halved-requires-2
+    ln-reduced-requires-2
     returns-5
     returns-6)
