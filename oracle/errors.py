@@ -57,7 +57,7 @@ def row(kernel, name, pairs):
     errors = [(error(kernel, x, answer), x) for x, answer in pairs]
     (largest, _), where = max(errors)
     usual = statistics.median(units for (units, _), _ in errors)
-    itself = f"{max(off for (_, off), _ in errors):.1e}" if kernel in ABSOLUTE else ""
+    itself = f"{max(off for (_, off), _ in errors):.2e}" if kernel in ABSOLUTE else ""
     return f"| {kernel} | {name} | {len(pairs):,} | {shown(largest)} | {where!r} | {shown(usual)} | {itself} |"
 
 

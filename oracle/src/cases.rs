@@ -141,6 +141,9 @@ fn wrong_words(cases: &mut Cases) {
         cases.unreadable(word);
         cases.unreadable(format!("{word} {one}"));
     }
+    for line in ["\0ln X", "ln\0 X", "ln \0nan", "ln nan\0", "\0"] {
+        cases.unreadable(line.replace('X', one));
+    }
     for line in ["binomial 3 3fe0000000000000 10", "binomial 3  10 3fe0000000000000", "binomial 3 10 3fe0000000000000 3"] {
         cases.unreadable(line);
     }

@@ -9,7 +9,7 @@ use lib.Ieee.{Float, binary64, isNan, toBits}
 abbrev pub keyOfNan : ℤ
 keyOfNan = negℤ (pos 0x7FF0_0000_0000_0001)
 
--- the bits where the sign bit is clear, else the negative of the bits without the sign
+-- with a clear sign bit, the bits; with the sign bit set, minus what is left of them
 unfoldable pub keyOf : Float → ℤ
 keyOf x =
     let b = toBits binary64 x in

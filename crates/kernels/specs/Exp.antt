@@ -31,7 +31,7 @@ expSeries r = horner r (reciprocals (factorials 13))
 unfoldable pub expParts : ℤ → Float → Float
 expParts k x = expSeries (x ⊖ whole k ⊗ hi ⊖ whole k ⊗ lo) ⊗ fin false 1 k
 
--- NaN gives NaN, below −708 gives 0, above 709 plus infinity; else k is the whole number nearest to x·1.4426950408889634
+-- a NaN for a NaN, 0 under −708, plus infinity over 709; between them k is nearest to x·1.4426950408889634
 unfoldable pub expOf : Float → Float
 expOf x =
     cond (isNan x) nan

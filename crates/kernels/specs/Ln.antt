@@ -33,17 +33,17 @@ lnNearOne m =
 unfoldable pub lnParts : ℤ → Float → Float
 lnParts k m = whole k ⊗ hi ⊕ (lnNearOne m ⊕ whole k ⊗ lo)
 
--- of 2^k·m: when m ≥ 1.4142135623730951, halve m and add 1 to k
+-- of 2^k·m: an m from 1.4142135623730951 on is halved, and k is then one more
 unfoldable pub lnReduced : ℤ → Float → Float
 lnReduced k m = cond (le (decimal 14142135623730951 16) m) (lnParts (k +ℤ pos 1) (m ⊗ ratio 1 2)) (lnParts k m)
 
--- of a finite x above zero, x = 2^k·m; a subnormal x, one below 2^−1022, is first multiplied by 2^54, and 54 is taken off k
+-- of a finite x = 2^k·m above zero; a subnormal, which is below 2^−1022, goes by way of 2^54 times it, with 54 less for k
 unfoldable pub lnPositive : Float → Float
 lnPositive x =
     let y = x ⊗ fin false 1 (pos 54) in
     cond (lt x (fin false 1 (negsuc 1021))) (lnReduced (exponent y -ℤ pos 54) (significand y)) (lnReduced (exponent x) (significand x))
 
--- zeros give minus infinity, negatives and NaN give NaN, plus infinity itself
+-- minus infinity at both zeros, NaN for what is negative or NaN, plus infinity at plus infinity
 unfoldable pub lnOf : Float → Float
 lnOf nan = nan
 lnOf (inf s) = cond s nan (inf s)
