@@ -5,9 +5,9 @@ use crate::{kernels, port};
 use std::hint::black_box;
 use std::time::Instant;
 
-const INPUTS: usize = 4096;
-const PASSES: usize = 4;
-const REPEATS: usize = 101;
+/// More than a processor learns by heart, so that its guesses at branches are no better than in use.
+const INPUTS: usize = 1 << 15;
+const REPEATS: usize = 61;
 
 type FloatKernel = extern "C" fn(f64) -> f64;
 
@@ -51,30 +51,27 @@ type Timing<'a> = Box<dyn Fn() -> f64 + 'a>;
 fn timing<'a, I: Copy, O>(inputs: &'a [I], call: impl Fn(I) -> O + 'a) -> Timing<'a> {
     Box::new(move || {
         let began = Instant::now();
-        for _ in 0..PASSES {
-            for &input in inputs {
-                black_box(call(input));
-            }
+        for &input in inputs {
+            black_box(call(input));
         }
-        began.elapsed().as_nanos() as f64 / (PASSES * inputs.len()) as f64
+        began.elapsed().as_nanos() as f64 / inputs.len() as f64
     })
 }
 
-/// The median of each timing. They take turns, so that a slow moment of the machine hits all alike.
-fn medians(timings: &[Timing]) -> Vec<f64> {
-    let mut taken = vec![Vec::new(); timings.len()];
+/// The quickest of each timing's repeats, which other work on the machine disturbs least. They take turns, so that a slow moment hits all alike.
+fn quickest(timings: &[Timing]) -> Vec<f64> {
+    let mut best = vec![f64::INFINITY; timings.len()];
     for _ in 0..REPEATS {
-        for (timing, times) in timings.iter().zip(&mut taken) {
-            times.push(timing());
+        for (timing, time) in timings.iter().zip(&mut best) {
+            *time = time.min(timing());
         }
     }
-    taken.iter_mut().for_each(|times| times.sort_by(f64::total_cmp));
-    taken.iter().map(|times| times[REPEATS / 2]).collect()
+    best
 }
 
 /// A line of the table. The timings are of the port, of plain Rust, and of the standard library if it has the kernel.
 fn row(name: &str, range: &str, timings: &[Timing]) {
-    let ns = medians(timings);
+    let ns = quickest(timings);
     let (port, plain) = (ns[0], ns[1]);
     let (std, ratio) = match ns.get(2) {
         Some(std) => (format!("{std:.1}"), format!("{:.2}", port / std)),
@@ -111,7 +108,7 @@ fn trial(random: &mut Random) -> Trial {
 
 pub fn run() {
     let random = &mut Random::new(5);
-    println!("| kernel | inputs | port, ns | plain Rust, ns | standard library, ns | port / plain | port / standard |");
+    println!("| kernel | inputs | port, ns | plain Rust, ns | standard library (log gamma: C's), ns | port / plain | port / standard |");
     println!("|---|---|---|---|---|---|---|");
     let xs = many(|| random.scaled(-30, 30));
     float_row("ln", "2^-30 to 2^30", &xs, [port::ln, plain_ln, std_ln]);
