@@ -1,6 +1,9 @@
-//! Times each kernel of the port, of kernels.rs and of the standard library on the same inputs, and prints a Markdown table.
-//! All are called through a pointer to an `extern "C"` function, so that none is inlined where another cannot be.
+//! Times each kernel of the port, of kernels.rs and of the standard library on the same inputs, and one diploid call in each mode beside
+//! kanpig's own text over the same kernels and over the standard library's, and prints a Markdown table.
+//! All kernels are called through a pointer to an `extern "C"` function, so that none is inlined where another cannot be.
+use crate::diploid::Input;
 use crate::inputs::{Random, Trial};
+use crate::kanpig::{self, c_lgamma, with_ours, with_std};
 use crate::{kernels, port};
 use std::hint::black_box;
 use std::time::Instant;
@@ -10,12 +13,6 @@ const INPUTS: usize = 1 << 15;
 const REPEATS: usize = 61;
 
 type FloatKernel = extern "C" fn(f64) -> f64;
-
-#[link(name = "m")]
-unsafe extern "C" {
-    #[link_name = "lgamma"]
-    safe fn c_lgamma(x: f64) -> f64;
-}
 
 macro_rules! called_as_c {
     ($($name:ident: $f:expr;)*) => {
@@ -97,6 +94,18 @@ fn key_row(xs: &[f64]) {
     row("key", "-1000 to 1000", &kernels.map(|kernel| timing(xs, move |x| kernel(x))));
 }
 
+/// The default model. kanpig's genotyper is made once, as kanpig makes it; the port takes its model with every call, and checks it.
+fn diploid_row(name: &str, mode: u32, counts: &[[u32; 3]]) {
+    let input = Input::default_model(mode, [0; 3]);
+    let (ours, std) = (with_ours::genotyper(&input), with_std::genotyper(&input));
+    let timings = [
+        timing(counts, |counts| port::diploid_of(mode, &input.fractions, &input.means, &input.precisions, &input.table, counts)),
+        timing(counts, |counts| with_ours::answer(&ours, counts)),
+        timing(counts, |counts| with_std::answer(&std, counts)),
+    ];
+    row(&format!("diploid, {name}"), "counts to 60", &timings);
+}
+
 fn many<T>(mut draw: impl FnMut() -> T) -> Vec<T> {
     (0..INPUTS).map(|_| draw()).collect()
 }
@@ -123,4 +132,11 @@ pub fn run() {
     float_row("log gamma", "16 to 3,000,000", &xs, [port::ln_gamma, plain_ln_gamma, c_lgamma]);
     binomial_row(&many(|| trial(random)));
     key_row(&many(|| random.between(-1000.0, 1000.0)));
+    if !kanpig::FOUND {
+        return eprintln!("{}", kanpig::NOT_FOUND);
+    }
+    let counts = many(|| [0; 3].map(|_| random.below(61) as u32));
+    for (mode, name) in [(0, "Beta"), (1, "Bino"), (2, "Phased")] {
+        diploid_row(name, mode, &counts);
+    }
 }

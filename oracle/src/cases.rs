@@ -1,5 +1,7 @@
 //! Writes the cases that the gate replays through the program `vectors`: questions to crates/vectors/stdin and the answers, from plain
-//! Rust and never from the port, to crates/vectors/stdout. The form of both is docs/VECTORS.md. Each kind has a function of its own.
+//! Rust and kanpig's text and never from the port, to crates/vectors/stdout. The form of both is docs/VECTORS.md. Each kind has a function
+//! of its own.
+use crate::diploid_cases;
 use crate::inputs::{self, Random};
 use crate::kernels;
 use std::collections::HashSet;
@@ -8,24 +10,24 @@ use std::io;
 
 /// Questions and answers, a line each.
 #[derive(Default)]
-struct Cases {
+pub struct Cases {
     questions: Vec<String>,
     answers: Vec<String>,
 }
 
 impl Cases {
-    fn add(&mut self, question: impl Into<String>, answer: impl Into<String>) {
+    pub fn add(&mut self, question: impl Into<String>, answer: impl Into<String>) {
         self.questions.push(question.into());
         self.answers.push(answer.into());
     }
 
-    fn unreadable(&mut self, question: impl Into<String>) {
+    pub fn unreadable(&mut self, question: impl Into<String>) {
         self.add(question, "?");
     }
 }
 
 /// A float as it is read and written.
-fn word(x: f64) -> String {
+pub fn word(x: f64) -> String {
     if x.is_nan() {
         "nan".to_string()
     } else {
@@ -175,6 +177,7 @@ pub fn write() -> io::Result<()> {
     let mut cases = Cases::default();
     kernel_cases(&mut cases);
     spelling_cases(&mut cases);
+    diploid_cases::write(&mut cases);
     cases.add("ln 3ff0000000000000", word(kernels::ln(1.0)));
     fs::write("crates/vectors/stdin", cases.questions.join("\n"))?;
     fs::write("crates/vectors/stdout", cases.answers.join("\n") + "\n")?;

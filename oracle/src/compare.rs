@@ -1,6 +1,7 @@
 //! Runs the port and the plain Rust on the same inputs and compares every bit; any NaN equals any NaN.
-use crate::inputs::{self, Trial};
-use crate::{kernels, port};
+use crate::diploid::{self, Input};
+use crate::inputs::{self, Random, Trial};
+use crate::{diploid_inputs, kanpig, kernels, port};
 use std::fmt::Debug;
 
 /// How many differences are shown.
@@ -37,7 +38,36 @@ fn key(xs: &[f64]) -> bool {
     report("key", xs.len(), &differences)
 }
 
-/// Answers whether no kernel differs anywhere.
+/// The port beside kanpig's own text, and beside the refusals.
+fn diploid(name: &str, inputs: impl Iterator<Item = Input>) -> bool {
+    let mut asked = 0;
+    let mut differences = Vec::new();
+    for input in inputs {
+        asked += 1;
+        let (port, plain) = (port::diploid(&input), diploid::expected(&input));
+        if !port.same(&plain) {
+            differences.push((input, port, plain));
+        }
+    }
+    report(name, asked, &differences)
+}
+
+fn diploids() -> bool {
+    if !kanpig::FOUND {
+        println!("diploid: not compared; {}", kanpig::NOT_FOUND);
+        return true;
+    }
+    let modes = [(0, "Beta"), (1, "Bino"), (2, "Phased")];
+    let equal = modes.map(|(mode, name)| {
+        let random = &mut Random::new(10 + u64::from(mode));
+        let allowed = diploid(&format!("diploid, {name}"), (0..400_000).map(|_| diploid_inputs::allowed(random, mode)));
+        let disturbed = diploid(&format!("diploid, {name}, with refusals"), (0..100_000).map(|_| diploid_inputs::disturbed(random, mode)));
+        allowed && disturbed
+    });
+    equal.iter().all(|&e| e)
+}
+
+/// Answers whether nothing differs anywhere.
 pub fn run() -> bool {
     let xs = inputs::floats(1, 150_000);
     let mut trials = inputs::special_trials(&inputs::with_neighbours(&inputs::PROBABILITIES));
@@ -50,6 +80,7 @@ pub fn run() -> bool {
         float_kernel("lgamma", &xs, port::ln_gamma, kernels::ln_gamma),
         binomial(&trials),
         key(&xs),
+        diploids(),
     ];
     equal.iter().all(|&e| e)
 }

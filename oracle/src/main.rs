@@ -2,8 +2,14 @@
 mod bench;
 mod cases;
 mod compare;
+mod diploid;
+mod diploid_cases;
+mod diploid_inputs;
+mod distances;
 mod inputs;
+mod kanpig;
 mod kernels;
+mod limits;
 mod pairs;
 mod port;
 
@@ -11,6 +17,10 @@ use std::process::ExitCode;
 
 fn main() -> ExitCode {
     let task = std::env::args().nth(1).unwrap_or_default();
+    if !kanpig::FOUND && ["cases", "distances", "limits"].contains(&task.as_str()) {
+        eprintln!("{}", kanpig::NOT_FOUND);
+        return ExitCode::FAILURE;
+    }
     match task.as_str() {
         "compare" if compare::run() => {}
         "compare" => return ExitCode::FAILURE,
@@ -21,9 +31,11 @@ fn main() -> ExitCode {
             }
         }
         "bench" => bench::run(),
+        "distances" => distances::run(),
+        "limits" => limits::run(),
         "pairs" => pairs::run(),
         _ => {
-            eprintln!("usage: oracle compare|cases|bench|pairs");
+            eprintln!("usage: oracle compare|cases|bench|distances|limits|pairs");
             return ExitCode::from(2);
         }
     }

@@ -1,5 +1,6 @@
-//! The port's functions, as the crate `exports` names them. They are proved to answer every argument and to touch no memory of the
-//! caller, so calling them is safe.
+//! The port's functions, as the crate `exports` names them. They are proved to answer every argument and to touch no memory but what is
+//! lent to them.
+use crate::diploid::{Answer, Input};
 
 #[rustfmt::skip]
 unsafe extern "C" {
@@ -10,4 +11,46 @@ unsafe extern "C" {
     #[link_name = "admulfas_ln_gamma"] pub safe fn ln_gamma(x: f64) -> f64;
     #[link_name = "admulfas_ln_pmf"] pub safe fn ln_pmf(k: u32, n: u32, p: f64) -> f64;
     #[link_name = "admulfas_key"] pub safe fn key(x: f64) -> i64;
+
+    // a slice is a pointer and a length
+    fn admulfas_diploid(
+        mode: u32,
+        fractions: *const f64, fractions_length: usize,
+        means: *const f64, means_length: usize,
+        precisions: *const f64, precisions_length: usize,
+        table: *const f64, table_length: usize,
+        reference: u32, alt1: u32, alt2: u32,
+        state: &mut u32, gq: &mut f64, sq: &mut f64,
+    ) -> u32;
+}
+
+/// The diploid genotype of slices of any length.
+pub fn diploid_of(mode: u32, fractions: &[f64], means: &[f64], precisions: &[f64], table: &[f64], counts: [u32; 3]) -> Answer {
+    let mut answer = Answer::refused(0);
+    let [reference, alt1, alt2] = counts;
+    // SAFETY: each pointer comes with the length of its slice, which outlives the call, and the port only reads there.
+    answer.number = unsafe {
+        admulfas_diploid(
+            mode,
+            fractions.as_ptr(),
+            fractions.len(),
+            means.as_ptr(),
+            means.len(),
+            precisions.as_ptr(),
+            precisions.len(),
+            table.as_ptr(),
+            table.len(),
+            reference,
+            alt1,
+            alt2,
+            &mut answer.state,
+            &mut answer.gq,
+            &mut answer.sq,
+        )
+    };
+    answer
+}
+
+pub fn diploid(input: &Input) -> Answer {
+    diploid_of(input.mode, &input.fractions, &input.means, &input.precisions, &input.table, input.counts)
 }

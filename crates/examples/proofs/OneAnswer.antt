@@ -11,6 +11,10 @@ use Rattle.kernels.proofs.log10.pow10.Reads as pow10
 use Rattle.kernels.proofs.gamma.ln_gamma.Reads as ln-gamma
 use Rattle.kernels.proofs.binomial.ln_choose.Reads as ln-choose
 use Rattle.kernels.proofs.binomial.ln_pmf.Reads as ln-pmf
+use Rattle.diploid.proofs.model.Mode.number.Reads as mode-number
+use Rattle.diploid.proofs.model.Model.default.Reads as model-default
+use Rattle.diploid.proofs.genotype.state_number.Reads as state-number
+use Rattle.diploid.proofs.genotype.genotype.Reads as genotype
 use Rattle.exports.proofs.admulfas_ln.Reads as c-ln
 use Rattle.exports.proofs.admulfas_exp.Reads as c-exp
 use Rattle.exports.proofs.admulfas_log10.Reads as c-log10
@@ -18,9 +22,9 @@ use Rattle.exports.proofs.admulfas_pow10.Reads as c-pow10
 use Rattle.exports.proofs.admulfas_ln_gamma.Reads as c-ln-gamma
 use Rattle.exports.proofs.admulfas_ln_pmf.Reads as c-ln-pmf
 use Rattle.exports.proofs.admulfas_key.Reads as c-key
+use Rattle.exports.proofs.diploid_call.admulfas_diploid.Reads as c-diploid
 
 -- Whatever the lifetimes and the arguments, and whatever these refer to at the end of either call, at most one result meets the contract.
--- No public function lends mutably, so that a result is all that a call can change.
 abbrev pub OneAnswer : {K : Type 0} {A R E : K → Type 0} → ((κ : K) → A κ → R κ → E κ → Type 0) → Type 0
 OneAnswer {K} {A} {R} {E} post = (κ : K) (a : A κ) (v w : R κ) (e f : E κ) → post κ a v e → post κ a w f → v ≡ w
 
@@ -64,6 +68,20 @@ ln-choose-once κ a v w e f = only
 pub ln-pmf-once : OneAnswer ln-pmf.Post
 ln-pmf-once κ a v w e f = only
 
+-- ---- diploid
+
+pub mode-number-once : OneAnswer mode-number.Post
+mode-number-once κ a v w e f = only
+
+pub model-default-once : OneAnswer model-default.Post
+model-default-once κ a v w e f = only
+
+pub state-number-once : OneAnswer state-number.Post
+state-number-once κ a v w e f = only
+
+pub genotype-once : OneAnswer genotype.Post
+genotype-once κ a v w e f = only
+
 -- ---- exports
 
 pub c-ln-once : OneAnswer c-ln.Post
@@ -86,3 +104,13 @@ c-ln-pmf-once κ a v w e f = only
 
 pub c-key-once : OneAnswer c-key.Post
 c-key-once κ a v w e f = only
+
+pub c-diploid-once : OneAnswer c-diploid.Post
+c-diploid-once κ a v w e f p q = only (p .0) (q .0)
+
+-- and so is what it leaves behind its three `&mut`, its ninth, tenth and eleventh parameter: state, gq and sq
+pub c-diploid-ends : (κ : _) (a : _) (v w : _) (e f : _) → c-diploid.Post κ a v e → c-diploid.Post κ a w f
+    → (e .1 .1 .1 .1 .1 .1 .1 .1 .0 .now ≡ f .1 .1 .1 .1 .1 .1 .1 .1 .0 .now)
+    × (e .1 .1 .1 .1 .1 .1 .1 .1 .1 .0 .now ≡ f .1 .1 .1 .1 .1 .1 .1 .1 .1 .0 .now)
+    × (e .1 .1 .1 .1 .1 .1 .1 .1 .1 .1 .0 .now ≡ f .1 .1 .1 .1 .1 .1 .1 .1 .1 .1 .0 .now)
+c-diploid-ends κ a v w e f p q = (only (p .1) (q .1), only (p .2) (q .2), only (p .3) (q .3))

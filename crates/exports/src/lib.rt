@@ -1,4 +1,7 @@
-// The kernels and the score key for callers in other languages. Each answers every argument, and asks nothing of its caller.
+// The functions for callers in other languages: the kernels and the score key here, each genotyper in a file of its own. Each answers every
+// argument, and asks nothing of its caller.
+pub mod diploid_call;
+
 ghost use mathlib.Core.Path.{_≡_};
 ghost use Rattle.floats.specs.Key.{keyOf};
 ghost use Rattle.kernels.specs.Binomial.{lnPmf};

@@ -1,5 +1,6 @@
 // The kinds of cases: the first word of a line names its kind. A kind is a function of the line, the cursor behind the name, the text and
 // what waits there, in a file of its own, with a branch here.
+use crate::diploid_cases;
 use crate::kernel_cases;
 use crate::kernel_cases::Kernel;
 use crate::words;
@@ -23,6 +24,8 @@ const BINOMIAL: u64 = 0x62696e6f6d69616c;
 
 const KEY: u64 = 0x6b6579;
 
+const DIPLOID: u64 = 0x6469706c6f6964;
+
 // The answer to a line, without its newline.
 pub fn answer(line: &[u8], text: &mut Text, out: Out) -> Out {
     let at = words::word_end(line, 0);
@@ -36,6 +39,7 @@ pub fn answer(line: &[u8], text: &mut Text, out: Out) -> Out {
         LGAMMA => kernel_cases::of_float(Kernel::Lgamma, line, c, text, out),
         BINOMIAL => kernel_cases::binomial(line, c, text, out),
         KEY => kernel_cases::key(line, c, text, out),
+        DIPLOID => diploid_cases::diploid(line, c, text, out),
         _ => write::unread(text, out),
     }
 }

@@ -1,4 +1,5 @@
 // Reads cases from standard input, one a line, and writes one answer line for each (docs/VECTORS.md).
+mod diploid_cases;
 mod kernel_cases;
 mod kinds;
 mod lines;

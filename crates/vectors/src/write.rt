@@ -78,6 +78,15 @@ pub fn whole(text: &mut Text, out: Out, n: u64) -> Out {
     bytes(text, out, &digits[..k])
 }
 
+// The number of a refusal, a state or a place.
+pub fn number(text: &mut Text, out: Out, n: u32) -> Out {
+    whole(text, out, n as u64)
+}
+
+pub fn space(text: &mut Text, out: Out) -> Out {
+    byte(text, out, b' ')
+}
+
 // The number without its sign.
 fn size(z: i64) -> u64
     ensures { λ r. ⌜ r ≡ natAbs z ⌝ }

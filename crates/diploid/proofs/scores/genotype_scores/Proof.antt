@@ -1,0 +1,61 @@
+-- `diploid::scores::genotype_scores` meets its contract: each mode calls the definition's scores. Assumes nothing.
+use borrow.Author.Needs.{needs}
+use Rattle.diploid.specs.Scores.{scoresBy}
+use Rattle.diploid.proofs.scores.genotype_scores.Statement.{statement}
+use Rattle.diploid.proofs.scores.genotype_scores.Tie as tie
+
+add-alt : tie.Need-add-alt
+add-alt c = search needs
+
+add-total : tie.Need-add-total
+add-total c = search needs
+
+add-total-2 : tie.Need-add-total-2
+add-total-2 c = search needs
+
+enum-told : tie.Need-enum-told
+enum-told c = search needs
+
+beta-genotype-scores-requires : tie.Need-beta-genotype-scores-requires
+beta-genotype-scores-requires c κs = search needs
+
+enum-told-2 : tie.Need-enum-told-2
+enum-told-2 c = search needs
+
+bino-genotype-scores-requires : tie.Need-bino-genotype-scores-requires
+bino-genotype-scores-requires c κs = search needs
+
+enum-told-3 : tie.Need-enum-told-3
+enum-told-3 c = search needs
+
+phased-genotype-scores-requires : tie.Need-phased-genotype-scores-requires
+phased-genotype-scores-requires c κs = search needs
+
+returns : tie.Need-returns
+unfolding scoresBy
+returns c = cc
+
+returns-2 : tie.Need-returns-2
+unfolding scoresBy
+returns-2 c = cc
+
+returns-3 : tie.Need-returns-3
+unfolding scoresBy
+returns-3 c = cc
+
+pub genotype-scores-spec : {M : Type 1} → statement M
+genotype-scores-spec =
+    tie.close
+    (tie.spec
+    add-alt
+    add-total
+    add-total-2
+    enum-told
+    beta-genotype-scores-requires
+    enum-told-2
+    bino-genotype-scores-requires
+    enum-told-3
+    phased-genotype-scores-requires
+    returns
+    returns-2
+    returns-3)

@@ -1,0 +1,59 @@
+-- The answer at every input. Definitions only (RULES.md, G1, G3, O1, O2).
+use Prim.Native.Nat.{ℕ, _+_}
+use mathlib.Core.Bool.{_&&_, cond}
+use mathlib.Core.List.{List}
+use lib.Dec.{eqb}
+use lib.Signed.{leZ}
+use lib.Ieee.{Float}
+use Rattle.floats.specs.F64.{nat}
+use Rattle.floats.specs.Key.{keyOf}
+use Rattle.refusals.specs.declared.Refusal.{Refusal}
+use Rattle.refusals.specs.declared.Refusal.the-variants.{Done, Count, Model as BadModel, Table}
+use Rattle.diploid.specs.declared.model.Model.{Model}
+use Rattle.diploid.specs.declared.scores.Scores.{Scores}
+use Rattle.diploid.specs.declared.genotype.State.{State}
+use Rattle.diploid.specs.declared.genotype.State.the-variants.{Ref, Het, Hom, Non}
+use Rattle.diploid.specs.declared.genotype.GenotypeResult.{GenotypeResult}
+use Rattle.diploid.specs.Allowed.{modelAllowed, tableAllowed, countAllowed}
+use Rattle.diploid.specs.Order.{Pick, larger, smaller}
+use Rattle.diploid.specs.Scores.{scoresOf}
+use Rattle.diploid.specs.Quality.{qualsOf}
+use Rattle.diploid.specs.Calibration.{calibrated}
+
+-- the number of a state in the text forms
+abbrev pub stateNumber : State → ℕ
+stateNumber Ref = 0
+stateNumber Het = 1
+stateNumber Hom = 2
+stateNumber Non = 3
+
+-- the state of the largest score, the later on equality
+unfoldable pub winner : Scores → State
+winner s =
+    let k0 = keyOf (s .homref) in
+    let k1 = keyOf (s .het) in
+    let k2 = keyOf (s .homalt) in
+    cond (leZ k0 k2 && leZ k1 k2) Hom (cond (leZ k0 k1) Het Ref)
+
+-- a refusal, and a total of zero, carry zeros
+abbrev pub blank : Refusal → GenotypeResult
+blank r = record { refusal = r; state = Non; gq = nat 0; sq = nat 0 }
+
+-- what the scores make
+unfoldable pub called : Pick → Pick → List Float → Scores → GenotypeResult
+called max min table s =
+    let q = qualsOf max min s in
+    record { refusal = Done; state = winner s; gq = calibrated table (q .gq); sq = q .sq }
+
+unfoldable pub genotypeBy : Pick → Pick → Model → List Float → ℕ → ℕ → ℕ → GenotypeResult
+genotypeBy max min m table ref alt1 alt2 =
+    cond (modelAllowed m)
+    (cond (tableAllowed table)
+    (cond (countAllowed ref && (countAllowed alt1 && countAllowed alt2))
+    (cond (eqb (ref + alt1 + alt2) 0) (blank Done) (called max min table (scoresOf max m ref alt1 alt2)))
+    (blank Count))
+    (blank Table))
+    (blank BadModel)
+
+abbrev pub genotypeOf : Model → List Float → ℕ → ℕ → ℕ → GenotypeResult
+genotypeOf = genotypeBy larger smaller

@@ -1,0 +1,30 @@
+-- The larger and the smaller of two numbers, and a number's size. Definitions only (RULES.md, G2, G4).
+use mathlib.Core.Bool.{false, cond}
+use mathlib.Core.Path.{_≡_}
+use mathlib.Core.Logic.{_⊎_}
+use lib.Dec.{T}
+use lib.Ieee.{Float, nan, inf, fin, lt, le}
+use lib.Ieee.Scale.{finite}
+
+-- The larger and the smaller as this crate takes them. Where two zeros of unlike sign meet, Rust does not say which of them its max and min give, so the
+-- definitions that use one stand over any `Pick`, and a law says that no answer depends on it (proofs/AnyPick.antt).
+abbrev pub Pick : Type 0
+Pick = Float → Float → Float
+
+-- a `Pick` that is a max, as Rust's is: of two finite numbers it gives one that the other is not above; and one that is a min: that the other is not below
+abbrev pub IsMax : Pick → Type 0
+IsMax max = (a b : Float) → T (finite a) → T (finite b) → ((max a b ≡ a) × T (le b a)) ⊎ ((max a b ≡ b) × T (le a b))
+
+abbrev pub IsMin : Pick → Type 0
+IsMin min = (a b : Float) → T (finite a) → T (finite b) → ((min a b ≡ a) × T (le a b)) ⊎ ((min a b ≡ b) × T (le b a))
+
+abbrev pub larger : Float → Float → Float
+larger a b = cond (lt a b) b a
+
+abbrev pub smaller : Float → Float → Float
+smaller a b = cond (lt b a) b a
+
+abbrev pub absolute : Float → Float
+absolute nan = nan
+absolute (inf s) = inf false
+absolute (fin s m e) = fin false m e

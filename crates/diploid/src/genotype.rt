@@ -1,0 +1,125 @@
+// The diploid genotype at every input.
+ghost use mathlib.Core.Path.{_≡_};
+ghost use mathlib.Core.Bool.{_&&_};
+ghost use lib.Signed.{leZ};
+ghost use Rattle.floats.specs.Key.{keyOf};
+ghost use Rattle.diploid.specs.Allowed.{countAllowed};
+ghost use Rattle.diploid.specs.Order.{larger, smaller};
+ghost use Rattle.diploid.specs.Genotype.{stateNumber, winner, blank, called, genotypeOf};
+use crate::calibration::calibrate_gq;
+use crate::model::Model;
+use crate::quality::genotype_quals;
+use crate::scores::Scores;
+use crate::scores::genotype_scores;
+use crate::table::model_allowed;
+use crate::table::table_allowed;
+use floats::key::key;
+use refusals::Refusal;
+
+pub enum State {
+    Ref,
+    Het,
+    Hom,
+    Non,
+}
+
+// The state, its quality gq and the sample quality sq, or a refusal with zeros.
+pub struct GenotypeResult {
+    pub refusal: Refusal,
+    pub state: State,
+    pub gq: f64,
+    pub sq: f64,
+}
+
+// The number by which callers in other languages and every text form know a state.
+pub fn state_number(state: State) -> u32
+    ensures { λ n. ⌜ n ≡ stateNumber state ⌝ }
+{
+    match state {
+        State::Ref => 0,
+        State::Het => 1,
+        State::Hom => 2,
+        State::Non => 3,
+    }
+}
+
+// The order of two scores, by their keys.
+fn at_most(a: f64, b: f64) -> bool
+    ensures { λ r. ⌜ r ≡ leZ (keyOf a) (keyOf b) ⌝ }
+{
+    key(a) <= key(b)
+}
+
+// The state of the largest score, the later on equality.
+fn best_state(s: Scores) -> State
+    ensures { λ r. ⌜ r ≡ winner s ⌝ }
+{
+    if at_most(s.homref, s.homalt) && at_most(s.het, s.homalt) {
+        return State::Hom;
+    }
+    if at_most(s.homref, s.het) {
+        return State::Het;
+    }
+    State::Ref
+}
+
+fn blank_answer(refusal: Refusal) -> GenotypeResult
+    ensures { λ r. ⌜ r ≡ blank refusal ⌝ }
+{
+    GenotypeResult {
+        refusal,
+        state: State::Non,
+        gq: 0.0,
+        sq: 0.0,
+    }
+}
+
+fn counts_allowed(reference: u32, alt1: u32, alt2: u32) -> bool
+    ensures { λ r. ⌜ r ≡ (countAllowed reference && (countAllowed alt1 && countAllowed alt2)) ⌝ }
+{
+    if reference > 1000000 {
+        return false;
+    }
+    if alt1 > 1000000 {
+        return false;
+    }
+    alt2 <= 1000000
+}
+
+// What the scores make: the cap stands before calibration, inside `genotype_quals`.
+fn scored_answer(table: &[f64], scores: Scores) -> GenotypeResult
+    ensures { λ r. ⌜ r ≡ called larger smaller (now (table .entry)) scores ⌝ }
+{
+    let quals = genotype_quals(scores);
+    GenotypeResult {
+        refusal: Refusal::Done,
+        state: best_state(scores),
+        gq: calibrate_gq(table, quals.gq),
+        sq: quals.sq,
+    }
+}
+
+// The state, gq and sq of three counts, or the first refusal that holds.
+pub fn genotype(
+    model: Model,
+    table: &[f64],
+    ref_cov: u32,
+    alt_cov1: u32,
+    alt_cov2: u32,
+) -> GenotypeResult
+    ensures { λ r. ⌜ r ≡ genotypeOf model (now (table .entry)) «ref_cov» «alt_cov1» «alt_cov2» ⌝ }
+{
+    if !model_allowed(model) {
+        return blank_answer(Refusal::Model);
+    }
+    if !table_allowed(table) {
+        return blank_answer(Refusal::Table);
+    }
+    if !counts_allowed(ref_cov, alt_cov1, alt_cov2) {
+        return blank_answer(Refusal::Count);
+    }
+    if ref_cov + alt_cov1 + alt_cov2 == 0 {
+        return blank_answer(Refusal::Done);
+    }
+    scored_answer(table, genotype_scores(model, ref_cov, alt_cov1, alt_cov2))
+}

@@ -1,0 +1,147 @@
+// The scores of the three states, by mode.
+ghost use mathlib.Core.Path.{_≡_};
+ghost use Prim.Native.Nat.{_+_, _<_, _≤_};
+ghost use Rattle.kernels.specs.Binomial.{lnChoose, lnPmf};
+ghost use Rattle.diploid.specs.Order.{larger};
+ghost use Rattle.diploid.specs.Scores.{betaLnPmf, betaScore, betaScores, binoScore, binoScores, oneWay, eitherWay, phasedScores, scoresOf};
+use crate::model::Mode;
+use crate::model::Model;
+use crate::order::max;
+use kernels::binomial::ln_choose;
+use kernels::binomial::ln_pmf;
+use kernels::exp::exp;
+use kernels::gamma::ln_gamma;
+use kernels::ln::ln;
+
+// The log scores of Ref, Het and Hom.
+pub struct Scores {
+    pub homref: f64,
+    pub het: f64,
+    pub homalt: f64,
+}
+
+// The beta-binomial log probability of k among n, by its coefficient.
+fn beta_binomial_ln_pmf(choose: f64, k: u32, n: u32, alpha: f64, beta: f64) -> f64
+    requires { ⌜ choose ≡ lnChoose k n ⌝ }
+    ensures { λ r. ⌜ r ≡ betaLnPmf k n alpha beta ⌝ }
+{
+    let kf = k as f64;
+    let nf = n as f64;
+    let log_beta_num = ln_gamma(kf + alpha) + ln_gamma(nf - kf + beta)
+        - ln_gamma(nf + alpha + beta);
+    let log_beta_denom = ln_gamma(alpha) + ln_gamma(beta) - ln_gamma(alpha + beta);
+    choose + log_beta_num - log_beta_denom
+}
+
+fn beta_score(model: Model, choose: f64, alt: u32, total: u32, i: usize) -> f64
+    requires { ⌜ (i < 3) × (choose ≡ lnChoose alt total) ⌝ }
+    ensures { λ r. ⌜ r ≡ betaScore model alt total i ⌝ }
+{
+    let fractions = model.fractions;
+    let means = model.means;
+    let precisions = model.precisions;
+    let mean = means[i];
+    let precision = precisions[i];
+    let alpha = mean * precision;
+    let beta = (1.0 - mean) * precision;
+    ln(fractions[i]) + beta_binomial_ln_pmf(choose, alt, total, alpha, beta)
+}
+
+// The coefficient is worked once: it is the same for all three states.
+fn beta_genotype_scores(model: Model, alt: u32, total: u32) -> Scores
+    ensures { λ r. ⌜ r ≡ betaScores model alt total ⌝ }
+{
+    let choose = ln_choose(alt, total);
+    Scores {
+        homref: beta_score(model, choose, alt, total, 0),
+        het: beta_score(model, choose, alt, total, 1),
+        homalt: beta_score(model, choose, alt, total, 2),
+    }
+}
+
+// The binomial log probability of k among n at p, by its coefficient.
+fn binomial_ln_pmf(choose: f64, k: u32, n: u32, p: f64) -> f64
+    requires { ⌜ choose ≡ lnChoose k n ⌝ }
+    ensures { λ r. ⌜ r ≡ lnPmf k n p ⌝ }
+{
+    let kf = k as f64;
+    let nf = n as f64;
+    choose + kf * ln(p) + (nf - kf) * ln(1.0 - p)
+}
+
+fn bino_score(model: Model, choose: f64, alt: u32, total: u32, i: usize) -> f64
+    requires { ⌜ (i < 3) × (choose ≡ lnChoose alt total) ⌝ }
+    ensures { λ r. ⌜ r ≡ binoScore model alt total i ⌝ }
+{
+    let fractions = model.fractions;
+    let means = model.means;
+    ln(fractions[i]) + binomial_ln_pmf(choose, alt, total, means[i])
+}
+
+fn bino_genotype_scores(model: Model, alt: u32, total: u32) -> Scores
+    ensures { λ r. ⌜ r ≡ binoScores model alt total ⌝ }
+{
+    let choose = ln_choose(alt, total);
+    Scores {
+        homref: bino_score(model, choose, alt, total, 0),
+        het: bino_score(model, choose, alt, total, 1),
+        homalt: bino_score(model, choose, alt, total, 2),
+    }
+}
+
+// One way round of a phased Het: `other` is error, `this` shares the remaining reads with the reference.
+fn one_way(model: Model, reference: u32, this: u32, other: u32, total: u32) -> f64
+    requires { ⌜ reference + this ≤ 3000000 ⌝ }
+    ensures { λ r. ⌜ r ≡ oneWay model reference this other total ⌝ }
+{
+    let means = model.means;
+    let first = ln_pmf(other, total, means[0]);
+    let remaining = reference + this;
+    if remaining == 0 {
+        return first + 0.0;
+    }
+    first + ln_pmf(this, remaining, means[1])
+}
+
+// ln (exp a + exp b), by way of the larger.
+fn either_way(a: f64, b: f64) -> f64
+    ensures { λ r. ⌜ r ≡ eitherWay larger a b ⌝ }
+{
+    let max_het = max(a, b);
+    max_het + ln(exp(a - max_het) + exp(b - max_het))
+}
+
+fn phased_genotype_scores(
+    model: Model,
+    ref_reads: u32,
+    allele1_reads: u32,
+    allele2_reads: u32,
+) -> Scores
+    requires { ⌜ «ref_reads» + «allele1_reads» + «allele2_reads» ≤ 3000000 ⌝ }
+    ensures { λ r. ⌜ r ≡ phasedScores larger model «ref_reads» «allele1_reads» «allele2_reads» ⌝ }
+{
+    let fractions = model.fractions;
+    let means = model.means;
+    let total = ref_reads + allele1_reads + allele2_reads;
+    let ll_01_a = one_way(model, ref_reads, allele1_reads, allele2_reads, total);
+    let ll_01_b = one_way(model, ref_reads, allele2_reads, allele1_reads, total);
+    Scores {
+        homref: ln(fractions[0]) + ln_pmf(ref_reads, total, 1.0 - means[0]),
+        het: ln(fractions[1]) + either_way(ll_01_a, ll_01_b),
+        homalt: ln(fractions[2]) + ln_pmf(allele1_reads + allele2_reads, total, means[2]),
+    }
+}
+
+pub(crate) fn genotype_scores(model: Model, reference: u32, alt1: u32, alt2: u32) -> Scores
+    requires { ⌜ reference + alt1 + alt2 ≤ 3000000 ⌝ }
+    ensures { λ r. ⌜ r ≡ scoresOf larger model reference alt1 alt2 ⌝ }
+{
+    let mode = model.mode;
+    let alt = alt1 + alt2;
+    let total = reference + alt1 + alt2;
+    match mode {
+        Mode::Beta => beta_genotype_scores(model, alt, total),
+        Mode::Bino => bino_genotype_scores(model, alt, total),
+        Mode::Phased => phased_genotype_scores(model, reference, alt1, alt2),
+    }
+}
