@@ -15,6 +15,7 @@ use Rattle.floats.specs.F64.{_⊕_, _⊖_, _⊗_, nat}
 use Rattle.floats.specs.Apart.{exponent, significand}
 use Rattle.floats.specs.Within.{Within}
 use Rattle.floats.proofs.Bounds.{within-more}
+use Rattle.kernels.proofs.ExpBounds.{exp-of-zero}
 use Rattle.kernels.specs.Ln.{lnNearOne, lnParts, lnReduced, lnPositive, lnOf}
 use Rattle.kernels.specs.Exp.{expOf}
 use Rattle.kernels.specs.Log10.{log10Of, pow10Of}
@@ -31,9 +32,9 @@ use Rattle.diploid.specs.Scores.{fraction, oneWay, eitherWay, phasedScor
 use Rattle.diploid.specs.Quality.{inTens, wholeOf, normalised, minusTen, gapOf, qualsOf}
 use Rattle.diploid.specs.Calibration.{calibrated}
 use Rattle.diploid.specs.Genotype.{winner, blank, called, genotypeBy, genotypeOf}
-use Rattle.diploid.proofs.Zeros.{zeroOf, Number, Alike, same, zeros, alike-equal, alike-sym, alike-trans, alike-number, add-alike, sub-alike, zeros-sum}
+use Rattle.floats.proofs.Zeros.{zeroOf, Number, Alike, same, zeros, alike-equal, alike-sym, alike-trans, alike-number, add-alike, sub-alike, zeros-sum}
 use Rattle.diploid.proofs.ScoreBounds.{larger-is-max, scores-within, way-within}
-use Rattle.diploid.proofs.QualityBounds.{one, exp-zero, in-tens-within, in-tens-fit, whole-steps, whole-within, less-whole, times-ten-within, first-times-ten-within, absolute-not-below}
+use Rattle.diploid.proofs.QualityBounds.{one, in-tens-within, in-tens-fit, whole-steps, whole-within, less-whole, times-ten-within, first-times-ten-within, absolute-not-below}
 use Rattle.diploid.proofs.Picks.{chosen-max, chosen-min, larger-alike, smaller-alike, larger-number, smaller-number, pow10-alike, size-alike, AlikeScores, gap-same}
 
 -- ---- the qualities, by any max and any min
@@ -197,7 +198,7 @@ pair-or-same (zeros s t) = inr (zero-pair t s)
 
 exp-less : (s u : Bool) → expOf (zeroOf s ⊖ zeroOf u) ≡ one
 unfolding sub neg
-exp-less s u = ap expOf (zeros-sum s (not u) .1) ∙ exp-zero (zeros-sum s (not u) .0)
+exp-less s u = ap expOf (zeros-sum s (not u) .1) ∙ exp-of-zero (zeros-sum s (not u) .0)
 
 ln-two : lnOf (one ⊕ one) ≡ ofBits binary64 0x3FE6_2E42_FEFA_39EF
 unfolding lnOf lnPositive lnReduced lnParts lnNearOne exponent significand size add sub mul div round lt le ofInt ofBits

@@ -16,7 +16,7 @@ use Rattle.floats.proofs.Bounds.{within-more, within-whole, within-add, within-
 use Rattle.floats.proofs.Ranges.{within-range, not-below-zero}
 use Rattle.diploid.specs.Allowed.{inRange, allIn, allFit, Entry, entries, neverFalling, tableAllowed}
 use Rattle.diploid.specs.Calibration.{holds, along, from, calibratedBy, calibrated, Taken, here, later, Divides, above-first}
-use Rattle.diploid.proofs.Fractions.{above-by-test, below-through, difference-mono, difference-above}
+use Rattle.floats.proofs.Fractions.{above-by-test, below-through, difference-mono, difference-above}
 
 -- ---- what the tests of an allowed table give
 

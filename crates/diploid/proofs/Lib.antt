@@ -1,11 +1,8 @@
 -- What belongs to no one function of `diploid`: what the proofs share, and what its answers obey.
-pub mod Differences
 pub mod ScoreBounds
-pub mod Fractions
 pub mod TableLaws
 pub mod CalibrationLaws
 pub mod CalibrationBounds
-pub mod Zeros
 pub mod Signs
 pub mod Largest
 pub mod WinnerLaws

@@ -13,8 +13,8 @@ use Rattle.diploid.specs.declared.scores.Scores.{Scores}
 use Rattle.diploid.specs.Order.{Pick, IsMax, IsMin, larger, smaller, absolute}
 use Rattle.diploid.specs.Scores.{EachScore}
 use Rattle.diploid.specs.Quality.{minusTen, first, second, gapOf}
-use Rattle.diploid.proofs.Differences.{less-itself}
-use Rattle.diploid.proofs.Zeros.{zeroOf, Number, Alike, same, zeros, alike-number, lt-alike, neither-below, sub-alike-below}
+use Rattle.floats.proofs.Differences.{less-itself}
+use Rattle.floats.proofs.Zeros.{zeroOf, Number, Alike, same, zeros, alike-number, lt-alike, neither-below, sub-alike-below}
 use Rattle.diploid.proofs.QualityBounds.{pow10-zero}
 use Rattle.diploid.proofs.Signs.{lt-itself}
 use Rattle.diploid.proofs.Largest.{tied-or-below}

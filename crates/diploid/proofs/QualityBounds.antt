@@ -6,7 +6,7 @@ use native.Mathlib.Nat.{le-of-eq, le-trans, zero-mul, mul-one}
 use borrow.Author.Tests.{ltb-false}
 use lib.IntN.{pos}
 use lib.Dec.{T, eqb, eqb→eq, lit≤}
-use lib.Ieee.{Float, nan, inf, fin, binary64, size, up, down, round, neg, add, sub, mul, lt, isNan, ofInt, ofBits, fits}
+use lib.Ieee.{Float, nan, inf, fin, binary64, up, down, round, mul, lt, ofInt, ofBits, fits}
 use lib.Ieee.Fits.{add-fits, div-fits}
 use lib.Ieee.Scale.{finite}
 use Rattle.floats.specs.F64.{_⊕_, _⊖_, _⊗_, nat}
@@ -15,18 +15,18 @@ use Rattle.floats.proofs.Floats.{zero-lt}
 use Rattle.floats.proofs.Rounded.{clear}
 use Rattle.floats.proofs.Bounds.{within-number, within-more, within-add, within-sub, within-mul, within-div, above-add}
 use Rattle.kernels.specs.Ln.{lnOf}
-use Rattle.kernels.specs.Exp.{expSeries, expParts, expOf}
+use Rattle.kernels.specs.Exp.{expOf}
 use Rattle.kernels.specs.Log10.{log10Of, pow10Of}
 use Rattle.kernels.proofs.Log10Laws.{ln-ten}
 use Rattle.kernels.proofs.Log10Bounds.{within-log10}
-use Rattle.kernels.proofs.ExpBounds.{exp-within}
+use Rattle.kernels.proofs.ExpBounds.{exp-within, exp-of-zero}
 use Rattle.diploid.specs.declared.scores.Scores.{Scores}
 use Rattle.diploid.specs.Order.{larger, smaller, absolute}
 use Rattle.diploid.specs.Scores.{EachScore}
 use Rattle.diploid.specs.Quality.{inTens, wholeOf, normalised, minusTen, first, second, gapOf, qualsOf}
 use Rattle.diploid.proofs.ScoreBounds.{Fits}
-use Rattle.diploid.proofs.Differences.{nought, less-itself, add-either, not-below}
-use Rattle.diploid.proofs.Zeros.{zeroOf}
+use Rattle.floats.proofs.Differences.{nought, less-itself, add-either, not-below}
+use Rattle.floats.proofs.Zeros.{zeroOf}
 use Rattle.diploid.proofs.Signs.{NotAbove, not-below-trans, difference-not-above, not-above-le, mul-not-above, negative-mul, not-below-add}
 use Rattle.diploid.proofs.Largest.{either-of, larger-left, larger-right, not-above-first}
 
@@ -51,14 +51,9 @@ abbrev pub one : Float
 one = fin false 1 (pos 0)
 
 -- at either zero it is 1.0, as exp is
-pub exp-zero : (s : Bool) → expOf (zeroOf s) ≡ one
-unfolding expOf expParts expSeries size isNan neg add sub mul round lt ofInt ofBits
-exp-zero true = refl
-exp-zero false = refl
-
 pub pow10-zero : (s : Bool) → pow10Of (zeroOf s) ≡ one
 unfolding pow10Of
-pow10-zero s = ap (λ (t : Float). expOf (zeroOf s ⊗ t)) ln-ten ∙ ap expOf (times-ten s) ∙ exp-zero s
+pow10-zero s = ap (λ (t : Float). expOf (zeroOf s ⊗ t)) ln-ten ∙ ap expOf (times-ten s) ∙ exp-of-zero s
   where
     times-ten : (s : Bool) → zeroOf s ⊗ ofBits binary64 0x4002_6BB1_BBB5_5516 ≡ zeroOf s
     times-ten true = unfold mul round ofBits in refl

@@ -10,7 +10,7 @@ use native.Mathlib.Omega.{arith}
 use lib.IntN.{pos}
 use lib.ListN.{length, getD}
 use lib.Dec.{T, eqb, lit≤, lit<}
-use lib.Ieee.{Float, nan, fin, binary64, round, neg, sum, add, sub, mul, lt, eq, le, ofInt, ofBits, isNan, size, fits}
+use lib.Ieee.{Float, nan, fin, binary64, round, neg, sum, add, sub, lt, eq, le, ofInt, fits}
 use lib.Ieee.Scale.{finite}
 use lib.Ieee.Fits.{and-l, and-r, round-fits, ofInt-fits, add-fits, sub-fits, mul-fits}
 use lib.Ieee.Positive.{positive, between, sub-anti, le-trans-positive}
@@ -20,11 +20,11 @@ use Rattle.floats.proofs.Bounds.{within-more, within-whole, within-fraction, wi
 use Rattle.floats.proofs.Ranges.{within-range, above-range, one-minus}
 use Rattle.floats.proofs.Whole.{sub-whole, below-is-most}
 use Rattle.kernels.specs.Ln.{lnOf}
-use Rattle.kernels.specs.Exp.{expSeries, expParts, expOf}
+use Rattle.kernels.specs.Exp.{expOf}
 use Rattle.kernels.specs.Gamma.{lnGammaOf}
 use Rattle.kernels.specs.Binomial.{lnPmf}
 use Rattle.kernels.proofs.LnBounds.{within-ln, within-ln-between}
-use Rattle.kernels.proofs.ExpBounds.{exp-within}
+use Rattle.kernels.proofs.ExpBounds.{exp-within, exp-of-zero}
 use Rattle.kernels.proofs.GammaBounds.{within-ln-gamma}
 use Rattle.kernels.proofs.BinomialBounds.{within-ln-choose}
 use Rattle.diploid.specs.declared.model.Mode.{Mode}
@@ -33,7 +33,7 @@ use Rattle.diploid.specs.declared.model.Model.{Model}
 use Rattle.diploid.specs.Allowed.{inRange, allIn, modelAllowed}
 use Rattle.diploid.specs.Order.{Pick, IsMax, larger}
 use Rattle.diploid.specs.Scores.{fraction, mean, precision, betaLnPmf, betaScore, binoScore, oneWay, eitherWay, phasedScores, scoresBy, scoresOf, ThreeEach, EachScore}
-use Rattle.diploid.proofs.Differences.{nought, less-itself, less-larger, add-either, not-below}
+use Rattle.floats.proofs.Differences.{nought, less-itself, less-larger, add-either, not-below}
 
 -- ---- the parameters of a model that is allowed
 
@@ -222,10 +222,6 @@ module _ (α β : Float) (a : Weight α) (b : Weight β) where
 abbrev one : Float
 one = fin false 1 (pos 0)
 
-exp-of-nought : expOf nought ≡ one
-unfolding expOf expParts expSeries size isNan neg add sub mul round lt ofInt ofBits
-exp-of-nought = refl
-
 -- ln (exp x + 1), for an x of at most 0
 joined-within : (x : Float) → T (le x nought) → Within (2 ^ 12) (lnOf (expOf x ⊕ expOf nought))
 unfolding ofInt
@@ -233,7 +229,7 @@ joined-within x h =
     let e = exp-within x h in
     let above : Above 0 one = record { is-positive = tt; large = lit≤ tt } in
     let within : Within 1 one = record { is-finite = tt; small = lit≤ tt } in
-    rw exp-of-nought (within-ln (expOf x ⊕ one) (add-fits binary64 (expOf x) one) (above-add (e .1) above (lit≤ tt) (within-add (e .0) within (lit≤ tt)) .is-positive))
+    rw (exp-of-zero false) (within-ln (expOf x ⊕ one) (add-fits binary64 (expOf x) one) (above-add (e .1) above (lit≤ tt) (within-add (e .0) within (lit≤ tt)) .is-positive))
 
 exp-finite : (x : Float) → T (le x nought) → T (finite (expOf x))
 unfolding ofInt

@@ -20,8 +20,8 @@ use Rattle.floats.proofs.Floats.{eq-zero, lt-zero}
 use Rattle.floats.proofs.Ranges.{le-not-lt}
 use Rattle.floats.proofs.Whole.{below-is-most}
 use Rattle.diploid.specs.Quality.{minusTen}
-use Rattle.diploid.proofs.Differences.{nought, less-larger, not-below}
-use Rattle.diploid.proofs.Zeros.{zeroOf}
+use Rattle.floats.proofs.Differences.{nought, less-larger, not-below}
+use Rattle.floats.proofs.Zeros.{zeroOf}
 
 -- ---- finite and not above zero: 0.0 counts
 

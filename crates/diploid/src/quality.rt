@@ -6,11 +6,9 @@ use crate::order::abs;
 use crate::order::max;
 use crate::order::min;
 use crate::scores::Scores;
+use kernels::log10::LN_TEN;
 use kernels::log10::log10;
 use kernels::log10::pow10;
-
-// ln 10, as `ln` has it.
-const LN_TEN: f64 = 2.302585092994046;
 
 pub struct Quals {
     pub gq: f64,

@@ -1,17 +1,17 @@
 -- Small facts of floats that the library does not state: tests against zero, results that are no NaN. Assumes nothing.
-use mathlib.Core.Path.{_≡_, refl, sym, ap, _∙_, subst}
-use mathlib.Core.Bool.{Bool, true, false, not, _&&_, cond}
+use mathlib.Core.Path.{_≡_, refl, sym, _∙_, subst}
+use mathlib.Core.Bool.{Bool, true, false, not, _&&_}
 use Prim.Native.Nat.{ℕ, zero, suc, _+_, _*_, _/_, _%_, _^_, _<_, zero-le}
 use native.Mathlib.Nat.{zero-mul, mul-one, mul-pos, zero-lt-suc, add-zero}
 use native.Mathlib.Omega.{arith}
 use borrow.Author.Tests.{eq-eqb, ne-eqb, lt-ltb, le-ltb}
 use lib.IntN.{ℤ, pos}
-use lib.Dec.{T, ltb, eqb, lt→ltb, eqb·suc-zero}
+use lib.Dec.{T, eqb, lt→ltb, eqb·suc-zero}
 use lib.Bits.{bitAnd, and-mask}
-use lib.Ieee.{Float, nan, inf, fin, Format, binary64, prec, low, emax, unlike, up, down, odd, units, round, mul, lt, eq, ne, isNan, nanBits}
+use lib.Ieee.{Float, nan, inf, fin, binary64, up, down, lt, eq, ne, isNan, nanBits}
 use lib.Ieee.Bits.{nanBits-above}
 use lib.Ieee.Compare.{differs-from-itself}
-use lib.Ieee.Fits.{round-is, up-pos}
+use lib.Ieee.Fits.{up-pos}
 use lib.Ieee.Scale.{finite}
 use lib.Ieee.Positive.{positive}
 
@@ -66,28 +66,7 @@ ne-itself false m e = simp (same-size m e)
 
 -- ---- what is no NaN
 
-odd-is-number : (d : ℕ) (s : Bool) (q k l : ℕ) → isNan (odd d s q k l) ≡ false
-unfolding odd isNan
-odd-is-number d s zero k l = refl
-odd-is-number d s (suc q) k l = refl
-
-units-is-number : (f : Format) (s : Bool) (q k : ℕ) → isNan (units f s q k) ≡ false
-unfolding units
-units-is-number f s q k = go (ltb (q * 2 ^ k) (2 ^ (low f + suc (emax f))))
-  where
-    go : (t : Bool) → isNan (cond t (odd (suc (prec f)) s q k (low f)) (inf s)) ≡ false
-    go true = odd-is-number (suc (prec f)) s q k (low f)
-    go false = unfold isNan in refl
-
--- a fraction that is rounded is a number or an infinity
-pub round-is-number : (f : Format) (s : Bool) (a c : ℕ) → isNan (round f s a c) ≡ false
-round-is-number f s a c = ap isNan (round-is f s a c) ∙ units-is-number f s _ _
-
-pub mul-is-number : (s : Bool) (m : ℕ) (e : ℤ) (t : Bool) (n : ℕ) (d : ℤ) → isNan (mul binary64 (fin s m e) (fin t n d)) ≡ false
-unfolding mul
-mul-is-number s m e t n d = round-is-number binary64 (unlike s t) (m * up e * (n * up d)) (down e * down d)
-
--- what equals itself is no NaN, and 2 ^ k times it is none
+-- what equals itself
 pub itself-is-number : (x : Float) → ne x x ≡ false → isNan x ≡ false
 unfolding ne isNan
 itself-is-number nan h = h

@@ -12,3 +12,6 @@ pub mod Apart
 pub mod Fitting
 pub mod Fields
 pub mod Subnormal
+pub mod Differences
+pub mod Fractions
+pub mod Zeros

@@ -4,7 +4,7 @@ use mathlib.Core.Path.{_≡_, sym, ap, _∙_, subst}
 use mathlib.Core.Logic.{_⊎_, inl, inr}
 use mathlib.Core.Bool.{Bool, true, false, not, _&&_, _||_, cond, true≢false}
 use Prim.Native.Nat.{ℕ, _+_, _-_, _*_, _^_, _≤_, _<_}
-use native.Mathlib.Nat.{le-trans, le-of-eq, le-of-lt, lt-of-le-of-lt, lt-of-lt-of-le, sub-le, zero-lt-suc, one-mul, mul-one, mul-comm, mul-assoc, mul-left-comm, mul-right-comm, mul-le-mul, mul-le-mul-right, mul-le-mul-left, le-of-mul-le-mul-right}
+use native.Mathlib.Nat.{le-trans, le-of-eq, le-of-lt, lt-of-le-of-lt, lt-of-lt-of-le, sub-le, zero-lt-suc, one-mul, mul-one, mul-comm, mul-assoc, mul-left-comm, mul-right-comm, mul-le-mul, mul-le-mul-left, le-of-mul-le-mul-right}
 use native.Mathlib.Omega.{arith}
 use lib.Dec.{T, ltb, eqb, ltb→lt, eqb→eq, lit<}
 use lib.Pow.{pow-pos, pow-lt, pow-add, pow-mono}
@@ -18,17 +18,7 @@ use lib.Ieee.Positive.{num, den, den-pos, first-pos, positive-of-value}
 use lib.Ieee.Back.{round-whole}
 use Rattle.floats.specs.Within.{Within, Above}
 
--- ---- from a value a / c to the bounds
-
-pub within-value : (x : Float) (s : Bool) (a c n : ℕ) → 0 < c → HasValue x s a c → a ≤ n * c → Within n x
-within-value nan s a c n C v h = absurd v
-within-value (inf t) s a c n C v h = absurd v
-within-value (fin t m e) s a c n C v h = record {
-  is-finite = tt;
-  small = le-of-mul-le-mul-right (le-trans (le-of-eq (v .1)) (le-trans (mul-le-mul-right (down e) h) (le-of-eq (mul-right-comm n c (down e))))) C;
-}
-
--- the order of two values that are not negative
+-- ---- the order of two values that are not negative
 pub or-split : (a b : Bool) → T (a || b) → T a ⊎ T b
 or-split true b t = inl tt
 or-split false b t = inr t

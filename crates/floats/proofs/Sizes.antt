@@ -133,7 +133,7 @@ over-mul {a} {i} {b} {j} {x = fin false m e} {y = fin false n d} h k z l J t =
 
 -- ---- the sum and the difference
 
-sub-mul : (p q z : ℕ) → (p - q) * z ≡ p * z - q * z
+pub sub-mul : (p q z : ℕ) → (p - q) * z ≡ p * z - q * z
 sub-mul p q z = rw (mul-comm (p - q) z, mul-sub, mul-comm z p, mul-comm z q)
 
 -- with either sign

@@ -8,7 +8,7 @@ use borrow.Author.Tests.{le-ltb}
 use lib.IntN.{ℤ, pos, negsuc, negℤ}
 use lib.Dec.{T, lit≤, lit<}
 use lib.Pow.{pow-pos, pow-mono}
-use lib.Ieee.{Float, nan, inf, fin, unlike, up, down, round, mul, lt, le, isNan, ofInt}
+use lib.Ieee.{Float, nan, inf, fin, unlike, up, down, round, mul, lt, le, isNan, ofInt, size, neg, add, sub, ofBits}
 use lib.Ieee.Fits.{down-pos}
 use lib.Ieee.Exact.{HasValue}
 use lib.Ieee.Scale.{finite}
@@ -262,3 +262,10 @@ exp-end x j l h =
 pub exp-within : (x : Float) → T (le x (nat 0)) → Within 2 (expOf x) × NotBelow (expOf x)
 unfolding ofInt round
 exp-within x h = exp-end x 0 zero-le h
+
+-- ---- at either zero it is 1.0
+
+pub exp-of-zero : (s : Bool) → expOf (fin s 0 (pos 0)) ≡ fin false 1 (pos 0)
+unfolding expOf expParts expSeries size isNan neg add sub mul round lt ofInt ofBits
+exp-of-zero true = refl
+exp-of-zero false = refl

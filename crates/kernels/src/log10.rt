@@ -5,7 +5,7 @@ use crate::exp::exp;
 use crate::ln::ln;
 
 // ln 10, as `ln` has it.
-const LN_TEN: f64 = 2.302585092994046;
+pub const LN_TEN: f64 = 2.302585092994046;
 
 // The logarithm of x to base 10, at every x.
 pub fn log10(x: f64) -> f64

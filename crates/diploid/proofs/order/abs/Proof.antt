@@ -7,7 +7,7 @@ use lib.Ieee.{Float, nan, inf, fin, binary64, round, neg, sum, add, sub, le, fit
 use Rattle.floats.specs.F64.{_⊖_}
 use Rattle.floats.proofs.Floats.{eq-zero, lt-zero}
 use Rattle.diploid.specs.Order.{absolute}
-use Rattle.diploid.proofs.Zeros.{zeroOf, zero-fits, zero-plus}
+use Rattle.floats.proofs.Zeros.{zeroOf, zero-fits, zero-plus}
 use Rattle.diploid.proofs.order.abs.Statement.{statement}
 use Rattle.diploid.proofs.order.abs.Tie as tie
 

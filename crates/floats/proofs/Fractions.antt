@@ -3,7 +3,7 @@
 use mathlib.Core.Path.{_≡_, refl, sym, ap, _∙_}
 use mathlib.Core.Bool.{Bool, true, false, not, _&&_, _||_, Bool·beq, true≢false}
 use Prim.Native.Nat.{ℕ, zero, suc, _+_, _-_, _*_, _^_, _≤_, _<_, zero-le}
-use native.Mathlib.Nat.{le-trans, le-of-eq, le-of-lt, lt-of-lt-of-le, lt-of-le-of-lt, zero-lt-suc, zero-add, zero-mul, mul-comm, mul-sub, mul-right-comm, mul-pos, suc-mul, mul-le-mul-right, mul-lt-mul-of-pos-right, lt-of-mul-lt-mul-right}
+use native.Mathlib.Nat.{le-trans, le-of-eq, le-of-lt, lt-of-lt-of-le, lt-of-le-of-lt, zero-lt-suc, zero-add, zero-mul, mul-right-comm, mul-pos, suc-mul, mul-le-mul-right, mul-lt-mul-of-pos-right, lt-of-mul-lt-mul-right}
 use native.Mathlib.Omega.{arith}
 use borrow.Author.Tests.{ltb-true, ltb-false, leb-true, leb-false, eqb-true, eqb-false, lt-ltb, le-ltb, le-leb, lt-leb, eq-eqb}
 use lib.Dec.{T, ltb, leb, eqb, eqb→eq, lt→ltb, lit≤}
@@ -12,10 +12,11 @@ use lib.Ieee.{Float, nan, inf, fin, binary64, up, down, below, level, round, neg
 use lib.Ieee.Order.{round-mono}
 use lib.Ieee.Scale.{finite}
 use lib.Ieee.Positive.{num, den, den-pos, positive, first-pos}
 use Rattle.floats.specs.F64.{_⊖_}
 use Rattle.floats.specs.Within.{Above, NotBelow}
 use Rattle.floats.proofs.Rounded.{round-above}
+use Rattle.floats.proofs.Sizes.{sub-mul}
 use Rattle.floats.proofs.Fitting.{fitting, place, in-units}
 
 -- ---- the tests, by the sizes alone: a negative one is a zero
 
@@ -117,9 +118,6 @@ difference-of (fin true m e) (fin false n d) X Y h =
 
 difference : (x y : Float) → NotBelow x → NotBelow y → lt x y ≡ true → y ⊖ x ≡ round binary64 false (num y * den x - num x * den y) (den y * den x)
 difference x y X Y h = difference-of x y X (positive-above x y X Y h) (le-of-lt (less x y X Y h))
-
-sub-mul : (p q z : ℕ) → (p - q) * z ≡ p * z - q * z
-sub-mul p q z = rw (mul-comm (p - q) z, mul-sub, mul-comm z p, mul-comm z q)
 
 -- the larger y, the larger y - x
 closer : (a b c p q r : ℕ) → b * r ≤ c * q → (b * p - a * q) * (r * p) ≤ (c * p - a * r) * (q * p)
