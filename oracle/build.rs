@@ -6,7 +6,7 @@ use std::{env, fs};
 /// Where kanpig's files are looked for unless KANPIG_SRC says otherwise, seen from the repository's folder.
 const DEFAULT_SOURCE: &str = "../shared/docs/src/src/kplib";
 
-/// What stands for it is in src/kanpig.rs.
+/// Names of kanpig's text and what they become; src/kanpig.rs has what stands behind the new ones.
 const RENAMED: [(&str, &str); 5] = [
     (", Deserialize", ""),
     (".ln()", ".kernel_ln()"),

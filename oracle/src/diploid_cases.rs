@@ -55,7 +55,7 @@ fn parameters(cases: &mut Cases) {
     }
 }
 
-/// Where all three scores, or two of them, are equal: the later state wins, and gq is -0.0.
+/// Where scores are equal, or all but: the later state of equal ones wins, and raw gq is -0.0.
 fn equal_scores(cases: &mut Cases) {
     for mode in 0..3 {
         for counts in [[10, 10, 0], [5, 5, 5], [20, 0, 0], [0, 20, 0]] {
@@ -68,6 +68,9 @@ fn equal_scores(cases: &mut Cases) {
                 add(cases, &input);
             }
         }
+    }
+    for counts in [[10, 10, 0], [7, 3, 4], [1, 1, 0], [20, 20, 0]] {
+        add(cases, &Input { fractions: [1.0, 1e-9, 1.0], means: [0.5; 3], ..Input::default_model(2, counts) });
     }
 }
 

@@ -3,8 +3,8 @@ use crate::diploid::{Input, ENDS};
 use crate::inputs::{moved, Random};
 use crate::kanpig;
 
-/// Counts at the limit and where log gamma changes its rule.
-pub const COUNTS: [u32; 10] = [0, 1, 2, 14, 15, 16, 100, 999_999, 1_000_000, 30];
+/// Counts at the limit, where log gamma changes its rule, and usual ones.
+const COUNTS: [u32; 10] = [0, 1, 2, 14, 15, 16, 30, 100, 999_999, 1_000_000];
 
 fn pick<T: Copy>(random: &mut Random, from: &[T]) -> T {
     from[random.below(from.len() as u64) as usize]
@@ -24,7 +24,7 @@ fn usual(random: &mut Random, kind: usize) -> f64 {
     random.between(low, high)
 }
 
-/// Makes one state's parameters those of another, or all those of the first, so that scores are equal.
+/// Makes one state's parameters those of another, or all those of the first, so that scores are equal or close.
 fn level(random: &mut Random, input: &mut Input) {
     let (from, to) = (random.below(3) as usize, random.below(3) as usize);
     let all = random.below(4) == 0;

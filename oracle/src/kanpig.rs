@@ -94,7 +94,7 @@ macro_rules! bound {
                     if (0.0..=1.0).contains(&p) {
                         Ok(Binomial { p, n })
                     } else {
-                        Err("the probability is not one")
+                        Err("p is not from 0 to 1")
                     }
                 }
 

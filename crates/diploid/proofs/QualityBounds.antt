@@ -1,5 +1,6 @@
 -- From three scores of at most 2 ^ 45 in size every step of `qualsOf` is a finite number, and both qualities lie from 0 to 1000. Assumes nothing.
 use mathlib.Core.Path.{_≡_, refl, sym, ap, _∙_, subst}
+use mathlib.Core.Logic.{inl, inr}
 use mathlib.Core.Bool.{Bool, true, false, not, _&&_, _||_, cond, true≢false}
 use Prim.Native.Nat.{ℕ, _+_, _*_, _^_, _≤_, zero-le}
 use native.Mathlib.Nat.{le-of-eq, le-trans, zero-mul, mul-one}
@@ -7,7 +8,7 @@ use borrow.Author.Tests.{ltb-false}
 use lib.IntN.{pos}
 use lib.Dec.{T, eqb, eqb→eq, lit≤}
 use lib.Ieee.{Float, nan, inf, fin, binary64, up, down, round, mul, lt, ofInt, ofBits, fits}
-use lib.Ieee.Fits.{add-fits, div-fits}
+use lib.Ieee.Fits.{add-fits, mul-fits, div-fits, ofInt-fits}
 use lib.Ieee.Scale.{finite}
 use Rattle.floats.specs.F64.{_⊕_, _⊖_, _⊗_, nat}
 use Rattle.floats.specs.Within.{Within, Above, NotBelow}
@@ -23,12 +24,12 @@ use Rattle.kernels.proofs.ExpBounds.{exp-within, exp-of-zero}
 use Rattle.diploid.specs.declared.scores.Scores.{Scores}
 use Rattle.diploid.specs.Order.{larger, smaller, absolute}
 use Rattle.diploid.specs.Scores.{EachScore}
-use Rattle.diploid.specs.Quality.{inTens, wholeOf, normalised, minusTen, first, second, gapOf, qualsOf}
+use Rattle.diploid.specs.Quality.{Quality, inTens, wholeOf, normalised, minusTen, first, second, gapOf, qualsOf}
 use Rattle.diploid.proofs.ScoreBounds.{Fits}
 use Rattle.floats.proofs.Differences.{nought, less-itself, add-either, not-below}
 use Rattle.floats.proofs.Zeros.{zeroOf}
 use Rattle.diploid.proofs.Signs.{NotAbove, not-below-trans, difference-not-above, not-above-le, mul-not-above, negative-mul, not-below-add}
-use Rattle.diploid.proofs.Largest.{either-of, larger-left, larger-right, not-above-first}
+use Rattle.diploid.proofs.Largest.{either-of, larger-left, larger-right, tied-or-below, not-above-first}
 
 -- ---- ten to the y, for a y of at most 0
 
@@ -192,11 +193,6 @@ minus-ten-within : Within 10 minusTen
 unfolding ofInt
 minus-ten-within = record { is-finite = tt; small = lit≤ tt }
 
--- a quality: finite, from 0 to 1000; −0.0 counts as 0
-pub record Quality (x : Float) : Type 0 where
-  pub within : Within 1000 x
-  pub not-negative : NotBelow x
-
 capped : (x : Float) → T (finite x) → NotBelow x → Quality (smaller x (nat 1000))
 unfolding ofInt
 capped x f h = go x f h (lt (fin false 125 (pos 3)) x) refl
@@ -319,3 +315,25 @@ module _ (s : Scores) (given : EachScore (Within (2 ^ 45)) s) where
   sq-clear =
       let x = absolute (minusTen ⊗ normal .homref) in
       either-of (λ (z : Float). T (clear z)) (lt (nat 1000) x) x (nat 1000) (absolute-clear (minusTen ⊗ normal .homref) (first-times-ten-within .is-finite)) tt
+
+  pub gq-fits : T (fits binary64 (qualsOf larger smaller s .gq))
+  unfolding qualsOf
+  gq-fits =
+      let x = minusTen ⊗ gapOf normal in
+      either-of (λ (z : Float). T (fits binary64 z)) (lt (nat 1000) x) x (nat 1000) (mul-fits binary64 minusTen (gapOf normal)) (ofInt-fits binary64 (pos 1000))
+
+  -- where the second largest is not below the largest, the gap is 0.0 and raw gq −0.0
+  tied-gap : lt (second normal) (first normal) ≡ false → gapOf normal ≡ nought
+  unfolding gapOf
+  tied-gap h = elim (tied-or-below normal) [
+    | inl e ↦ ap (λ (z : Float). z ⊖ first normal) e ∙ less-itself (first normal) (first-within .is-finite)
+    | inr k ↦ absurd (true≢false (sym k ∙ h))
+  ]
+
+  zero-capped : smaller (minusTen ⊗ nought) (nat 1000) ≡ zeroOf true
+  unfolding mul round lt ofInt
+  zero-capped = refl
+
+  pub tied-gq : lt (second normal) (first normal) ≡ false → qualsOf larger smaller s .gq ≡ zeroOf true
+  unfolding qualsOf
+  tied-gq h = ap (λ (g : Float). smaller (minusTen ⊗ g) (nat 1000)) (tied-gap h) ∙ zero-capped

@@ -31,7 +31,7 @@ use Rattle.diploid.specs.declared.model.Mode.{Mode}
 use Rattle.diploid.specs.declared.model.Mode.the-variants.{Beta, Bino, Phased}
 use Rattle.diploid.specs.declared.model.Model.{Model}
 use Rattle.diploid.specs.Allowed.{inRange, allIn, modelAllowed}
-use Rattle.diploid.specs.Order.{Pick, IsMax, larger}
+use Rattle.diploid.specs.Order.{Pick, IsMax, larger, IsMin, smaller}
 use Rattle.diploid.specs.Scores.{fraction, mean, precision, betaLnPmf, betaScore, binoScore, oneWay, eitherWay, phasedScores, scoresBy, scoresOf, ThreeEach, EachScore}
 use Rattle.floats.proofs.Differences.{nought, less-itself, less-larger, add-either, not-below}
 
@@ -251,13 +251,20 @@ either-way-within {n} max a b is-max A B l = ⊎-elim by-first by-second (is-max
     by-second h =
         let x = less-larger a b (A .is-finite) (B .is-finite) (h .1) in unfold eitherWay in rw (h .0, less-itself b (B .is-finite)) (within-add B (joined-within (a ⊖ b) x) l)
 
--- the crate's own max is a max
+-- the crate's own max is a max, and its min a min
 pub larger-is-max : IsMax larger
 larger-is-max a b f g = go (lt a b) refl
   where
     go : (t : Bool) → lt a b ≡ t → ((cond t b a ≡ a) × T (le b a)) ⊎ ((cond t b a ≡ b) × T (le a b))
     go true h = inr (refl, below-is-most a b h)
     go false h = inl (refl, not-below a b f g h)
+
+pub smaller-is-min : IsMin smaller
+smaller-is-min a b f g = go (lt b a) refl
+  where
+    go : (t : Bool) → lt b a ≡ t → ((cond t b a ≡ a) × T (le a b)) ⊎ ((cond t b a ≡ b) × T (le b a))
+    go true h = inr (refl, below-is-most b a h)
+    go false h = inl (refl, not-below b a g f h)
 
 -- where no reads remain the second factor is 0
 one-way-within : (m : Model) (ref this other total : ℕ) → Share (mean m 0) → Share (mean m 1) → ref + this < 2 ^ 22 → other ≤ total → total < 2 ^ 22 → Within (2 ^ 40) (oneWay m ref this other total)

@@ -11,13 +11,7 @@ use Rattle.floats.specs.Key.{keyOf}
 use Rattle.diploid.specs.declared.scores.Scores.{Scores}
 use Rattle.diploid.specs.declared.genotype.State.{State}
 use Rattle.diploid.specs.declared.genotype.State.the-variants.{Ref, Het, Hom}
-use Rattle.diploid.specs.Genotype.{winner}
-
--- its key is at least each earlier one's, and above each later one's
-pub data Wins (s : Scores) : State → Type 0 where
-  ref-wins : keyOf (s .het) <ℤ keyOf (s .homref) → keyOf (s .homalt) <ℤ keyOf (s .homref) → Wins s Ref
-  het-wins : keyOf (s .homref) ≤ℤ keyOf (s .het) → keyOf (s .homalt) <ℤ keyOf (s .het) → Wins s Het
-  hom-wins : keyOf (s .homref) ≤ℤ keyOf (s .homalt) → keyOf (s .het) ≤ℤ keyOf (s .homalt) → Wins s Hom
+use Rattle.diploid.specs.Genotype.{winner, Wins, ref-wins, het-wins, hom-wins}
 
 -- ---- the tests of whole numbers
 

@@ -14,12 +14,12 @@ holds p q v = le (p .x) v && le v (q .x)
 abbrev pub along : Entry → Entry → Float → Float
 along p q v = p .y ⊕ (v ⊖ p .x) ⊘ (q .x ⊖ p .x) ⊗ (q .y ⊖ p .y)
 
--- from the entry p on: the first segment that holds v; beyond the last entry, its second member
+-- walking on from the entry p: by the first segment that holds v; past the last entry, by that entry alone
 unfoldable pub from : Entry → List Entry → Float → Float
 from p [] v = p .y
 from p (q ∷ rest) v = cond (holds p q v) (along p q v) (from q rest v)
 
--- an empty table changes nothing; at or under the first entry, its second member
+-- no table, no change; up to the first entry, by that entry alone
 unfoldable pub calibratedBy : List Entry → Float → Float
 calibratedBy [] v = v
 calibratedBy (p ∷ rest) v = cond (le v (p .x)) (p .y) (from p rest v)
@@ -27,7 +27,7 @@ calibratedBy (p ∷ rest) v = cond (le v (p .x)) (p .y) (from p rest v)
 abbrev pub calibrated : List Float → Float → Float
 calibrated t v = calibratedBy (entries t) v
 
--- the segment from p to q is the one at which `from`, from the entry a on, takes `along`; and the one at which `calibratedBy` does
+-- for the laws: `Taken v p q a rest` says that, walking on from a, the first segment that holds v is that from p to q; `Divides` says it of a whole table
 pub data Taken (v : Float) (p q : Entry) : Entry → List Entry → Type 0 where
   here : {rest : List Entry} → holds p q v ≡ true → Taken v p q p (q ∷ rest)
   later : {a b : Entry} {rest : List Entry} → holds a b v ≡ false → Taken v p q b rest → Taken v p q a (b ∷ rest)

@@ -3,7 +3,7 @@ use Prim.Native.Nat.{ℕ, _+_}
 use mathlib.Core.Bool.{_&&_, cond}
 use mathlib.Core.List.{List}
 use lib.Dec.{eqb}
-use lib.Signed.{leZ}
+use lib.Signed.{leZ, _≤ℤ_, _<ℤ_}
 use lib.Ieee.{Float}
 use Rattle.floats.specs.F64.{nat}
 use Rattle.floats.specs.Key.{keyOf}
@@ -27,7 +27,13 @@ stateNumber Het = 1
 stateNumber Hom = 2
 stateNumber Non = 3
 
--- the state of the largest score, the later on equality
+-- what it means to win: a key that is at least each earlier one's, and above each later one's
+pub data Wins (s : Scores) : State → Type 0 where
+  ref-wins : keyOf (s .het) <ℤ keyOf (s .homref) → keyOf (s .homalt) <ℤ keyOf (s .homref) → Wins s Ref
+  het-wins : keyOf (s .homref) ≤ℤ keyOf (s .het) → keyOf (s .homalt) <ℤ keyOf (s .het) → Wins s Het
+  hom-wins : keyOf (s .homref) ≤ℤ keyOf (s .homalt) → keyOf (s .het) ≤ℤ keyOf (s .homalt) → Wins s Hom
+
+-- the state that wins
 unfoldable pub winner : Scores → State
 winner s =
     let k0 = keyOf (s .homref) in

@@ -11,7 +11,7 @@ use lib.Ieee.Scale.{finite}
 abbrev pub Pick : Type 0
 Pick = Float → Float → Float
 
--- a `Pick` that is a max, as Rust's is: of two finite numbers it gives one that the other is not above; and one that is a min: that the other is not below
+-- a `Pick` that is a max, as Rust's is (whose fold starts from minus infinity, which no score equals): of two finite numbers it gives one that the other is not above; and one that is a min: that the other is not below
 abbrev pub IsMax : Pick → Type 0
 IsMax max = (a b : Float) → T (finite a) → T (finite b) → ((max a b ≡ a) × T (le b a)) ⊎ ((max a b ≡ b) × T (le a b))
 

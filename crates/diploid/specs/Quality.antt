@@ -2,6 +2,7 @@
 use lib.IntN.{pos, negℤ}
 use lib.Ieee.{Float}
 use Rattle.floats.specs.F64.{_⊕_, _⊖_, _⊗_, _⊘_, whole, nat}
+use Rattle.floats.specs.Within.{Within, NotBelow}
 use Rattle.kernels.specs.Ln.{lnOf}
 use Rattle.kernels.specs.Log10.{log10Of, pow10Of}
 use Rattle.diploid.specs.declared.scores.Scores.{Scores}
@@ -27,7 +28,7 @@ normalised max min l =
 abbrev pub minusTen : Float
 minusTen = whole (negℤ (pos 10))
 
--- the largest of three, and the largest of the other two
+-- the largest of three, and the next: of two the smaller, or the smaller of their larger and the third, whichever is larger
 abbrev pub first : Scores → Float
 first n = larger (larger (n .homref) (n .het)) (n .homalt)
 
@@ -43,3 +44,8 @@ unfoldable pub qualsOf : Pick → Pick → Scores → Quals
 qualsOf max min s =
     let n = normalised max min (inTens s) in
     record { gq = min (minusTen ⊗ gapOf n) (nat 1000); sq = min (absolute (minusTen ⊗ n .homref)) (nat 1000) }
+
+-- what a quality before calibration is: finite, from 0 to 1000; −0.0 counts as 0
+pub record Quality (x : Float) : Type 0 where
+  pub within : Within 1000 x
+  pub not-negative : NotBelow x

@@ -6,13 +6,13 @@ ghost use Rattle.floats.specs.Key.{keyOf};
 ghost use Rattle.diploid.specs.Allowed.{countAllowed};
 ghost use Rattle.diploid.specs.Order.{larger, smaller};
 ghost use Rattle.diploid.specs.Genotype.{stateNumber, winner, blank, called, genotypeOf};
+use crate::allowed::model_allowed;
+use crate::allowed::table_allowed;
 use crate::calibration::calibrate_gq;
 use crate::model::Model;
 use crate::quality::genotype_quals;
 use crate::scores::Scores;
 use crate::scores::genotype_scores;
-use crate::table::model_allowed;
-use crate::table::table_allowed;
 use floats::key::key;
 use refusals::Refusal;
 

@@ -1,6 +1,8 @@
 // The scores of the three states, by mode.
 ghost use mathlib.Core.Path.{_≡_};
 ghost use Prim.Native.Nat.{_+_, _<_, _≤_};
+ghost use Rattle.floats.specs.F64.{_⊕_, nat};
+ghost use Rattle.kernels.specs.Gamma.{lnGammaOf};
 ghost use Rattle.kernels.specs.Binomial.{lnChoose, lnPmf};
 ghost use Rattle.diploid.specs.Order.{larger};
 ghost use Rattle.diploid.specs.Scores.{betaLnPmf, betaScore, betaScores, binoScore, binoScores, oneWay, eitherWay, phasedScores, scoresOf};
@@ -8,7 +10,6 @@ use crate::model::Mode;
 use crate::model::Model;
 use crate::order::max;
 use kernels::binomial::ln_choose;
-use kernels::binomial::ln_pmf;
 use kernels::exp::exp;
 use kernels::gamma::ln_gamma;
 use kernels::ln::ln;
@@ -89,18 +90,33 @@ fn bino_genotype_scores(model: Model, alt: u32, total: u32) -> Scores
     }
 }
 
-// One way round of a phased Het: `other` is error, `this` shares the remaining reads with the reference.
-fn one_way(model: Model, reference: u32, this: u32, other: u32, total: u32) -> f64
-    requires { ⌜ reference + this ≤ 3000000 ⌝ }
+// The logarithm of the factorial of a count.
+fn ln_factorial(count: u32) -> f64
+    ensures { λ r. ⌜ r ≡ lnGammaOf (nat count ⊕ nat 1) ⌝ }
+{
+    ln_gamma(count as f64 + 1.0)
+}
+
+// One way round of a phased Het, by the coefficients of its two factors: `other` is error, `this` shares the remaining reads with the reference.
+fn one_way(
+    model: Model,
+    choose_other: f64,
+    choose_this: f64,
+    reference: u32,
+    this: u32,
+    other: u32,
+    total: u32,
+) -> f64
+    requires { ⌜ (reference + this ≤ 3000000) × («choose_other» ≡ lnChoose other total) × («choose_this» ≡ lnChoose this (reference + this)) ⌝ }
     ensures { λ r. ⌜ r ≡ oneWay model reference this other total ⌝ }
 {
     let means = model.means;
-    let first = ln_pmf(other, total, means[0]);
+    let first = binomial_ln_pmf(choose_other, other, total, means[0]);
     let remaining = reference + this;
     if remaining == 0 {
         return first + 0.0;
     }
-    first + ln_pmf(this, remaining, means[1])
+    first + binomial_ln_pmf(choose_this, this, remaining, means[1])
 }
 
 // ln (exp a + exp b), by way of the larger.
@@ -111,24 +127,35 @@ fn either_way(a: f64, b: f64) -> f64
     max_het + ln(exp(a - max_het) + exp(b - max_het))
 }
 
-fn phased_genotype_scores(
-    model: Model,
-    ref_reads: u32,
-    allele1_reads: u32,
-    allele2_reads: u32,
-) -> Scores
-    requires { ⌜ «ref_reads» + «allele1_reads» + «allele2_reads» ≤ 3000000 ⌝ }
-    ensures { λ r. ⌜ r ≡ phasedScores larger model «ref_reads» «allele1_reads» «allele2_reads» ⌝ }
+// The six coefficients are made of seven log factorials, `f_`, each worked once. The Het is a or b: the first or the second alternative shares the
+// remaining reads, `ref_1` or `ref_2`.
+fn phased_genotype_scores(model: Model, reference: u32, alt1: u32, alt2: u32) -> Scores
+    requires { ⌜ reference + alt1 + alt2 ≤ 3000000 ⌝ }
+    ensures { λ r. ⌜ r ≡ phasedScores larger model reference alt1 alt2 ⌝ }
 {
     let fractions = model.fractions;
     let means = model.means;
-    let total = ref_reads + allele1_reads + allele2_reads;
-    let ll_01_a = one_way(model, ref_reads, allele1_reads, allele2_reads, total);
-    let ll_01_b = one_way(model, ref_reads, allele2_reads, allele1_reads, total);
+    let alt = alt1 + alt2;
+    let total = reference + alt1 + alt2;
+    let f_ref = ln_factorial(reference);
+    let f_1 = ln_factorial(alt1);
+    let f_2 = ln_factorial(alt2);
+    let f_alt = ln_factorial(alt);
+    let f_ref_1 = ln_factorial(reference + alt1);
+    let f_ref_2 = ln_factorial(reference + alt2);
+    let f_total = ln_factorial(total);
+    let a_other = f_total - f_2 - f_ref_1;
+    let a_this = f_ref_1 - f_1 - f_ref;
+    let ll_01_a = one_way(model, a_other, a_this, reference, alt1, alt2, total);
+    let b_other = f_total - f_1 - f_ref_2;
+    let b_this = f_ref_2 - f_2 - f_ref;
+    let ll_01_b = one_way(model, b_other, b_this, reference, alt2, alt1, total);
+    let choose_ref = f_total - f_ref - f_alt;
+    let choose_alt = f_total - f_alt - f_ref;
     Scores {
-        homref: ln(fractions[0]) + ln_pmf(ref_reads, total, 1.0 - means[0]),
+        homref: ln(fractions[0]) + binomial_ln_pmf(choose_ref, reference, total, 1.0 - means[0]),
         het: ln(fractions[1]) + either_way(ll_01_a, ll_01_b),
-        homalt: ln(fractions[2]) + ln_pmf(allele1_reads + allele2_reads, total, means[2]),
+        homalt: ln(fractions[2]) + binomial_ln_pmf(choose_alt, alt, total, means[2]),
     }
 }
 

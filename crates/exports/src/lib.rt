@@ -1,5 +1,6 @@
 // The functions for callers in other languages: the kernels and the score key here, each genotyper in a file of its own. Each answers every
-// argument, and asks nothing of its caller.
+// argument. Numbers pass as themselves, a slice as a pointer and then its length, a `&mut` as a pointer; that pointers are valid, and that what is
+// written to lies apart from all else that is passed, is the foreign caller's to see to.
 pub mod diploid_call;
 
 ghost use mathlib.Core.Path.{_≡_};

@@ -10,11 +10,11 @@ use Rattle.diploid.specs.Scores.{oneWay}
 use Rattle.diploid.proofs.scores.one_way.Statement.{statement}
 use Rattle.diploid.proofs.scores.one_way.Tie as tie
 
-array-read-ln-pmf : tie.Need-array-read-ln-pmf
-array-read-ln-pmf c = search needs
+array-read-binomial-ln-pmf : tie.Need-array-read-binomial-ln-pmf
+array-read-binomial-ln-pmf c = search needs
 
-ln-pmf-requires : tie.Need-ln-pmf-requires
-ln-pmf-requires c κs = search needs
+binomial-ln-pmf-requires : tie.Need-binomial-ln-pmf-requires
+binomial-ln-pmf-requires c κs = search needs
 
 add-remaining : tie.Need-add-remaining
 add-remaining c = search needs
@@ -24,29 +24,29 @@ unfolding oneWay round ofInt ofBits
 returns c =
     let a = c .before .before .before .args in
     let none : eqb (a .reference + a .this) 0 ≡ true = eq-eqb (a .reference + a .this) 0 (c .if1 .taken) in
-    rw (c .before .ln-pmf .ensures, none)
+    rw (c .before .binomial-ln-pmf .ensures, none)
 
-array-read-ln-pmf-2 : tie.Need-array-read-ln-pmf-2
-array-read-ln-pmf-2 c = search needs
+array-read-binomial-ln-pmf-2 : tie.Need-array-read-binomial-ln-pmf-2
+array-read-binomial-ln-pmf-2 c = search needs
 
-ln-pmf-requires-2 : tie.Need-ln-pmf-requires-2
-ln-pmf-requires-2 c κs = search needs
+binomial-ln-pmf-requires-2 : tie.Need-binomial-ln-pmf-requires-2
+binomial-ln-pmf-requires-2 c κs = search needs
 
 returns-2 : tie.Need-returns-2
 unfolding oneWay round ofInt ofBits
 returns-2 c =
     let a = c .before .before .before .before .args in
     let some : eqb (a .reference + a .this) 0 ≡ false = ne-eqb (a .reference + a .this) 0 (c .before .if1 .left) in
-    rw (c .before .before .ln-pmf .ensures, c .ln-pmf2 .ensures, some)
+    rw (c .before .before .binomial-ln-pmf .ensures, c .binomial-ln-pmf2 .ensures, some)
 
 pub one-way-spec : {M : Type 1} → statement M
 one-way-spec =
     tie.close
     (tie.spec
-    array-read-ln-pmf
-    ln-pmf-requires
+    array-read-binomial-ln-pmf
+    binomial-ln-pmf-requires
     add-remaining
     returns
-    array-read-ln-pmf-2
-    ln-pmf-requires-2
+    array-read-binomial-ln-pmf-2
+    binomial-ln-pmf-requires-2
     returns-2)

@@ -1,9 +1,16 @@
--- `diploid::scores::phased_genotype_scores` meets its contract: the three scores are the definition's. Assumes nothing.
+-- `diploid::scores::phased_genotype_scores` meets its contract: the three scores are the definition's, and each coefficient is the difference of log
+-- factorials that the code makes of it. Assumes nothing.
+use Prim.Native.Nat.{_+_}
 use borrow.Author.Needs.{needs}
+use native.Mathlib.Omega.{arith}
 use lib.Ieee.{round, ofInt, ofBits}
 use Rattle.diploid.specs.Scores.{phasedScores}
+use Rattle.diploid.proofs.Factorials.{choose-by-factorials}
 use Rattle.diploid.proofs.scores.phased_genotype_scores.Statement.{statement}
 use Rattle.diploid.proofs.scores.phased_genotype_scores.Tie as tie
+
+add-alt : tie.Need-add-alt
+add-alt c = search needs
 
 add-total : tie.Need-add-total
 add-total c = search needs
@@ -11,11 +18,48 @@ add-total c = search needs
 add-total-2 : tie.Need-add-total-2
 add-total-2 c = search needs
 
+ln-factorial-requires : tie.Need-ln-factorial-requires
+ln-factorial-requires c κs = search needs
+
+ln-factorial-requires-2 : tie.Need-ln-factorial-requires-2
+ln-factorial-requires-2 c κs = search needs
+
+ln-factorial-requires-3 : tie.Need-ln-factorial-requires-3
+ln-factorial-requires-3 c κs = search needs
+
+ln-factorial-requires-4 : tie.Need-ln-factorial-requires-4
+ln-factorial-requires-4 c κs = search needs
+
+add-ln-factorial : tie.Need-add-ln-factorial
+add-ln-factorial c = search needs
+
+ln-factorial-requires-5 : tie.Need-ln-factorial-requires-5
+ln-factorial-requires-5 c κs = search needs
+
+add-ln-factorial-2 : tie.Need-add-ln-factorial-2
+add-ln-factorial-2 c = search needs
+
+ln-factorial-requires-6 : tie.Need-ln-factorial-requires-6
+ln-factorial-requires-6 c κs = search needs
+
+ln-factorial-requires-7 : tie.Need-ln-factorial-requires-7
+ln-factorial-requires-7 c κs = search needs
+
 one-way-requires : tie.Need-one-way-requires
-one-way-requires c κs = search needs
+one-way-requires c κs =
+    let a = c .before .before .before .before .before .before .before .before .before .args in (
+      search needs,
+      cc (choose-by-factorials (a .alt2) (a .reference + a .alt1) (a .reference + a .alt1 + a .alt2) (omega arith) (omega arith)),
+      cc (choose-by-factorials (a .alt1) (a .reference) (a .reference + a .alt1) (omega arith) (omega arith)),
+    )
 
 one-way-requires-2 : tie.Need-one-way-requires-2
-one-way-requires-2 c κs = search needs
+one-way-requires-2 c κs =
+    let a = c .before .before .before .before .before .before .before .before .before .before .args in (
+      search needs,
+      cc (choose-by-factorials (a .alt1) (a .reference + a .alt2) (a .reference + a .alt1 + a .alt2) (omega arith) (omega arith)),
+      cc (choose-by-factorials (a .alt2) (a .reference) (a .reference + a .alt2) (omega arith) (omega arith)),
+    )
 
 array-read-ln : tie.Need-array-read-ln
 array-read-ln c = search needs
@@ -23,11 +67,13 @@ array-read-ln c = search needs
 ln-requires : tie.Need-ln-requires
 ln-requires c κs = search needs
 
-array-read-ln-pmf : tie.Need-array-read-ln-pmf
-array-read-ln-pmf c = search needs
+array-read-binomial-ln-pmf : tie.Need-array-read-binomial-ln-pmf
+array-read-binomial-ln-pmf c = search needs
 
-ln-pmf-requires : tie.Need-ln-pmf-requires
-ln-pmf-requires c κs = search needs
+binomial-ln-pmf-requires : tie.Need-binomial-ln-pmf-requires
+binomial-ln-pmf-requires c κs =
+    let a = c .before .before .before .before .before .before .before .before .before .before .before .before .args in
+    cc (choose-by-factorials (a .reference) (a .alt1 + a .alt2) (a .reference + a .alt1 + a .alt2) (omega arith) (omega arith))
 
 array-read-ln-2 : tie.Need-array-read-ln-2
 array-read-ln-2 c = search needs
@@ -44,14 +90,13 @@ array-read-ln-3 c = search needs
 ln-requires-3 : tie.Need-ln-requires-3
 ln-requires-3 c κs = search needs
 
-add-ln-pmf : tie.Need-add-ln-pmf
-add-ln-pmf c = search needs
+array-read-binomial-ln-pmf-2 : tie.Need-array-read-binomial-ln-pmf-2
+array-read-binomial-ln-pmf-2 c = search needs
 
-array-read-ln-pmf-2 : tie.Need-array-read-ln-pmf-2
-array-read-ln-pmf-2 c = search needs
-
-ln-pmf-requires-2 : tie.Need-ln-pmf-requires-2
-ln-pmf-requires-2 c κs = search needs
+binomial-ln-pmf-requires-2 : tie.Need-binomial-ln-pmf-requires-2
+binomial-ln-pmf-requires-2 c κs =
+    let a = c .before .before .before .before .before .before .before .before .before .before .before .before .before .before .before .before .args in
+    cc (choose-by-factorials (a .alt1 + a .alt2) (a .reference) (a .reference + a .alt1 + a .alt2) (omega arith) (omega arith))
 
 returns : tie.Need-returns
 unfolding phasedScores round ofInt ofBits
@@ -60,26 +105,35 @@ returns c =
     let ref = het .before .before in
     let ways = ref .before .before in
     rw
-    (ref .before .ln .ensures, ref .ln-pmf .ensures, het .before .ln2 .ensures, het .either-way .ensures, c .before .ln3 .ensures, c .ln-pmf2 .ensures, ways .before .one-way .ensures, ways .one-way2 .ensures)
+    (ref .before .ln .ensures, ref .binomial-ln-pmf .ensures, het .before .ln2 .ensures, het .either-way .ensures, c .before .ln3 .ensures, c .binomial-ln-pmf2 .ensures, ways .before .one-way .ensures, ways .one-way2 .ensures)
 
 pub phased-genotype-scores-spec : {M : Type 1} → statement M
 phased-genotype-scores-spec =
     tie.close
     (tie.spec
+    add-alt
     add-total
     add-total-2
+    ln-factorial-requires
+    ln-factorial-requires-2
+    ln-factorial-requires-3
+    ln-factorial-requires-4
+    add-ln-factorial
+    ln-factorial-requires-5
+    add-ln-factorial-2
+    ln-factorial-requires-6
+    ln-factorial-requires-7
     one-way-requires
     one-way-requires-2
     array-read-ln
     ln-requires
-    array-read-ln-pmf
-    ln-pmf-requires
+    array-read-binomial-ln-pmf
+    binomial-ln-pmf-requires
     array-read-ln-2
     ln-requires-2
     either-way-requires
     array-read-ln-3
     ln-requires-3
-    add-ln-pmf
-    array-read-ln-pmf-2
-    ln-pmf-requires-2
+    array-read-binomial-ln-pmf-2
+    binomial-ln-pmf-requires-2
     returns)

@@ -1,4 +1,4 @@
--- `diploid::table::table_allowed` meets its contract. Assumes nothing.
+-- `diploid::allowed::table_allowed` meets its contract. Assumes nothing.
 use mathlib.Core.Path.{sym, _∙_}
 use lib.ListN.{length}
 use Prim.Native.Nat.{_%_}
@@ -6,8 +6,8 @@ use lib.Ieee.{round, ofInt, ofBits}
 use borrow.Author.Tests.{eq-eqb, ne-eqb, le-leb, lt-leb}
 use borrow.Author.Needs.{needs}
 use Rattle.diploid.specs.Allowed.{tableAllowed}
-use Rattle.diploid.proofs.table.table_allowed.Statement.{statement}
-use Rattle.diploid.proofs.table.table_allowed.Tie as tie
+use Rattle.diploid.proofs.allowed.table_allowed.Statement.{statement}
+use Rattle.diploid.proofs.allowed.table_allowed.Tie as tie
 
 returns : tie.Need-returns
 unfolding tableAllowed

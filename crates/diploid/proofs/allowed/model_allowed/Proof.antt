@@ -1,10 +1,10 @@
--- `diploid::table::model_allowed` meets its contract. Assumes nothing.
+-- `diploid::allowed::model_allowed` meets its contract. Assumes nothing.
 use lib.Ieee.{round, ofInt, ofBits}
 use borrow.Author.Tests.{not-true, not-false}
 use borrow.Author.Needs.{needs}
 use Rattle.diploid.specs.Allowed.{modelAllowed}
-use Rattle.diploid.proofs.table.model_allowed.Statement.{statement}
-use Rattle.diploid.proofs.table.model_allowed.Tie as tie
+use Rattle.diploid.proofs.allowed.model_allowed.Statement.{statement}
+use Rattle.diploid.proofs.allowed.model_allowed.Tie as tie
 
 slice-aggregate-all-in : tie.Need-slice-aggregate-all-in
 slice-aggregate-all-in c = search needs

@@ -1,6 +1,6 @@
--- `diploid::table::in_range` meets its contract. Assumes nothing.
-use Rattle.diploid.proofs.table.in_range.Statement.{statement}
-use Rattle.diploid.proofs.table.in_range.Tie as tie
+-- `diploid::allowed::in_range` meets its contract. Assumes nothing.
+use Rattle.diploid.proofs.allowed.in_range.Statement.{statement}
+use Rattle.diploid.proofs.allowed.in_range.Tie as tie
 
 returns : tie.Need-returns
 returns c = rw (c .if1 .taken)

@@ -1,4 +1,4 @@
--- `diploid::table::never_falling` meets its contract. The loop's invariant: whether the first members never fall is whether those from `i` on
+-- `diploid::allowed::never_falling` meets its contract. The loop's invariant: whether the first members never fall is whether those from `i` on
 -- never do. Assumes nothing.
 use mathlib.Core.Path.{_≡_, sym, _∙_}
 use mathlib.Core.Bool.{true, false}
@@ -9,8 +9,8 @@ use borrow.Author.Tests.{not-true, not-false}
 use borrow.Author.Needs.{needs}
 use Rattle.diploid.specs.Allowed.{entries, neverFalling}
 use Rattle.diploid.proofs.TableLaws.{never-falling-from, never-falling-past}
-use Rattle.diploid.proofs.table.never_falling.Statement.{statement}
-use Rattle.diploid.proofs.table.never_falling.Tie as tie
+use Rattle.diploid.proofs.allowed.never_falling.Statement.{statement}
+use Rattle.diploid.proofs.allowed.never_falling.Tie as tie
 
 abbrev Inv-loop : tie.InvT-loop
 Inv-loop table i₀ i = (i ≤ length table) × (neverFalling (entries (drop i table)) ≡ neverFalling (entries table))

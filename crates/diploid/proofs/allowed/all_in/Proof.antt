@@ -1,4 +1,4 @@
--- `diploid::table::all_in` meets its contract. The loop's invariant: whether all numbers are in the range is whether those from `i` on are.
+-- `diploid::allowed::all_in` meets its contract. The loop's invariant: whether all numbers are in the range is whether those from `i` on are.
 -- Assumes nothing.
 use mathlib.Core.Path.{_≡_, sym, _∙_}
 use Prim.Native.Nat.{_≤_, _-_}
@@ -7,8 +7,8 @@ use borrow.Author.Tests.{not-true, not-false}
 use borrow.Author.Needs.{needs}
 use Rattle.diploid.specs.Allowed.{allIn}
 use Rattle.diploid.proofs.TableLaws.{all-from, all-past}
-use Rattle.diploid.proofs.table.all_in.Statement.{statement}
-use Rattle.diploid.proofs.table.all_in.Tie as tie
+use Rattle.diploid.proofs.allowed.all_in.Statement.{statement}
+use Rattle.diploid.proofs.allowed.all_in.Tie as tie
 
 abbrev Inv-loop : tie.InvT-loop
 Inv-loop low high xs i₀ i = (i ≤ length xs) × (allIn low high (drop i xs) ≡ allIn low high xs)
