@@ -22,7 +22,7 @@ use Rattle.floats.proofs.Whole.{sub-whole, below-is-most}
 use Rattle.kernels.specs.Ln.{lnOf}
 use Rattle.kernels.specs.Exp.{expOf}
 use Rattle.kernels.specs.Gamma.{lnGammaOf}
-use Rattle.kernels.specs.Binomial.{lnPmf}
+use Rattle.kernels.specs.Binomial.{lnPmf, lnPmfBy}
 use Rattle.kernels.proofs.LnBounds.{within-ln, within-ln-between}
 use Rattle.kernels.proofs.ExpBounds.{exp-within, exp-of-zero}
 use Rattle.kernels.proofs.GammaBounds.{within-ln-gamma}
@@ -153,7 +153,7 @@ count-within : (k : ℕ) → k < 2 ^ 22 → Within (2 ^ 22) (nat k)
 count-within k h = within-whole (pos k) (2 ^ 22) (omega arith) (lit≤ tt)
 
 pmf-within : (k n : ℕ) (p : Float) → k ≤ n → n < 2 ^ 22 → Share p → Within (2 ^ 39) (lnPmf k n p)
-unfolding lnPmf
+unfolding lnPmfBy
 pmf-within k n p h l s =
     let few : k < 2 ^ 22 = omega arith in
     let left : Within (2 ^ 22) (nat n ⊖ nat k) = rw (sub-whole n k h (omega arith)) (count-within (n - k) (omega arith)) in

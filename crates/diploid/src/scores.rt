@@ -10,6 +10,7 @@ use crate::model::Mode;
 use crate::model::Model;
 use crate::order::max;
 use kernels::binomial::ln_choose;
+use kernels::binomial::ln_pmf_by;
 use kernels::exp::exp;
 use kernels::gamma::ln_gamma;
 use kernels::ln::ln;
@@ -65,9 +66,7 @@ fn binomial_ln_pmf(choose: f64, k: u32, n: u32, p: f64) -> f64
     requires { ⌜ choose ≡ lnChoose k n ⌝ }
     ensures { λ r. ⌜ r ≡ lnPmf k n p ⌝ }
 {
-    let kf = k as f64;
-    let nf = n as f64;
-    choose + kf * ln(p) + (nf - kf) * ln(1.0 - p)
+    ln_pmf_by(choose, k, n, p)
 }
 
 fn bino_score(model: Model, choose: f64, alt: u32, total: u32, i: usize) -> f64

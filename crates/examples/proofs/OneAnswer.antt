@@ -10,6 +10,7 @@ use Rattle.kernels.proofs.log10.log10.Reads as log10
 use Rattle.kernels.proofs.log10.pow10.Reads as pow10
 use Rattle.kernels.proofs.gamma.ln_gamma.Reads as ln-gamma
 use Rattle.kernels.proofs.binomial.ln_choose.Reads as ln-choose
+use Rattle.kernels.proofs.binomial.ln_pmf_by.Reads as ln-pmf-by
 use Rattle.kernels.proofs.binomial.ln_pmf.Reads as ln-pmf
 use Rattle.diploid.proofs.model.Mode.number.Reads as mode-number
 use Rattle.diploid.proofs.model.Model.default.Reads as model-default
@@ -64,6 +65,9 @@ ln-gamma-once κ a v w e f = only
 
 pub ln-choose-once : OneAnswer ln-choose.Post
 ln-choose-once κ a v w e f = only
+
+pub ln-pmf-by-once : OneAnswer ln-pmf-by.Post
+ln-pmf-by-once κ a v w e f = only
 
 pub ln-pmf-once : OneAnswer ln-pmf.Post
 ln-pmf-once κ a v w e f = only

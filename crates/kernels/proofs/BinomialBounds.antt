@@ -15,7 +15,7 @@ use Rattle.floats.proofs.Ranges.{one-minus}
 use Rattle.floats.proofs.Whole.{add-whole, sub-whole}
 use Rattle.kernels.specs.Ln.{lnOf}
 use Rattle.kernels.specs.Gamma.{lnGammaOf}
-use Rattle.kernels.specs.Binomial.{lnChoose, lnPmf}
+use Rattle.kernels.specs.Binomial.{lnChoose, lnPmfBy, lnPmf}
 use Rattle.kernels.proofs.LnBounds.{within-ln, within-ln-between}
 use Rattle.kernels.proofs.GammaBounds.{within-ln-gamma}
 
@@ -37,7 +37,7 @@ term-within n l h w = within-mul (within-whole (pos n) (2 ^ 23) (omega arith) (l
 
 -- by the two logarithms
 by-logs : (k n : ℕ) (p : Float) → k ≤ n → n < 2 ^ 23 → Within (2 ^ 12) (lnOf p) → Within (2 ^ 12) (lnOf (nat 1 ⊖ p)) → Within (2 ^ 39) (lnPmf k n p)
-unfolding lnPmf
+unfolding lnPmfBy
 by-logs k n p h l a b =
     let rest : Within (2 ^ 35) ((nat n ⊖ nat k) ⊗ lnOf (nat 1 ⊖ p)) = rw (sub-whole n k h (omega arith)) (term-within (n - k) (lnOf (nat 1 ⊖ p)) (omega arith) b) in
     within-more (within-add (within-add (within-ln-choose k n h l) (term-within k (lnOf p) (omega arith) a) (lit≤ tt)) rest (lit≤ tt)) (lit≤ tt)

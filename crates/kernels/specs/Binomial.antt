@@ -9,6 +9,9 @@ use Rattle.kernels.specs.Gamma.{lnGammaOf}
 unfoldable pub lnChoose : ℕ → ℕ → Float
 lnChoose k n = lnGammaOf (nat n ⊕ nat 1) ⊖ lnGammaOf (nat k ⊕ nat 1) ⊖ lnGammaOf (nat n ⊖ nat k ⊕ nat 1)
 
--- the coefficient, plus k·ln p, plus (n − k)·ln(1 − p)
-unfoldable pub lnPmf : ℕ → ℕ → Float → Float
-lnPmf k n p = lnChoose k n ⊕ nat k ⊗ lnOf p ⊕ (nat n ⊖ nat k) ⊗ lnOf (nat 1 ⊖ p)
+-- a coefficient, plus k·ln p, plus (n − k)·ln(1 − p)
+unfoldable pub lnPmfBy : Float → ℕ → ℕ → Float → Float
+lnPmfBy choose k n p = choose ⊕ nat k ⊗ lnOf p ⊕ (nat n ⊖ nat k) ⊗ lnOf (nat 1 ⊖ p)
+
+abbrev pub lnPmf : ℕ → ℕ → Float → Float
+lnPmf k n p = lnPmfBy (lnChoose k n) k n p
