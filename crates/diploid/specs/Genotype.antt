@@ -51,6 +51,7 @@ called max min table s =
     let q = qualsOf max min s in
     record { refusal = Done; state = winner s; gq = calibrated table (q .gq); sq = q .sq }
 
+-- O1: the model is checked first, then the table, then the counts; G1: without reads the answer is blank; else it is what the scores make
 unfoldable pub genotypeBy : Pick → Pick → Model → List Float → ℕ → ℕ → ℕ → GenotypeResult
 genotypeBy max min m table ref alt1 alt2 =
     cond (modelAllowed m)
@@ -61,5 +62,6 @@ genotypeBy max min m table ref alt1 alt2 =
     (blank Table))
     (blank BadModel)
 
+-- the answer, with this crate's own max and min
 abbrev pub genotypeOf : Model → List Float → ℕ → ℕ → ℕ → GenotypeResult
 genotypeOf = genotypeBy larger smaller
