@@ -1,0 +1,67 @@
+-- Demand 3: what desks may do with the parts of one input, and what they are promised. Definitions only (RULES.md, D3).
+use Prim.Native.Nat.{ℕ, _<_}
+use mathlib.Core.Bool.{Bool, true, false, not, cond, _&&_, _||_}
+use mathlib.Core.Path.{_≡_}
+use lib.Dec.{T, eqb, ltb}
+use Rattle.refusals.specs.declared.Refusal.the-variants.{Done, Row, NotComplete}
+use Rattle.search.specs.Best.{Best}
+use Rattle.search.specs.Held.{heldList}
+use Rattle.search.specs.Marks.{isMarked}
+use Rattle.search.specs.Rank.{beatsOf}
+use Rattle.search.specs.Work.{Within}
+use Rattle.trio.specs.declared.part.Part.{Part}
+use Rattle.trio.specs.Genotypes.{rowWidth}
+use Rattle.trio.specs.Part.{rowCount, sameInput, rightPart}
+use Rattle.trio.specs.Steps.{scoreIn, rowStep, mergeStep, closeStep, refusedClosing}
+use Rattle.desks.specs.Call.{onePassCall}
+
+-- what desks do with the parts of one input, `start` being the part that opening it gave
+pub data History (start : Part) : Type 0 where
+  opened : History start
+  -- a row worked, or refused where there is no such row
+  worked : History start → ℕ → History start
+  -- two parts of the input merged, also a part with itself
+  merged : History start → History start → History start
+  -- merged with a part of a wrong shape or of another input, which is refused
+  mergedOther : History start → (q : Part) → T (not (rightPart q && sameInput start q)) → History start
+  -- closed, too early or not
+  closed : History start → History start
+
+module _ (start : Part) where
+  -- the part that a history ends with
+  unfoldable pub partOf : History start → Part
+  partOf opened = start
+  partOf (worked h r) = rowStep (partOf h) r .part
+  partOf (merged h k) = mergeStep (partOf h) (partOf k) .part
+  partOf (mergedOther h q o) = mergeStep (partOf h) q .part
+  partOf (closed h) = closeStep (partOf h) .part
+
+  -- the rows worked into that part, by itself or through the parts merged into it; a refused step works none
+  unfoldable pub rowsOf : History start → ℕ → Bool
+  rowsOf opened r = false
+  rowsOf (worked h s) r = cond (ltb s (rowCount start)) (rowsOf h r || eqb s r) (rowsOf h r)
+  rowsOf (merged h k) r = rowsOf h r || rowsOf k r
+  rowsOf (mergedOther h q o) r = rowsOf h r
+  rowsOf (closed h) r = rowsOf h r
+
+  -- every row has been worked
+  abbrev pub AllWorked : History start → Type 0
+  AllWorked h = (r : ℕ) → r < rowCount start → rowsOf h r ≡ true
+
+  pub record Promised (h : History start) : Type 0 where
+    -- its shape is right, so that no step refuses it as a bad part
+    pub right : rightPart (partOf h) ≡ true
+    -- its input is the one that was opened
+    pub input-kept : (partOf h .clusters ≡ start .clusters) × (partOf h .counts ≡ start .counts) × (partOf h .weights ≡ start .weights)
+    -- it is marked with exactly the rows worked into it
+    pub marks-are : (r : ℕ) → isMarked (partOf h .marks) r ≡ rowsOf h r
+    -- it holds the best two triples of exactly those rows, or as many as they have
+    pub held-best : Best beatsOf 2 (Within (rowWidth (start .clusters)) (scoreIn start) (rowsOf h)) (heldList (partOf h .held))
+    -- while a row has not been worked, closing is refused
+    pub incomplete : (r : ℕ) → r < rowCount start → rowsOf h r ≡ false → closeStep (partOf h) ≡ refusedClosing NotComplete (partOf h)
+    -- once all have been, closing gives what one pass over all triples gives: triple, score, runner-up and ground
+    pub complete : AllWorked h → closeStep (partOf h) ≡ onePassCall start
+    -- a row is accepted exactly when there is such a row
+    pub row-accepted : (r : ℕ) → rowStep (partOf h) r .refusal ≡ cond (ltb r (rowCount start)) Done Row
+    -- and a merge with a part of the same input always is
+    pub merge-accepted : (k : History start) → mergeStep (partOf h) (partOf k) .refusal ≡ Done

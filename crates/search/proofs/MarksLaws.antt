@@ -1,0 +1,96 @@
+-- What the words of row marks mean, bit by bit.
+use Prim.Native.Nat.{ℕ, zero, suc, _-_, _/_, _%_, _^_, _<_, suc-le-suc, zero-le}
+use mathlib.Core.Bool.{true, false, _||_, true≢false}
+use mathlib.Core.Logic.{_≢_}
+use mathlib.Core.Path.{_≡_, refl, sym, ap, _∙_}
+use native.Mathlib.Decide.{ℕ-discrete}
+use native.Mathlib.Nat.{pow-suc, zero-div, div-one, mod-lt, not-suc-le-zero, le-of-suc-le-suc}
+use native.Mathlib.Numerals.{one-add}
+use native.Mathlib.Omega.{arith}
+use borrow.Author.Tests.{eqb-true, eq-eqb}
+use lib.Arith.{lt-one, bin-ind}
+use lib.Bits.{bitOr, or-shr, or-mod}
+use lib.Dec.{eqb, eqb·suc-suc, eqb·zero-suc, eqb·suc-zero, lit<}
+use lib.Pow.{shr-shr, pow-pos}
+use Rattle.search.specs.Marks.{isMarked, fullMarks}
+
+-- ---- bit 0, and the others by halves
+
+marked-first : (m : ℕ) → isMarked m 0 ≡ eqb (m % 2) 1
+unfolding isMarked
+marked-first m = ap (λ (x : ℕ). eqb (x % 2) 1) (div-one m)
+
+marked-later : (m r : ℕ) → isMarked m (suc r) ≡ isMarked (m / 2) r
+unfolding isMarked
+marked-later m r = ap (λ (x : ℕ). eqb (x % 2) 1) (ap (λ (x : ℕ). m / 2 ^ x) (sym (one-add r)) ∙ sym (shr-shr m 1 r))
+
+-- ---- the empty word, a word with one bit, and two words joined
+
+pub marked-none : (r : ℕ) → isMarked 0 r ≡ false
+unfolding isMarked
+marked-none r = ap (λ (x : ℕ). eqb (x % 2) 1) (zero-div (2 ^ r))
+
+pub marked-one : (k r : ℕ) → isMarked (2 ^ k) r ≡ eqb k r
+marked-one zero zero = marked-first 1
+marked-one zero (suc r) = marked-later 1 r ∙ marked-none r ∙ sym (eqb·zero-suc r)
+marked-one (suc k) zero = marked-first (2 ^ suc k) ∙ ap (λ (x : ℕ). eqb x 1) even ∙ sym (eqb·suc-zero k)
+  where
+    even : 2 ^ suc k % 2 ≡ 0
+    even = omega (arith, pow-suc 2 k)
+marked-one (suc k) (suc r) = marked-later (2 ^ suc k) r ∙ ap (λ (x : ℕ). isMarked x r) half ∙ marked-one k r ∙ sym (eqb·suc-suc k r)
+  where
+    half : 2 ^ suc k / 2 ≡ 2 ^ k
+    half = omega (arith, pow-suc 2 k)
+
+digit-or : (x y : ℕ) → x < 2 → y < 2 → eqb (bitOr x y) 1 ≡ (eqb x 1 || eqb y 1)
+digit-or zero zero h k = refl
+digit-or zero (suc zero) h k = refl
+digit-or zero (suc (suc y)) h k = absurd (not-suc-le-zero (le-of-suc-le-suc (le-of-suc-le-suc k)))
+digit-or (suc zero) zero h k = refl
+digit-or (suc zero) (suc zero) h k = refl
+digit-or (suc zero) (suc (suc y)) h k = absurd (not-suc-le-zero (le-of-suc-le-suc (le-of-suc-le-suc k)))
+digit-or (suc (suc x)) y h k = absurd (not-suc-le-zero (le-of-suc-le-suc (le-of-suc-le-suc h)))
+
+pub marked-or : (a b r : ℕ) → isMarked (bitOr a b) r ≡ (isMarked a r || isMarked b r)
+unfolding isMarked
+marked-or a b r =
+    ap (λ (x : ℕ). eqb (x % 2) 1) (or-shr a b r)
+    ∙ ap (λ (x : ℕ). eqb x 1) (or-mod (a / 2 ^ r) (b / 2 ^ r) 1)
+    ∙ digit-or (a / 2 ^ r % 2) (b / 2 ^ r % 2) (mod-lt (a / 2 ^ r) (lit< tt)) (mod-lt (b / 2 ^ r) (lit< tt))
+
+-- ---- the full word is the one with every bit set
+
+pub full-marked : (n r : ℕ) → r < n → isMarked (fullMarks n) r ≡ true
+full-marked zero r h = absurd (not-suc-le-zero h)
+full-marked (suc n) zero h = marked-first (fullMarks (suc n)) ∙ ap (λ (x : ℕ). eqb x 1) odd
+  where
+    odd : (2 ^ suc n - 1) % 2 ≡ 1
+    odd = omega (arith, pow-suc 2 n, pow-pos n)
+full-marked (suc n) (suc r) h = marked-later (fullMarks (suc n)) r ∙ ap (λ (x : ℕ). isMarked x r) half ∙ full-marked n r (le-of-suc-le-suc h)
+  where
+    half : (2 ^ suc n - 1) / 2 ≡ 2 ^ n - 1
+    half = omega (arith, pow-suc 2 n, pow-pos n)
+
+pub marked-full : (n m : ℕ) → m < 2 ^ n → ((r : ℕ) → r < n → isMarked m r ≡ true) → m ≡ fullMarks n
+marked-full zero m h all = omega arith
+marked-full (suc n) m h all =
+    let half : m / 2 ≡ 2 ^ n - 1 = marked-full n (m / 2) (omega (arith, pow-suc 2 n)) (λ r k. sym (marked-later m r) ∙ all (suc r) (suc-le-suc k)) in
+    let odd : m % 2 ≡ 1 = eqb-true (m % 2) 1 (sym (marked-first m) ∙ all 0 (suc-le-suc zero-le)) in
+    omega (arith, pow-suc 2 n, pow-pos n)
+
+-- ---- a word below 2 ^ n has no bit from n on, and one that is not 0 has some bit
+
+pub unmarked-above : (n m r : ℕ) → m < 2 ^ n → isMarked m r ≡ true → r < n
+unmarked-above zero m r h e = absurd (true≢false (sym e ∙ ap (λ (x : ℕ). isMarked x r) (lt-one h) ∙ marked-none r))
+unmarked-above (suc n) m zero h e = suc-le-suc zero-le
+unmarked-above (suc n) m (suc r) h e = suc-le-suc (unmarked-above n (m / 2) r (omega (arith, pow-suc 2 n)) (sym (marked-later m r) ∙ e))
+
+pub some-marked : (m : ℕ) → m ≢ 0 → (r : ℕ) × (isMarked m r ≡ true)
+some-marked = bin-ind (λ (m : ℕ). m ≢ 0 → (r : ℕ) × (isMarked m r ≡ true)) (λ n. absurd (n refl)) step
+  where
+    step : (m : ℕ) → (m / 2 ≢ 0 → (r : ℕ) × (isMarked (m / 2) r ≡ true)) → m ≢ 0 → (r : ℕ) × (isMarked m r ≡ true)
+    step m f n = go (ℕ-discrete (m / 2) 0)
+      where
+        go : Dec (m / 2 ≡ 0) → (r : ℕ) × (isMarked m r ≡ true)
+        go (yes e) = (0, marked-first m ∙ eq-eqb (m % 2) 1 (omega arith))
+        go (no e) = let s = f e in (suc (s .0), marked-later m (s .0) ∙ s .1)

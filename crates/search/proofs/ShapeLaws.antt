@@ -1,0 +1,121 @@
+-- A sound partial result has the right shape.
+use Prim.Native.Nat.{ℕ, _+_, _*_, _/_, _^_, _≤_, _<_}
+use mathlib.Core.Bool.{Bool, true, false, not, _&&_, true≢false}
+use mathlib.Core.List.{List, [], _∷_}
+use mathlib.Core.Logic.{⊎-elim}
+use mathlib.Core.Path.{_≡_, refl, sym, ap, subst, _∙_}
+use native.Mathlib.Decide.{ℕ-discrete}
+use native.Mathlib.Nat.{div-lt-iff-lt-mul, mul-pos, mul-le-mul}
+use native.Mathlib.Omega.{arith}
+use borrow.Author.Tests.{eq-eqb, ne-eqb, lt-ltb, le-leb}
+use lib.Arith.{lt-one, digits-div}
+use lib.Dec.{T}
+use lib.Ieee.Bits.{is-true}
+use lib.Ieee.{Float, isNan, toBits, ofBits}
+use Rattle.search.specs.declared.entry.Entry.{Entry}
+use Rattle.search.specs.Best.{Best}
+use Rattle.search.specs.Held.{heldOf, heldList}
+use Rattle.search.specs.Marks.{isMarked}
+use Rattle.search.specs.Rank.{beatsOf}
+use Rattle.search.specs.Shape.{isNoEntry, unusedZero, heldCount, inMarked, scoredInMarked, listRight, workRight}
+use Rattle.search.specs.Work.{entryAt, Work, Within, Sound}
+use Rattle.search.proofs.CountLaws.{held-none, held-one, held-two}
+use Rattle.search.proofs.MarksLaws.{marked-none, some-marked, unmarked-above}
+
+-- the list of a `Held` is its list again
+pub held-back : (S : Entry → Type 0) (l : List Entry) → Best beatsOf 2 S l → heldList (heldOf l) ≡ l
+held-back S [] b = refl
+held-back S (p ∷ []) b = refl
+held-back S (p ∷ q ∷ []) b = refl
+held-back S (p ∷ q ∷ r ∷ l) b = absurd (b .1 .1)
+
+unused-zero : (l : List Entry) → unusedZero (heldOf l .count) (heldOf l .first) (heldOf l .second) ≡ true
+unfolding isNoEntry toBits ofBits
+unused-zero [] = refl
+unused-zero (p ∷ []) = refl
+unused-zero (p ∷ q ∷ l) = refl
+
+pub and-true : {s t : Bool} → s ≡ true → t ≡ true → (s && t) ≡ true
+and-true p q = rw (p, q)
+
+pub and-left : (s t : Bool) → (s && t) ≡ true → s ≡ true
+and-left true t e = refl
+and-left false t e = e
+
+pub and-right : (s t : Bool) → (s && t) ≡ true → t ≡ true
+and-right true t e = e
+and-right false t e = absurd (true≢false (sym e))
+
+module _ (rows : ℕ) (score : ℕ → Float) (solid : (p : ℕ) → isNan (score p) ≡ false) (some : 0 < rows) (few : rows ≤ 63) (w : ℕ → Bool) (v : Work) (s : Sound rows (rows * rows) score w v) where
+  marked-within : (r i : ℕ) → i < rows * rows → isMarked (v .marks) r ≡ true → Within (rows * rows) score w (entryAt score (r * (rows * rows) + i))
+  marked-within r i h m =
+      let q : (r * (rows * rows) + i) / (rows * rows) ≡ r = digits-div r h in
+      (refl, subst (λ (x : ℕ). T (w x)) (sym q) (subst T (sym m ∙ s .marks-are r) tt))
+
+  within-marked : (e : Entry) → Within (rows * rows) score w e → inMarked rows (v .marks) e ≡ true
+  within-marked e p = s .marks-are (e .position / (rows * rows)) ∙ is-true (w (e .position / (rows * rows))) (p .1)
+
+  scored-within : (e : Entry) → Within (rows * rows) score w e → scoredInMarked rows (v .marks) e ≡ true
+  scored-within e p = and-true (ap (λ (x : Entry). not (isNan (x .score))) (p .0) ∙ ap not (solid (e .position))) (within-marked e p)
+
+  list-right : (l : List Entry) → Best beatsOf 2 (Within (rows * rows) score w) l → listRight rows (v .marks) l ≡ true
+  list-right [] b = refl
+  list-right (p ∷ []) b = scored-within p (b .0 .0)
+  list-right (p ∷ q ∷ []) b =
+      let m = b .1 .0 .0 in
+      and-true (scored-within p (b .0 .0)) (and-true (scored-within q (m .0)) (and-true
+      (ap not (ne-eqb (p .position) (q .position) (λ e. m .1 (m .0 .0 ∙ ap (entryAt score) (sym e) ∙ sym (b .0 .0 .0)))))
+      (is-true (beatsOf p q) (⊎-elim (λ e. absurd (m .1 e)) (λ t. t) (b .0 .1 q (m .0))))))
+  list-right (p ∷ q ∷ r ∷ l) b = absurd (b .1 .1)
+
+  count-none : v .marks ≡ 0 → (l : List Entry) → Best beatsOf 2 (Within (rows * rows) score w) l → heldOf l .count ≡ 0
+  count-none z [] b = refl
+  count-none z (p ∷ l) b =
+      absurd (true≢false (sym (within-marked p (b .0 .0)) ∙ ap (λ (m : ℕ). isMarked m (p .position / (rows * rows))) z ∙ marked-none (p .position / (rows * rows))))
+
+  -- one row of one position
+  count-one : (r : ℕ) → isMarked (v .marks) r ≡ true → rows ≡ 1 → (l : List Entry) → Best beatsOf 2 (Within (rows * rows) score w) l → heldOf l .count ≡ 1
+  count-one r m o [] b = absurd (b (entryAt score (r * (rows * rows) + 0)) (marked-within r 0 (mul-pos some some) m))
+  count-one r m o (p ∷ []) b = refl
+  count-one r m o (p ∷ q ∷ l) b =
+      absurd (b .1 .0 .0 .1 (b .1 .0 .0 .0 .0 ∙ ap (entryAt score) (first q (b .1 .0 .0 .0) ∙ sym (first p (b .0 .0))) ∙ sym (b .0 .0 .0)))
+    where
+      first : (e : Entry) → Within (rows * rows) score w e → e .position ≡ 0
+      first e p =
+          let k : e .position / (rows * rows) < rows = unmarked-above rows (v .marks) (e .position / (rows * rows)) (s .marks-below) (within-marked e p) in
+          let u : e .position < rows * (rows * rows) = div-lt-iff-lt-mul (mul-pos some some) .0 k in
+          lt-one (rw o at u)
+
+  -- a row of more
+  count-two : (r : ℕ) → isMarked (v .marks) r ≡ true → 2 ≤ rows → (l : List Entry) → Best beatsOf 2 (Within (rows * rows) score w) l → heldOf l .count ≡ 2
+  count-two r m o [] b = absurd (b (entryAt score (r * (rows * rows) + 0)) (marked-within r 0 (mul-pos some some) m))
+  count-two r m o (p ∷ []) b = absurd (go (ℕ-discrete (r * (rows * rows) + 0) (p .position)))
+    where
+      go : Dec (r * (rows * rows) + 0 ≡ p .position) → ⊥
+      go (yes e) = b .1 (entryAt score (r * (rows * rows) + 1)) (marked-within r 1 (omega (arith, mul-le-mul o o)) m, λ c. omega (arith, ap (λ (y : Entry). y .position) c))
+      go (no e) = b .1 (entryAt score (r * (rows * rows) + 0)) (marked-within r 0 (mul-pos some some) m, λ c. e (ap (λ (y : Entry). y .position) c))
+  count-two r m o (p ∷ q ∷ l) b = refl
+
+  count-right : heldOf (v .held) .count ≡ heldCount rows (v .marks)
+  count-right = go (ℕ-discrete (v .marks) 0) (ℕ-discrete rows 1)
+    where
+      go : Dec (v .marks ≡ 0) → Dec (rows ≡ 1) → heldOf (v .held) .count ≡ heldCount rows (v .marks)
+      go (yes z) o = count-none z (v .held) (s .held-best) ∙ sym (held-none rows) ∙ ap (heldCount rows) (sym z)
+      go (no z) (yes o) =
+          let r = some-marked (v .marks) z in
+          let k : v .marks < 2 ^ 1 = subst (λ (x : ℕ). v .marks < 2 ^ x) o (s .marks-below) in
+          count-one (r .0) (r .1) o (v .held) (s .held-best) ∙ sym (held-one (v .marks) k z) ∙ ap (λ (x : ℕ). heldCount x (v .marks)) (sym o)
+      go (no z) (no o) =
+          let r = some-marked (v .marks) z in
+          let t : 2 ≤ rows = omega arith in
+          count-two (r .0) (r .1) t (v .held) (s .held-best) ∙ sym (held-two rows (v .marks) t (s .marks-below) z)
+
+  pub work-right : workRight rows (v .marks) (heldOf (v .held)) ≡ true
+  unfolding workRight
+  work-right =
+      and-true (le-leb 1 rows some)
+      (and-true (le-leb rows 63 few)
+      (and-true (lt-ltb (v .marks) (2 ^ rows) (s .marks-below))
+      (and-true (eq-eqb (heldOf (v .held) .count) (heldCount rows (v .marks)) count-right)
+      (and-true (unused-zero (v .held))
+      (ap (listRight rows (v .marks)) (held-back (Within (rows * rows) score w) (v .held) (s .held-best)) ∙ list-right (v .held) (s .held-best))))))

@@ -1,0 +1,155 @@
+// The best two entries of a search, how they take in one more, and merging (docs/RULES.md, T5, T8).
+ghost use mathlib.Core.Path.{_≡_};
+ghost use mathlib.Core.Bool.{cond};
+ghost use mathlib.Core.List.{[]};
+ghost use Rattle.search.specs.Best.{offered};
+ghost use Rattle.search.specs.Rank.{beatsOf};
+ghost use Rattle.search.specs.Held.{heldList, heldOf, holdsAt, mergedHeld};
+use crate::entry::Entry;
+use crate::entry::beats;
+
+// The best entries so far, better first: `count` of them, unused places zero.
+pub struct Held {
+    pub count: u64,
+    pub first: Entry,
+    pub second: Entry,
+}
+
+impl Held {
+    // No entry.
+    pub fn nothing() -> Held
+        ensures { λ r. ⌜ r ≡ heldOf [] ⌝ }
+    {
+        let none = Entry {
+            position: 0,
+            score: 0.0,
+        };
+        Held {
+            count: 0,
+            first: none,
+            second: none,
+        }
+    }
+}
+
+// `h` once `e` has been offered to it.
+pub fn offer(h: Held, e: Entry) -> Held
+    ensures { λ r. ⌜ r ≡ heldOf (offered beatsOf 2 e (heldList h)) ⌝ }
+{
+    let n = h.count;
+    let first = h.first;
+    let second = h.second;
+    let none = Entry {
+        position: 0,
+        score: 0.0,
+    };
+    if n == 0 {
+        return Held {
+            count: 1,
+            first: e,
+            second: none,
+        };
+    }
+    if beats(e, first) {
+        return Held {
+            count: 2,
+            first: e,
+            second: first,
+        };
+    }
+    if n == 1 {
+        return Held {
+            count: 2,
+            first: first,
+            second: e,
+        };
+    }
+    if beats(e, second) {
+        return Held {
+            count: 2,
+            first: first,
+            second: e,
+        };
+    }
+    Held {
+        count: 2,
+        first: first,
+        second: second,
+    }
+}
+// Is an entry at this position held?
+fn holds(h: Held, position: u64) -> bool
+    ensures { λ r. ⌜ r ≡ holdsAt (heldList h) position ⌝ }
+{
+    let n = h.count;
+    if n == 0 {
+        return false;
+    }
+    if h.first.position == position {
+        return true;
+    }
+    if n == 1 {
+        return false;
+    }
+    h.second.position == position
+}
+
+// `h` once `e` has been offered to it, where `own` does not hold its position.
+fn offer_fresh(h: Held, own: Held, e: Entry) -> Held
+    ensures { λ r. ⌜ r ≡ cond (holdsAt (heldList own) (e .position)) h (heldOf (offered beatsOf 2 e (heldList h))) ⌝ }
+{
+    if holds(own, e.position) {
+        return h;
+    }
+    offer(h, e)
+}
+
+// The same entries, unused places zero.
+fn tidy(h: Held) -> Held
+    ensures { λ r. ⌜ r ≡ heldOf (heldList h) ⌝ }
+{
+    let n = h.count;
+    let first = h.first;
+    let second = h.second;
+    let none = Entry {
+        position: 0,
+        score: 0.0,
+    };
+    if n == 0 {
+        return Held {
+            count: 0,
+            first: none,
+            second: none,
+        };
+    }
+    if n == 1 {
+        return Held {
+            count: 1,
+            first: first,
+            second: none,
+        };
+    }
+    Held {
+        count: 2,
+        first: first,
+        second: second,
+    }
+}
+
+// The best two by distinct position over both; at a shared position the entry of `a` stays.
+pub fn merge_held(a: Held, b: Held) -> Held
+    ensures { λ r. ⌜ r ≡ heldOf (mergedHeld (heldList a) (heldList b)) ⌝ }
+{
+    let own = tidy(a);
+    let n = b.count;
+    if n == 0 {
+        return own;
+    }
+    let first = b.first;
+    let one = offer_fresh(own, own, first);
+    if n == 1 {
+        return one;
+    }
+    let second = b.second;
+    offer_fresh(one, own, second)
+}

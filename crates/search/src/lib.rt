@@ -1,0 +1,4 @@
+pub mod entry;
+pub mod held;
+pub mod marks;
+pub mod shape;

@@ -1,0 +1,7 @@
+-- The definitions of `trio`: genotypes and triples, the Mendelian term, an animal's score, a triple's score, a part and its right shape, the four steps.
+pub mod Genotypes
+pub mod Mendel
+pub mod Samples
+pub mod Score
+pub mod Part
+pub mod Steps

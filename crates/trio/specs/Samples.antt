@@ -1,0 +1,70 @@
+-- How well a genotype explains the reads of one animal. Definitions only (RULES.md, T2).
+use Prim.Native.Nat.{ℕ, zero, suc, _+_, _-_, _*_}
+use mathlib.Core.Bool.{cond, true, _&&_, _||_}
+use mathlib.Core.List.{List, [], _∷_, map}
+use lib.Dec.{eqb, ltb}
+use lib.ListN.{getD}
+use lib.Ieee.{Float, nan, inf, le, eq}
+use Rattle.floats.specs.F64.{_⊕_, _⊖_, _⊗_, _⊘_, nat, decimal}
+use Rattle.kernels.specs.Ln.{lnOf}
+use Rattle.trio.specs.declared.genotypes.Pair.{Pair}
+use Rattle.trio.specs.declared.samples.Sample.{Sample}
+use Rattle.trio.specs.declared.samples.Sample.the-variants.{Child, Father, Mother}
+
+-- the column of an animal
+abbrev pub sampleNumber : Sample → ℕ
+sampleNumber Child = 0
+sampleNumber Father = 1
+sampleNumber Mother = 2
+
+-- n numbers from c on; the clusters are those from 0 on
+abbrev pub upFrom : ℕ → ℕ → List ℕ
+upFrom c zero = []
+upFrom c (suc n) = c ∷ upFrom (suc c) n
+
+abbrev pub clusters : ℕ → List ℕ
+clusters n = upFrom 0 n
+
+-- counts lie cluster by cluster: child, father, mother
+abbrev pub reads : List ℕ → ℕ → ℕ → ℕ
+reads counts s c = getD counts (3 * c + s) 0
+
+abbrev pub sum : List ℕ → ℕ
+sum [] = 0
+sum (x ∷ l) = x + sum l
+
+-- all reads of an animal
+unfoldable pub columnTotal : ℕ → List ℕ → ℕ → ℕ
+columnTotal n counts s = sum (map (reads counts s) (clusters n))
+
+-- a running sum of floats, left to right
+abbrev pub sumFrom : Float → List Float → Float
+sumFrom x [] = x
+sumFrom x (y ∷ l) = sumFrom (x ⊕ y) l
+
+-- k among n at p without the coefficient: p = 0 and p = 1 have cases of their own
+unfoldable pub logBinomial : ℕ → ℕ → Float → Float
+logBinomial k n p =
+    cond (le p (nat 0) || le (nat 1) p)
+    (cond ((ltb 0 k && eq p (nat 0)) || (ltb k n && eq p (nat 1))) (inf true) (nat 0))
+    (nat k ⊗ lnOf p ⊕ nat (n - k) ⊗ lnOf (nat 1 ⊖ p))
+
+-- 1 where both alleles name the cluster, 0.5 where one does, else 0.001
+unfoldable pub expectation : Pair → ℕ → Float
+expectation h c =
+    cond (eqb c (h .low) && eqb c (h .high)) (nat 1)
+    (cond (eqb c (h .low) || eqb c (h .high)) (decimal 5 1) (decimal 1 3))
+
+-- their sum in cluster order
+unfoldable pub expectationTotal : ℕ → Pair → Float
+expectationTotal n h = sumFrom (nat 0) (map (expectation h) (clusters n))
+
+-- what cluster c adds: its bracket is summed first
+unfoldable pub clusterTerm : ℕ → List ℕ → List Float → ℕ → Pair → ℕ → Float
+clusterTerm n counts weights s h c =
+    logBinomial (reads counts s c) (columnTotal n counts s) (expectation h c ⊘ expectationTotal n h) ⊕ lnOf (getD weights c nan ⊕ decimal 1 3)
+
+-- without reads minus infinity, else the sum over the clusters in order
+unfoldable pub sampleScore : ℕ → List ℕ → List Float → ℕ → Pair → Float
+sampleScore n counts weights s h =
+    cond (eqb (columnTotal n counts s) 0) (inf true) (sumFrom (nat 0) (map (clusterTerm n counts weights s h) (clusters n)))

@@ -1,0 +1,33 @@
+// The score of one animal of a part, for whoever checks a call by hand.
+ghost use mathlib.Core.Path.{_≡_};
+ghost use Rattle.trio.specs.Steps.{sampleStep};
+use crate::genotypes::Pair;
+use crate::part::Part;
+use crate::samples::Sample;
+use crate::samples::compute_log_likelihood;
+use crate::samples::sample_number;
+use crate::shape::right_part;
+use refusals::Refusal;
+
+// The log likelihood of an animal's reads under a genotype, or a refusal with zero.
+pub struct AnimalScore {
+    pub refusal: Refusal,
+    pub score: f64,
+}
+
+pub fn sample_score(p: Part, s: Sample, pair: Pair) -> AnimalScore
+    ensures { λ r. ⌜ r ≡ sampleStep p s pair ⌝ }
+{
+    if right_part(p) {
+        let counts = p.counts;
+        let weights = p.weights;
+        return AnimalScore {
+            refusal: Refusal::Done,
+            score: compute_log_likelihood(p.clusters, counts, weights, sample_number(s), pair),
+        };
+    }
+    AnimalScore {
+        refusal: Refusal::BadPart,
+        score: 0.0,
+    }
+}

@@ -1,0 +1,133 @@
+// Closing a part: the call, its score, the runner-up and the ground (docs/RULES.md, T9, T10).
+ghost use mathlib.Core.Path.{_≡_};
+ghost use Prim.Native.Nat.{_≤_};
+ghost use Rattle.floats.specs.Key.{keyOf};
+ghost use Rattle.trio.specs.Steps.{groundNumber, groundOf, unread, refusedClosing, closedAs, closeStep};
+use crate::genotypes::Pair;
+use crate::genotypes::Triple;
+use crate::genotypes::genotype_count;
+use crate::genotypes::triple_at;
+use crate::part::Part;
+use crate::samples::column_total;
+use crate::shape::right_part;
+use floats::key::key;
+use refusals::Refusal;
+use search::entry::Entry;
+use search::held::Held;
+use search::marks::all_marked;
+
+// What a call rests on; a refusal has no ground.
+pub enum Ground {
+    NoGround,
+    Won,
+    Tied,
+    Unread,
+}
+
+// The call with its score, its ground and the runner-up, if there is one; or a refusal with zeros. The part is handed back in every case.
+pub struct Closed {
+    pub refusal: Refusal,
+    pub part: Part,
+    pub triple: Triple,
+    pub score: f64,
+    pub ground: Ground,
+    pub has_runner: bool,
+    pub runner: Entry,
+}
+
+pub fn ground_number(g: Ground) -> u32
+    ensures { λ n. ⌜ n ≡ groundNumber g ⌝ }
+{
+    match g {
+        Ground::NoGround => 0,
+        Ground::Won => 1,
+        Ground::Tied => 2,
+        Ground::Unread => 3,
+    }
+}
+
+// Has some animal no reads?
+fn is_unread(n: u64, counts: [u32; 24]) -> bool
+    requires { ⌜ n ≤ 8 ⌝ }
+    ensures { λ r. ⌜ r ≡ unread n counts ⌝ }
+{
+    if column_total(n, counts, 0) == 0 {
+        return true;
+    }
+    if column_total(n, counts, 1) == 0 {
+        return true;
+    }
+    column_total(n, counts, 2) == 0
+}
+
+fn ground_of(n: u64, counts: [u32; 24], h: Held) -> Ground
+    requires { ⌜ n ≤ 8 ⌝ }
+    ensures { λ r. ⌜ r ≡ groundOf n counts h ⌝ }
+{
+    if is_unread(n, counts) {
+        return Ground::Unread;
+    }
+    if h.count < 2 {
+        return Ground::Won;
+    }
+    if key(h.first.score) == key(h.second.score) {
+        return Ground::Tied;
+    }
+    Ground::Won
+}
+
+// A refusal with zeros, and the part.
+pub fn refused_closing(refusal: Refusal, p: Part) -> Closed
+    ensures { λ r. ⌜ r ≡ refusedClosing refusal p ⌝ }
+{
+    let none = Pair { low: 0, high: 0 };
+    Closed {
+        refusal,
+        part: p,
+        triple: Triple {
+            child: none,
+            father: none,
+            mother: none,
+        },
+        score: 0.0,
+        ground: Ground::NoGround,
+        has_runner: false,
+        runner: Entry {
+            position: 0,
+            score: 0.0,
+        },
+    }
+}
+
+// What a complete part says.
+fn closed_as(p: Part) -> Closed
+    requires { ⌜ (1 ≤ p .clusters) × (p .clusters ≤ 8) ⌝ }
+    ensures { λ r. ⌜ r ≡ closedAs p ⌝ }
+{
+    let n = p.clusters;
+    let counts = p.counts;
+    let held = p.held;
+    let first = held.first;
+    Closed {
+        refusal: Refusal::Done,
+        part: p,
+        triple: triple_at(n, first.position),
+        score: first.score,
+        ground: ground_of(n, counts, held),
+        has_runner: 2 <= held.count,
+        runner: held.second,
+    }
+}
+
+// Close a part: its call if every row is marked, else a refusal.
+pub fn close(p: Part) -> Closed
+    ensures { λ r. ⌜ r ≡ closeStep p ⌝ }
+{
+    if right_part(p) {
+        if all_marked(genotype_count(p.clusters), p.marks) {
+            return closed_as(p);
+        }
+        return refused_closing(Refusal::NotComplete, p);
+    }
+    refused_closing(Refusal::BadPart, p)
+}

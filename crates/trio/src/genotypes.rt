@@ -1,0 +1,62 @@
+// The genotypes of n clusters, and the triple at a position (docs/RULES.md, T1).
+ghost use mathlib.Core.Path.{_≡_};
+ghost use Prim.Native.Nat.{_≤_, _<_};
+ghost use Rattle.trio.specs.Genotypes.{genotypeCount, genotypeAt, tripleAt};
+
+// A genotype: two cluster numbers.
+pub struct Pair {
+    pub low: u64,
+    pub high: u64,
+}
+
+// The genotypes of the three animals.
+pub struct Triple {
+    pub child: Pair,
+    pub father: Pair,
+    pub mother: Pair,
+}
+
+// How many genotypes n clusters have.
+pub(crate) fn genotype_count(n: u64) -> u64
+    requires { ⌜ n ≤ 8 ⌝ }
+    ensures { λ r. ⌜ r ≡ genotypeCount n ⌝ }
+    ensures { λ r. ⌜ r ≤ 36 ⌝ }
+{
+    n * (n + 1) / 2
+}
+
+// Genotype k of n clusters: those with the lower number i are n - i in a row.
+pub(crate) fn genotype_at(n: u64, k: u64) -> Pair
+    requires { ⌜ n ≤ 8 ⌝ }
+    ensures { λ r. ⌜ r ≡ genotypeAt n k ⌝ }
+{
+    let mut i: u64 = 0;
+    let mut left = k;
+    while i < n {
+        if left < n - i {
+            return Pair {
+                low: i,
+                high: i + left,
+            };
+        }
+        left -= n - i;
+        i += 1;
+    }
+    Pair { low: 0, high: 0 }
+}
+
+// The triple at a position of a search over n clusters.
+pub(crate) fn triple_at(n: u64, position: u64) -> Triple
+    requires { ⌜ (1 ≤ n) × (n ≤ 8) ⌝ }
+    ensures { λ r. ⌜ r ≡ tripleAt n position ⌝ }
+{
+    let g = genotype_count(n);
+    let father = genotype_at(n, position / (g * g));
+    let mother = genotype_at(n, position / g % g);
+    let child = genotype_at(n, position % g);
+    Triple {
+        child,
+        father,
+        mother,
+    }
+}

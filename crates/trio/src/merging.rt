@@ -1,0 +1,52 @@
+// Merging two parts of one trio (docs/RULES.md, T8).
+ghost use mathlib.Core.Path.{_≡_};
+ghost use Rattle.search.specs.Work as work;
+ghost use Rattle.trio.specs.Part.{withWork, workIn};
+ghost use Rattle.trio.specs.Steps.{mergeStep};
+use crate::part::Part;
+use crate::part::Stepped;
+use crate::shape::right_part;
+use crate::shape::same_input;
+use refusals::Refusal;
+use search::held::merge_held;
+
+// The input of `a`, with the work of both.
+pub(crate) fn joined(a: Part, b: Part) -> Part
+    ensures { λ r. ⌜ r ≡ withWork a (work.joined (workIn a) (workIn b)) ⌝ }
+{
+    let counts = a.counts;
+    let weights = a.weights;
+    let ha = a.held;
+    let hb = b.held;
+    Part {
+        clusters: a.clusters,
+        counts,
+        weights,
+        marks: a.marks | b.marks,
+        held: merge_held(ha, hb),
+    }
+}
+
+// Merge two parts of one trio, or refuse and give the first back.
+pub fn merge(a: Part, b: Part) -> Stepped
+    ensures { λ r. ⌜ r ≡ mergeStep a b ⌝ }
+{
+    if right_part(a) {
+        if right_part(b) {
+            if same_input(a, b) {
+                return Stepped {
+                    refusal: Refusal::Done,
+                    part: joined(a, b),
+                };
+            }
+            return Stepped {
+                refusal: Refusal::OtherTrio,
+                part: a,
+            };
+        }
+    }
+    Stepped {
+        refusal: Refusal::BadPart,
+        part: a,
+    }
+}

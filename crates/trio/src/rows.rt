@@ -1,0 +1,90 @@
+// Working a row: all triples of one father's genotype (docs/RULES.md, T6).
+ghost use mathlib.Core.Path.{_≡_};
+ghost use mathlib.Core.List.{[]};
+ghost use Prim.Native.Nat.{_+_, _*_, _≤_, _<_, _^_};
+ghost use Rattle.search.specs.Rank.{beatsOf};
+ghost use Rattle.search.specs.Best.{allOffered};
+ghost use Rattle.search.specs.Held.{heldOf};
+ghost use Rattle.search.specs.Work.{entriesFrom, rowWork};
+ghost use Rattle.trio.specs.Score.{scoreOf};
+ghost use Rattle.trio.specs.Part.{withWork};
+ghost use Rattle.trio.specs.Steps.{rowsIn, rowStep};
+use crate::genotypes::genotype_count;
+use crate::merging::joined;
+use crate::part::Part;
+use crate::part::Stepped;
+use crate::score::score_at;
+use crate::shape::right_part;
+use refusals::Refusal;
+use search::entry::Entry;
+use search::held::Held;
+use search::held::offer;
+use search::marks::row_marked;
+
+// The best two of `many` positions from `from` on.
+fn best_of(clusters: u64, counts: [u32; 24], weights: [f64; 8], from: u64, many: u64) -> Held
+    requires { ⌜ ((1 ≤ clusters) × (clusters ≤ 8)) × (from + many < 2 ^ 64) ⌝ }
+    ensures { λ r. ⌜ r ≡ heldOf (allOffered beatsOf 2 [] (entriesFrom (scoreOf clusters counts weights) from many)) ⌝ }
+{
+    let mut h = Held::nothing();
+    let mut i: u64 = 0;
+    while i < many {
+        let position = from + i;
+        let score = score_at(clusters, counts, weights, position);
+        h = offer(h, Entry { position, score });
+        i += 1;
+    }
+    h
+}
+
+// The input of p, marked with row r alone, one of g, and holding its best two.
+fn row_part(p: Part, r: u64, g: u64) -> Part
+    requires { ⌜ (((1 ≤ p .clusters) × (p .clusters ≤ 8)) × (r < g)) × (g ≤ 36) ⌝ }
+    ensures { λ q. ⌜ q ≡ withWork p (rowWork (g * g) (scoreOf (p .clusters) (p .counts) (p .weights)) r) ⌝ }
+{
+    let counts = p.counts;
+    let weights = p.weights;
+    let many = g * g;
+    let held = best_of(p.clusters, counts, weights, r * many, many);
+    Part {
+        clusters: p.clusters,
+        counts,
+        weights,
+        marks: row_marked(0, r),
+        held,
+    }
+}
+
+// How many rows a part's search has; a bad part has none.
+pub fn row_count(p: Part) -> u64
+    ensures { λ r. ⌜ r ≡ rowsIn p ⌝ }
+{
+    if right_part(p) {
+        return genotype_count(p.clusters);
+    }
+    0
+}
+
+// Work row r into a part, or refuse and give the part back.
+pub fn work_row(p: Part, r: u64) -> Stepped
+    ensures { λ s. ⌜ s ≡ rowStep p r ⌝ }
+{
+    if right_part(p) {
+        let g = genotype_count(p.clusters);
+        if r < g {
+            let q = row_part(p, r, g);
+            return Stepped {
+                refusal: Refusal::Done,
+                part: joined(p, q),
+            };
+        }
+        return Stepped {
+            refusal: Refusal::Row,
+            part: p,
+        };
+    }
+    Stepped {
+        refusal: Refusal::BadPart,
+        part: p,
+    }
+}

@@ -1,0 +1,107 @@
+// How well a genotype explains the reads of one animal (docs/RULES.md, T2).
+ghost use mathlib.Core.Path.{_≡_};
+ghost use Prim.Native.Nat.{_≤_, _<_};
+ghost use Rattle.trio.specs.Samples.{sampleNumber, columnTotal, logBinomial, expectation, expectationTotal, sampleScore};
+use crate::genotypes::Pair;
+use kernels::ln::ln;
+
+// The animals, in the order of their columns.
+pub enum Sample {
+    Child,
+    Father,
+    Mother,
+}
+
+pub fn sample_number(s: Sample) -> u64
+    ensures { λ r. ⌜ r ≡ sampleNumber s ⌝ }
+{
+    match s {
+        Sample::Child => 0,
+        Sample::Father => 1,
+        Sample::Mother => 2,
+    }
+}
+
+// The reads of an animal, column s, over n clusters.
+pub(crate) fn column_total(n: u64, counts: [u32; 24], s: u64) -> u64
+    requires { ⌜ (n ≤ 8) × (s < 3) ⌝ }
+    ensures { λ r. ⌜ r ≡ columnTotal n counts s ⌝ }
+{
+    let mut total: u64 = 0;
+    let mut c: u64 = 0;
+    while c < n {
+        total += counts[(3 * c + s) as usize] as u64;
+        c += 1;
+    }
+    total
+}
+
+// The log probability of k among n at p, without its coefficient.
+fn log_binomial(k: u64, n: u64, p: f64) -> f64
+    requires { ⌜ k ≤ n ⌝ }
+    ensures { λ r. ⌜ r ≡ logBinomial k n p ⌝ }
+{
+    if p <= 0.0 || 1.0 <= p {
+        if (0 < k && p == 0.0) || (k < n && p == 1.0) {
+            return -1.0 / 0.0;
+        }
+        return 0.0;
+    }
+    (k as f64) * ln(p) + ((n - k) as f64) * ln(1.0 - p)
+}
+
+// How much of the reads cluster c should have under a genotype, before it is divided by the total.
+fn expected(pair: Pair, c: u64) -> f64
+    ensures { λ r. ⌜ r ≡ expectation pair c ⌝ }
+{
+    if c == pair.low {
+        if c == pair.high {
+            return 1.0;
+        }
+        return 0.5;
+    }
+    if c == pair.high {
+        return 0.5;
+    }
+    1e-3
+}
+
+fn expected_total(n: u64, pair: Pair) -> f64
+    ensures { λ r. ⌜ r ≡ expectationTotal n pair ⌝ }
+{
+    let mut total = 0.0;
+    let mut c: u64 = 0;
+    while c < n {
+        total = total + expected(pair, c);
+        c += 1;
+    }
+    total
+}
+
+// The log likelihood of column s under a genotype.
+pub(crate) fn compute_log_likelihood(
+    n: u64,
+    counts: [u32; 24],
+    weights: [f64; 8],
+    s: u64,
+    pair: Pair,
+) -> f64
+    requires { ⌜ (n ≤ 8) × (s < 3) ⌝ }
+    ensures { λ r. ⌜ r ≡ sampleScore n counts weights s pair ⌝ }
+{
+    let total = column_total(n, counts, s);
+    if total == 0 {
+        return -1.0 / 0.0;
+    }
+    let whole = expected_total(n, pair);
+    let mut log_lik = 0.0;
+    let mut c: u64 = 0;
+    while c < n {
+        let obs = counts[(3 * c + s) as usize] as u64;
+        let exp = expected(pair, c) / whole;
+        let q = weights[c as usize];
+        log_lik = log_lik + (log_binomial(obs, total, exp) + ln(q + 1e-3));
+        c += 1;
+    }
+    log_lik
+}
