@@ -1,6 +1,6 @@
 -- A part: its input, its work, and when its shape is right. Definitions only (RULES.md, S1, S3, L1 to L3).
 use Prim.Native.Nat.{ℕ, zero, suc, _*_}
-use mathlib.Core.Bool.{Bool, true, _&&_}
+use mathlib.Core.Bool.{Bool, true, false, _&&_}
 use mathlib.Core.List.{List, [], _∷_, map}
 use lib.Dec.{eqb, leb}
 use lib.Ieee.{Float, binary64, le, toBits}
