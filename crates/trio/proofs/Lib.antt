@@ -1,0 +1,3 @@
+-- What belongs to no one function of `trio`.
+pub mod PlacesLaws
+pub mod SameLaws
