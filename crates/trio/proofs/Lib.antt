@@ -1,3 +1,4 @@
 -- What belongs to no one function of `trio`.
-pub mod PlacesLaws
-pub mod SameLaws
+pub mod GenotypesLaws
+pub mod MendelLaws
+pub mod SampleLaws

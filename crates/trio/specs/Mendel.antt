@@ -1,9 +1,9 @@
 -- The Mendelian term. Definitions only (RULES.md, T3).
-use Prim.Native.Nat.{ℕ, zero, suc}
+use Prim.Native.Nat.{ℕ}
 use mathlib.Core.Bool.{Bool, true, false, cond, _&&_, _||_}
-use mathlib.Core.List.{List, [], _∷_}
+use mathlib.Core.List.{List, [], _∷_, _++_}
 use lib.Dec.{eqb, leb}
-use lib.ListN.{length}
+use lib.ListN.{length, take}
 use lib.Ieee.{Float}
 use Rattle.floats.specs.F64.{_⊘_, nat, decimal}
 use Rattle.kernels.specs.Ln.{lnOf}
@@ -45,13 +45,10 @@ mendelTerm c f m =
 
 -- ---- for the code
 
--- the pairs of a `Possible`, by its count
-abbrev pub inUse : ℕ → Pair → Pair → Pair → Pair → List Pair
-inUse zero a b c d = []
-inUse (suc zero) a b c d = a ∷ []
-inUse (suc (suc zero)) a b c d = a ∷ b ∷ []
-inUse (suc (suc (suc zero))) a b c d = a ∷ b ∷ c ∷ []
-inUse (suc (suc (suc (suc n)))) a b c d = a ∷ b ∷ c ∷ d ∷ []
-
+-- the pairs of a `Possible`
 abbrev pub pairsOf : Possible → List Pair
-pairsOf s = inUse (s .count) (s .first) (s .second) (s .third) (s .fourth)
+pairsOf s = take (s .count) (s .pairs)
+
+-- l with p at its end, unless it has it
+abbrev pub pushed : List Pair → Pair → List Pair
+pushed l p = cond (among p l) l (l ++ (p ∷ []))

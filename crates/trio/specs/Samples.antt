@@ -1,6 +1,6 @@
 -- How well a genotype explains the reads of one animal. Definitions only (RULES.md, T2).
 use Prim.Native.Nat.{ℕ, zero, suc, _+_, _-_, _*_}
-use mathlib.Core.Bool.{cond, true, _&&_, _||_}
+use mathlib.Core.Bool.{Bool, cond, true, _&&_, _||_}
 use mathlib.Core.List.{List, [], _∷_, map}
 use lib.Dec.{eqb, ltb}
 use lib.ListN.{getD}
@@ -42,11 +42,15 @@ abbrev pub sumFrom : Float → List Float → Float
 sumFrom x [] = x
 sumFrom x (y ∷ l) = sumFrom (x ⊕ y) l
 
--- k among n at p without the coefficient: p = 0 and p = 1 have cases of their own
+-- k among n cannot be at p: some at 0, or not all at 1
+abbrev pub impossibleAt : ℕ → ℕ → Float → Bool
+impossibleAt k n p = (ltb 0 k && eq p (nat 0)) || (ltb k n && eq p (nat 1))
+
+-- k among n at p without the coefficient: k·ln p + (n − k)·ln(1 − p) between 0 and 1; at the ends minus infinity for what cannot be, else 0
 unfoldable pub logBinomial : ℕ → ℕ → Float → Float
 logBinomial k n p =
     cond (le p (nat 0) || le (nat 1) p)
-    (cond ((ltb 0 k && eq p (nat 0)) || (ltb k n && eq p (nat 1))) (inf true) (nat 0))
+    (cond (impossibleAt k n p) (inf true) (nat 0))
     (nat k ⊗ lnOf p ⊕ nat (n - k) ⊗ lnOf (nat 1 ⊖ p))
 
 -- 1 where both alleles name the cluster, 0.5 where one does, else 0.001

@@ -1,6 +1,6 @@
 // The genotypes of n clusters, and the triple at a position (docs/RULES.md, T1).
 ghost use mathlib.Core.Path.{_≡_};
-ghost use Prim.Native.Nat.{_≤_, _<_};
+ghost use Prim.Native.Nat.{_≤_};
 ghost use Rattle.trio.specs.Genotypes.{genotypeCount, genotypeAt, tripleAt};
 
 // A genotype: two cluster numbers.
@@ -27,7 +27,6 @@ pub(crate) fn genotype_count(n: u64) -> u64
 
 // Genotype k of n clusters: those with the lower number i are n - i in a row.
 pub(crate) fn genotype_at(n: u64, k: u64) -> Pair
-    requires { ⌜ n ≤ 8 ⌝ }
     ensures { λ r. ⌜ r ≡ genotypeAt n k ⌝ }
 {
     let mut i: u64 = 0;

@@ -1,20 +1,15 @@
 // The Mendelian term: how likely a child is, given its parents (docs/RULES.md, T3).
 ghost use mathlib.Core.Path.{_≡_};
-ghost use mathlib.Core.Bool.{cond};
-ghost use mathlib.Core.List.{[], _∷_, _++_};
-ghost use Prim.Native.Nat.{_+_, _<_};
+ghost use Prim.Native.Nat.{suc, _≤_, _<_};
 ghost use lib.ListN.{length};
-ghost use Rattle.trio.specs.Mendel.{ordered, samePair, among, childPairs, mendelTerm, pairsOf};
+ghost use Rattle.trio.specs.Mendel.{ordered, samePair, among, childPairs, mendelTerm, pairsOf, pushed};
 use crate::genotypes::Pair;
 use kernels::ln::ln;
 
-// Up to four different pairs: `count` of them.
+// Up to four different pairs: the first `count` of `pairs`.
 struct Possible {
-    count: u64,
-    first: Pair,
-    second: Pair,
-    third: Pair,
-    fourth: Pair,
+    count: u32,
+    pairs: [Pair; 4],
 }
 
 fn same_pair(a: Pair, b: Pair) -> bool
@@ -37,55 +32,49 @@ fn sorted(a: u64, b: u64) -> Pair
 }
 
 fn contains(s: Possible, p: Pair) -> bool
+    requires { ⌜ s .count ≤ 4 ⌝ }
     ensures { λ r. ⌜ r ≡ among p (pairsOf s) ⌝ }
 {
-    let n = s.count;
-    if 0 < n && same_pair(s.first, p) {
-        return true;
+    let pairs = s.pairs;
+    let n = s.count as usize;
+    let mut i: usize = 0;
+    while i < n {
+        if same_pair(pairs[i], p) {
+            return true;
+        }
+        i += 1;
     }
-    if 1 < n && same_pair(s.second, p) {
-        return true;
-    }
-    if 2 < n && same_pair(s.third, p) {
-        return true;
-    }
-    3 < n && same_pair(s.fourth, p)
+    false
 }
 
 // `s` with `p` at its end, unless it has it.
 fn with_pair(s: Possible, p: Pair) -> Possible
     requires { ⌜ s .count < 4 ⌝ }
-    ensures { λ r. ⌜ pairsOf r ≡ cond (among p (pairsOf s)) (pairsOf s) (pairsOf s ++ (p ∷ [])) ⌝ }
-    ensures { λ r. ⌜ r .count < 2 + s .count ⌝ }
+    ensures { λ r. ⌜ pairsOf r ≡ pushed (pairsOf s) p ⌝ }
+    ensures { λ r. ⌜ r .count ≤ suc (s .count) ⌝ }
 {
     if contains(s, p) {
         return s;
     }
     let n = s.count;
-    let first = if n == 0 { p } else { s.first };
-    let second = if n == 1 { p } else { s.second };
-    let third = if n == 2 { p } else { s.third };
-    let fourth = if n == 3 { p } else { s.fourth };
+    let mut pairs = s.pairs;
+    pairs[n as usize] = p;
     Possible {
         count: n + 1,
-        first,
-        second,
-        third,
-        fourth,
+        pairs,
     }
 }
 
 // The different pairs that a child of these parents can have.
 fn child_pairs(father: Pair, mother: Pair) -> Possible
     ensures { λ r. ⌜ pairsOf r ≡ childPairs father mother ⌝ }
+    ensures { λ r. ⌜ r .count ≡ length (childPairs father mother) ⌝ }
+    ensures { λ r. ⌜ r .count ≤ 4 ⌝ }
 {
     let none = Pair { low: 0, high: 0 };
     let s0 = Possible {
         count: 0,
-        first: none,
-        second: none,
-        third: none,
-        fourth: none,
+        pairs: [none; 4],
     };
     let s1 = with_pair(s0, sorted(father.low, mother.low));
     let s2 = with_pair(s1, sorted(father.low, mother.high));
@@ -98,7 +87,7 @@ pub fn distinct_pairs(father: Pair, mother: Pair) -> u64
     ensures { λ r. ⌜ r ≡ length (childPairs father mother) ⌝ }
 {
     let s = child_pairs(father, mother);
-    s.count
+    s.count as u64
 }
 
 // ln(1/d) if the child's pair is one of the d that its parents can make, else ln(1e-6).

@@ -1,7 +1,7 @@
 // How well a genotype explains the reads of one animal (docs/RULES.md, T2).
 ghost use mathlib.Core.Path.{_≡_};
-ghost use Prim.Native.Nat.{_≤_, _<_};
-ghost use Rattle.trio.specs.Samples.{sampleNumber, columnTotal, logBinomial, expectation, expectationTotal, sampleScore};
+ghost use Prim.Native.Nat.{_^_, _≤_, _<_};
+ghost use Rattle.trio.specs.Samples.{sampleNumber, columnTotal, impossibleAt, logBinomial, expectation, expectationTotal, sampleScore};
 use crate::genotypes::Pair;
 use kernels::ln::ln;
 
@@ -26,6 +26,7 @@ pub fn sample_number(s: Sample) -> u64
 pub(crate) fn column_total(n: u64, counts: [u32; 24], s: u64) -> u64
     requires { ⌜ (n ≤ 8) × (s < 3) ⌝ }
     ensures { λ r. ⌜ r ≡ columnTotal n counts s ⌝ }
+    ensures { λ r. ⌜ r ≤ 2 ^ 35 ⌝ }
 {
     let mut total: u64 = 0;
     let mut c: u64 = 0;
@@ -36,13 +37,23 @@ pub(crate) fn column_total(n: u64, counts: [u32; 24], s: u64) -> u64
     total
 }
 
+// Whether no k of n is possible at p: some at 0, or not all at 1.
+fn impossible(k: u64, n: u64, p: f64) -> bool
+    ensures { λ r. ⌜ r ≡ impossibleAt k n p ⌝ }
+{
+    if 0 < k && p == 0.0 {
+        return true;
+    }
+    k < n && p == 1.0
+}
+
 // The log probability of k among n at p, without its coefficient.
 fn log_binomial(k: u64, n: u64, p: f64) -> f64
-    requires { ⌜ k ≤ n ⌝ }
+    requires { ⌜ (k ≤ n) × (n ≤ 2 ^ 35) ⌝ }
     ensures { λ r. ⌜ r ≡ logBinomial k n p ⌝ }
 {
     if p <= 0.0 || 1.0 <= p {
-        if (0 < k && p == 0.0) || (k < n && p == 1.0) {
+        if impossible(k, n, p) {
             return -1.0 / 0.0;
         }
         return 0.0;

@@ -1,0 +1,60 @@
+-- How many genotypes there are, and which one stands where in the list. Assumes nothing.
+use Prim.Native.Nat.{ℕ, zero, suc, _+_, _-_, _*_, _/_, _≤_, _<_, suc-le-suc, zero-le}
+use mathlib.Core.Path.{_≡_, refl, sym, ap, _∙_}
+use mathlib.Core.List.{_++_}
+use native.Mathlib.Nat.{add-zero, add-suc, suc-add, suc-mul, mul-suc, mul-add, suc-le-suc-iff}
+use native.Mathlib.Numerals.{add-one}
+use native.Mathlib.Omega.{arith}
+use lib.ListN.{length, getD, length-append, List·getD-append}
+use lib.Seq.{getD-append-add}
+use Rattle.trio.specs.declared.genotypes.Pair.{Pair}
+use Rattle.trio.specs.Genotypes.{pair, pairsWith, pairsFrom, genotypes, genotypeCount}
+
+-- ---- how many
+
+with-length : (i j m : ℕ) → length (pairsWith i j m) ≡ m
+with-length i j zero = refl
+with-length i j (suc m) = ap suc (with-length i (suc j) m)
+
+from-length : (i m : ℕ) → 2 * length (pairsFrom i m) ≡ m * (m + 1)
+from-length i zero = refl
+from-length i (suc m) =
+    let a = length-append (pairsWith i i (suc m)) (pairsFrom (suc i) m) in
+    let b = with-length i i (suc m) in
+    let c = from-length (suc i) m in
+    let d : suc m * (suc m + 1) ≡ m * (m + 1) + 2 * suc m = omega (arith, suc-mul m (suc m + 1), mul-add m (suc m) 1, mul-suc m m, mul-add m m 1) in
+    omega arith
+
+pub genotype-count : (n : ℕ) → genotypeCount n ≡ n * (n + 1) / 2
+unfolding genotypeCount
+genotype-count n = omega (arith, from-length 0 n)
+
+pub genotypes-some : (n : ℕ) → 1 ≤ n → 1 ≤ genotypeCount n
+unfolding genotypeCount
+genotypes-some zero h = h
+genotypes-some (suc n) h = suc-le-suc zero-le
+
+-- ---- which one
+
+with-at : (i j m k : ℕ) (d : Pair) → k < m → getD (pairsWith i j m) k d ≡ pair i (j + k)
+with-at i j (suc m) zero d h = rw add-zero
+with-at i j (suc m) (suc k) d h = rw (with-at i (suc j) m k d (suc-le-suc-iff .0 h), suc-add, add-suc)
+
+-- n - i pairs begin with i
+module _ (n i k : ℕ) (d : Pair) (some : i < n) where
+  less : n - i ≡ suc (n - (i + 1))
+  less = omega arith
+
+  pub at-first : k < n - i → getD (pairsFrom i (n - i)) k d ≡ pair i (i + k)
+  at-first h =
+      let l : k < length (pairsWith i i (suc (n - (i + 1)))) = omega (arith, with-length i i (suc (n - (i + 1)))) in
+      rw (less, List·getD-append (pairsWith i i (suc (n - (i + 1)))) (pairsFrom (suc i) (n - (i + 1))) d k l) (with-at i i (suc (n - (i + 1))) k d (omega arith))
+
+  pub at-later : n - i ≤ k → getD (pairsFrom i (n - i)) k d ≡ getD (pairsFrom (i + 1) (n - (i + 1))) (k - (n - i)) d
+  at-later h =
+      let w = pairsWith i i (suc (n - (i + 1))) in
+      let e : k ≡ length w + (k - (n - i)) = omega (arith, with-length i i (suc (n - (i + 1)))) in
+      ap (λ m. getD (pairsFrom i m) k d) less
+      ∙ ap (λ j. getD (w ++ pairsFrom (suc i) (n - (i + 1))) j d) e
+      ∙ getD-append-add w (pairsFrom (suc i) (n - (i + 1))) (k - (n - i)) d
+      ∙ ap (λ j. getD (pairsFrom j (n - (i + 1))) (k - (n - i)) d) (sym (add-one i))
