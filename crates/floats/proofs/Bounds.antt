@@ -245,13 +245,13 @@ pub low-more : {a b : ℕ} {x : Float} → Low a x → a ≤ b → Low b x
 low-more least l = least
 low-more (finite-low h) l = finite-low (within-more h l)
 
-least-left : {n : ℕ} (x : Float) → Within n x → add binary64 (inf true) x ≡ inf true
+pub least-left : {n : ℕ} (x : Float) → Within n x → add binary64 (inf true) x ≡ inf true
 unfolding add
 least-left nan h = absurd (h .is-finite)
 least-left (inf s) h = absurd (h .is-finite)
 least-left (fin s m e) h = refl
 
-least-right : {n : ℕ} (x : Float) → Within n x → add binary64 x (inf true) ≡ inf true
+pub least-right : {n : ℕ} (x : Float) → Within n x → add binary64 x (inf true) ≡ inf true
 unfolding add
 least-right nan h = absurd (h .is-finite)
 least-right (inf s) h = absurd (h .is-finite)

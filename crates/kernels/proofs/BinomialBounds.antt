@@ -32,7 +32,7 @@ within-ln-choose k n h l =
     within-more (within-sub (within-sub (factorial-within n l) (factorial-within k (omega arith)) (lit≤ tt)) rest (lit≤ tt)) (lit≤ tt)
 
 -- a count times a logarithm
-term-within : (n : ℕ) (l : Float) → n < 2 ^ 23 → Within (2 ^ 12) l → Within (2 ^ 35) (nat n ⊗ l)
+pub term-within : (n : ℕ) (l : Float) → n < 2 ^ 23 → Within (2 ^ 12) l → Within (2 ^ 35) (nat n ⊗ l)
 term-within n l h w = within-mul (within-whole (pos n) (2 ^ 23) (omega arith) (lit≤ tt)) w (lit≤ tt)
 
 -- by the two logarithms

@@ -24,17 +24,15 @@ module _ (f s e : Entry) where
   pub offer-last : beatsOf e f ≡ false → heldOf (f ∷ e ∷ []) ≡ heldOf (offered beatsOf 2 e (inUse 1 f s))
   offer-last t = rw t
 
-  -- there are two, and e is between them
-  pub offer-second : (n : ℕ) → n ≢ 0 → n ≢ 1 → beatsOf e f ≡ false → beatsOf e s ≡ true → heldOf (f ∷ e ∷ []) ≡ heldOf (offered beatsOf 2 e (inUse n f s))
-  offer-second zero h k t u = absurd (h refl)
-  offer-second (suc zero) h k t u = absurd (k refl)
-  offer-second (suc (suc n)) h k t u = rw (t, u)
-
-  -- there are two better than e
-  pub offer-none : (n : ℕ) → n ≢ 0 → n ≢ 1 → beatsOf e f ≡ false → beatsOf e s ≡ false → heldOf (f ∷ s ∷ []) ≡ heldOf (offered beatsOf 2 e (inUse n f s))
-  offer-none zero h k t u = absurd (h refl)
-  offer-none (suc zero) h k t u = absurd (k refl)
-  offer-none (suc (suc n)) h k t u = rw (t, u)
+  -- there are two, and the first is better than e
+  pub offer-second : (n : ℕ) → n ≢ 0 → n ≢ 1 → beatsOf e f ≡ false → heldOf (f ∷ cond (beatsOf e s) e s ∷ []) ≡ heldOf (offered beatsOf 2 e (inUse n f s))
+  offer-second zero h k t = absurd (h refl)
+  offer-second (suc zero) h k t = absurd (k refl)
+  offer-second (suc (suc n)) h k t = rw t (go (beatsOf e s))
+    where
+      go : (u : Bool) → heldOf (f ∷ cond u e s ∷ []) ≡ heldOf (f ∷ cond u (e ∷ []) (s ∷ []))
+      go true = refl
+      go false = refl
 
 module _ (f s : Entry) (p : ℕ) where
   pub holds-first : (n : ℕ) → n ≢ 0 → eqb (f .position) p ≡ true → true ≡ holdsAt (inUse n f s) p

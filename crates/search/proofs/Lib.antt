@@ -6,7 +6,10 @@ pub mod HeldLaws
 pub mod MarksLaws
 pub mod CountLaws
 pub mod PassLaws
+pub mod MergeLaws
 pub mod WorkLaws
+pub mod JoinLaws
 pub mod ShapeLaws
+pub mod ReworkLaws
 pub mod ShapeCode
 pub mod BestCode

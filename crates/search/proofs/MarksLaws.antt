@@ -1,17 +1,17 @@
 -- What the words of row marks mean, bit by bit.
 use Prim.Native.Nat.{ℕ, zero, suc, _-_, _/_, _%_, _^_, _<_, suc-le-suc, zero-le}
-use mathlib.Core.Bool.{true, false, _||_, true≢false}
+use mathlib.Core.Bool.{Bool, true, false, _||_, true≢false}
 use mathlib.Core.Logic.{_≢_}
 use mathlib.Core.Path.{_≡_, refl, sym, ap, _∙_}
 use native.Mathlib.Decide.{ℕ-discrete}
 use native.Mathlib.Nat.{pow-suc, zero-div, div-one, mod-lt, not-suc-le-zero, le-of-suc-le-suc}
 use native.Mathlib.Numerals.{one-add}
 use native.Mathlib.Omega.{arith}
-use borrow.Author.Tests.{eqb-true, eq-eqb}
+use borrow.Author.Tests.{eqb-true, eqb-false, eq-eqb}
 use lib.Arith.{lt-one, bin-ind}
 use lib.Bits.{bitOr, or-shr, or-mod}
 use lib.Dec.{eqb, eqb·suc-suc, eqb·zero-suc, eqb·suc-zero, lit<}
-use lib.Pow.{shr-shr, pow-pos}
+use lib.Pow.{shr-shr, pow-pos, ones-lt}
 use Rattle.search.specs.Marks.{isMarked, fullMarks}
 
 -- ---- bit 0, and the others by halves
@@ -51,6 +51,13 @@ digit-or (suc zero) (suc zero) h k = refl
 digit-or (suc zero) (suc (suc y)) h k = absurd (not-suc-le-zero (le-of-suc-le-suc (le-of-suc-le-suc k)))
 digit-or (suc (suc x)) y h k = absurd (not-suc-le-zero (le-of-suc-le-suc (le-of-suc-le-suc h)))
 
+digit-same : (x y : ℕ) → x < 2 → y < 2 → eqb x 1 ≡ eqb y 1 → x ≡ y
+digit-same x y h k e = go (eqb x 1) refl
+  where
+    go : (t : Bool) → eqb x 1 ≡ t → x ≡ y
+    go true p = eqb-true x 1 p ∙ sym (eqb-true y 1 (sym e ∙ p))
+    go false p = omega (arith, eqb-false x 1 p, eqb-false y 1 (sym e ∙ p))
+
 pub marked-or : (a b r : ℕ) → isMarked (bitOr a b) r ≡ (isMarked a r || isMarked b r)
 unfolding isMarked
 marked-or a b r =
@@ -71,12 +78,16 @@ full-marked (suc n) (suc r) h = marked-later (fullMarks (suc n)) r ∙ ap (λ (x
     half : (2 ^ suc n - 1) / 2 ≡ 2 ^ n - 1
     half = omega (arith, pow-suc 2 n, pow-pos n)
 
+-- words of n bits are equal where their bits are
+pub marked-same : (n m k : ℕ) → m < 2 ^ n → k < 2 ^ n → ((r : ℕ) → r < n → isMarked m r ≡ isMarked k r) → m ≡ k
+marked-same zero m k h i all = lt-one h ∙ sym (lt-one i)
+marked-same (suc n) m k h i all =
+    let half : m / 2 ≡ k / 2 = marked-same n (m / 2) (k / 2) (omega (arith, pow-suc 2 n)) (omega (arith, pow-suc 2 n)) (λ r l. sym (marked-later m r) ∙ all (suc r) (suc-le-suc l) ∙ marked-later k r) in
+    let last : m % 2 ≡ k % 2 = digit-same (m % 2) (k % 2) (mod-lt m (lit< tt)) (mod-lt k (lit< tt)) (sym (marked-first m) ∙ all 0 (suc-le-suc zero-le) ∙ marked-first k) in
+    omega arith
+
 pub marked-full : (n m : ℕ) → m < 2 ^ n → ((r : ℕ) → r < n → isMarked m r ≡ true) → m ≡ fullMarks n
-marked-full zero m h all = omega arith
-marked-full (suc n) m h all =
-    let half : m / 2 ≡ 2 ^ n - 1 = marked-full n (m / 2) (omega (arith, pow-suc 2 n)) (λ r k. sym (marked-later m r) ∙ all (suc r) (suc-le-suc k)) in
-    let odd : m % 2 ≡ 1 = eqb-true (m % 2) 1 (sym (marked-first m) ∙ all 0 (suc-le-suc zero-le)) in
-    omega (arith, pow-suc 2 n, pow-pos n)
+marked-full n m h all = marked-same n m (fullMarks n) h (ones-lt n) (λ r k. all r k ∙ sym (full-marked n r k))
 
 -- ---- a word below 2 ^ n has no bit from n on, and one that is not 0 has some bit
 

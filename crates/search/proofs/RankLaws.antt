@@ -8,7 +8,7 @@ use native.Mathlib.Omega.{arith}
 use lib.Dec.{T, ltb, ltb→lt, lt→ltb, nltb→le}
 use lib.Ieee.{Float}
 use lib.IntN.{ℤ, pos, negsuc}
-use lib.Signed.{ltZ}
+use lib.Signed.{ltZ, ltZ-yes, <ℤ-irrefl}
 use Rattle.search.specs.declared.entry.Entry.{Entry}
 use Rattle.search.specs.Best.{Ranks}
 use Rattle.floats.specs.Key.{keyOf}
@@ -35,8 +35,7 @@ Above : Entry → Entry → Type 0
 Above a b = T (ltZ (keyOf (b .score)) (keyOf (a .score))) ⊎ ((keyOf (a .score) ≡ keyOf (b .score)) × (b .position < a .position))
 
 irreflexive-ℤ : (a : ℤ) → T (ltZ a a) → ⊥
-irreflexive-ℤ (pos a) t = omega (arith, ltb→lt a a t)
-irreflexive-ℤ (negsuc a) t = omega (arith, ltb→lt a a t)
+irreflexive-ℤ a t = <ℤ-irrefl {a = a} (ltZ-yes t)
 
 transitive-ℤ : (a b c : ℤ) → T (ltZ a b) → T (ltZ b c) → T (ltZ a c)
 transitive-ℤ (pos a) (pos b) (pos c) s t = lt→ltb a c (omega (arith, ltb→lt a b s, ltb→lt b c t))
@@ -83,10 +82,10 @@ beats-transitive a b c s t = above-beats a c (join (beats-above a b s) (beats-ab
     join (inr s) (inl t) = inl (subst (λ (k : ℤ). T (ltZ (keyOf (c .score)) k)) (sym (s .0)) t)
     join (inr s) (inr t) = inr (s .0 ∙ t .0, omega (arith, s .1, t .1))
 
--- any two entries of one score function differ: at equal keys by their positions
-pub ranks : (score : ℕ → Float) → Ranks (IsEntry score) beatsOf
+-- any two of a set with one entry at a position differ: at equal keys by their positions
+pub ranks-apart : (Good : Entry → Type 0) → ((a b : Entry) → Good a → Good b → a .position ≡ b .position → a ≡ b) → Ranks Good beatsOf
 unfolding Above
-ranks score =
+ranks-apart Good one =
     record {
       irreflexive = beats-irreflexive;
       transitive = beats-transitive;
@@ -94,11 +93,15 @@ ranks score =
           (⊎-elim (λ e. by-position a b g h e (compared-ℕ (a .position) (b .position))) (λ t. inl (above-beats a b (inl t)))) (compared-ℤ (keyOf (a .score)) (keyOf (b .score)));
     }
   where
-    by-position : (a b : Entry) → IsEntry score a → IsEntry score b → keyOf (a .score) ≡ keyOf (b .score)
+    by-position : (a b : Entry) → Good a → Good b → keyOf (a .score) ≡ keyOf (b .score)
         → T (ltb (a .position) (b .position)) ⊎ ((a .position ≡ b .position) ⊎ T (ltb (b .position) (a .position))) → T (beatsOf a b) ⊎ ((a ≡ b) ⊎ T (beatsOf b a))
     by-position a b g h e (inl t) = inr (inr (above-beats b a (inr (sym e, ltb→lt _ _ t))))
-    by-position a b g h e (inr (inl p)) = inr (inl (g ∙ ap (entryAt score) p ∙ sym h))
+    by-position a b g h e (inr (inl p)) = inr (inl (one a b g h p))
     by-position a b g h e (inr (inr t)) = inl (above-beats a b (inr (e, ltb→lt _ _ t)))
+
+-- the entries of one score function are such a set
+pub ranks : (score : ℕ → Float) → Ranks (IsEntry score) beatsOf
+ranks score = ranks-apart (IsEntry score) (λ a b g h p. g ∙ ap (entryAt score) p ∙ sym h)
 
 pub larger-beats : (a b : Entry) → T (ltZ (keyOf (b .score)) (keyOf (a .score))) → T (beatsOf a b)
 unfolding Above

@@ -1,26 +1,87 @@
--- A sound partial result has the right shape.
-use Prim.Native.Nat.{ℕ, _+_, _*_, _/_, _^_, _≤_, _<_}
+-- What the right shape says, and that a sound partial result has it.
+use Prim.Native.Nat.{ℕ, zero, suc, _+_, _*_, _/_, _^_, _≤_, _<_}
 use mathlib.Core.Bool.{Bool, true, false, not, _&&_, true≢false}
 use mathlib.Core.List.{List, [], _∷_}
-use mathlib.Core.Logic.{⊎-elim}
+use mathlib.Core.Logic.{⊎-elim, _≢_}
 use mathlib.Core.Path.{_≡_, refl, sym, ap, subst, _∙_}
 use native.Mathlib.Decide.{ℕ-discrete}
 use native.Mathlib.Nat.{div-lt-iff-lt-mul, mul-pos, mul-le-mul}
 use native.Mathlib.Omega.{arith}
-use borrow.Author.Tests.{eq-eqb, ne-eqb, lt-ltb, le-leb}
+use borrow.Author.Tests.{eqb-true, eqb-false, ltb-true, leb-true, not-true, eq-eqb, ne-eqb, lt-ltb, le-leb}
 use lib.Arith.{lt-one, digits-div}
-use lib.Dec.{T}
+use lib.Dec.{T, eqb, ltb, leb}
 use lib.Ieee.Bits.{is-true}
 use lib.Ieee.{Float, isNan, toBits, ofBits}
+use lib.Pow.{pow-mono, ones-lt}
 use Rattle.search.specs.declared.entry.Entry.{Entry}
-use Rattle.search.specs.Best.{Best}
-use Rattle.search.specs.Held.{heldOf, heldList}
-use Rattle.search.specs.Marks.{isMarked}
+use Rattle.search.specs.declared.held.Held.{Held}
+use Rattle.search.specs.Best.{In, Best}
+use Rattle.search.specs.Held.{inUse, heldOf, heldList, Ordered}
+use Rattle.search.specs.Marks.{isMarked, fullMarks}
 use Rattle.search.specs.Rank.{beatsOf}
 use Rattle.search.specs.Shape.{isNoEntry, unusedZero, heldCount, inMarked, scoredInMarked, listRight, workRight}
 use Rattle.search.specs.Work.{entryAt, Work, Within, Sound}
 use Rattle.search.proofs.CountLaws.{held-none, held-one, held-two}
 use Rattle.search.proofs.MarksLaws.{marked-none, some-marked, unmarked-above}
+
+pub and-true : {s t : Bool} → s ≡ true → t ≡ true → (s && t) ≡ true
+and-true p q = rw (p, q)
+
+pub and-both : (s t : Bool) → (s && t) ≡ true → (s ≡ true) × (t ≡ true)
+and-both true t e = (refl, e)
+and-both false t e = absurd (true≢false (sym e))
+
+-- ---- what the right shape says
+
+pub record Shaped (rows marks : ℕ) (h : Held) : Type 0 where
+  pub some : 1 ≤ rows
+  pub few : rows ≤ 63
+  pub below : marks < 2 ^ rows
+  pub counted : h .count ≡ heldCount rows marks
+  pub ordered : Ordered (heldList h)
+  pub scored : (e : Entry) → In (heldList h) e → scoredInMarked rows marks e ≡ true
+
+right-list : (rows marks n : ℕ) (f s : Entry) → listRight rows marks (inUse n f s) ≡ true → Ordered (inUse n f s) × ((e : Entry) → In (inUse n f s) e → scoredInMarked rows marks e ≡ true)
+right-list rows marks zero f s r = (tt, λ e i. absurd i)
+right-list rows marks (suc zero) f s r = (tt, λ e. ⊎-elim (λ d. subst (λ (x : Entry). scoredInMarked rows marks x ≡ true) (sym d) r) absurd)
+right-list rows marks (suc (suc n)) f s r =
+    let a = and-both (scoredInMarked rows marks f) _ r in
+    let b = and-both (scoredInMarked rows marks s) _ (a .1) in
+    let c = and-both (not (eqb (f .position) (s .position))) (beatsOf f s) (b .1) in (
+      (eqb-false (f .position) (s .position) (not-true _ (c .0)), subst T (sym (c .1)) tt),
+      λ e. ⊎-elim (λ d. subst (λ (x : Entry). scoredInMarked rows marks x ≡ true) (sym d) (a .0)) (⊎-elim (λ d. subst (λ (x : Entry). scoredInMarked rows marks x ≡ true) (sym d) (b .0)) absurd),
+    )
+
+pub right-shaped : (rows marks : ℕ) (h : Held) → workRight rows marks h ≡ true → Shaped rows marks h
+unfolding workRight
+right-shaped rows marks h r =
+    let a = and-both (leb 1 rows) _ r in
+    let b = and-both (leb rows 63) _ (a .1) in
+    let c = and-both (ltb marks (2 ^ rows)) _ (b .1) in
+    let d = and-both (eqb (h .count) (heldCount rows marks)) _ (c .1) in
+    let e = and-both (unusedZero (h .count) (h .first) (h .second)) _ (d .1) in
+    let l = right-list rows marks (h .count) (h .first) (h .second) (e .1) in
+    record {
+      some = leb-true 1 rows (a .0);
+      few = leb-true rows 63 (b .0);
+      below = ltb-true marks (2 ^ rows) (c .0);
+      counted = eqb-true (h .count) (heldCount rows marks) (d .0);
+      ordered = l .0;
+      scored = l .1;
+    }
+
+-- so what has every mark has an entry to give
+pub full-holds : (rows : ℕ) (h : Held) → workRight rows (fullMarks rows) h ≡ true → 1 ≤ h .count
+full-holds rows h r = let s = right-shaped rows (fullMarks rows) h r in go s (ℕ-discrete rows 1)
+  where
+    some-mark : Shaped rows (fullMarks rows) h → fullMarks rows ≢ 0
+    some-mark s e = omega (arith, pow-mono (s .some))
+
+    go : Shaped rows (fullMarks rows) h → Dec (rows ≡ 1) → 1 ≤ h .count
+    go s (yes o) = omega (arith, s .counted ∙ ap (λ (x : ℕ). heldCount x (fullMarks x)) o ∙ held-one (fullMarks 1) (ones-lt 1) (λ e. some-mark s (ap fullMarks o ∙ e)))
+    go s (no o) = omega (arith, s .counted ∙ held-two rows (fullMarks rows) (omega (arith, s .some)) (s .below) (some-mark s))
+
+-- ---- a sound partial result has the right shape
 
 -- the list of a `Held` is its list again
 pub held-back : (S : Entry → Type 0) (l : List Entry) → Best beatsOf 2 S l → heldList (heldOf l) ≡ l
@@ -35,18 +96,7 @@ unused-zero [] = refl
 unused-zero (p ∷ []) = refl
 unused-zero (p ∷ q ∷ l) = refl
 
-pub and-true : {s t : Bool} → s ≡ true → t ≡ true → (s && t) ≡ true
-and-true p q = rw (p, q)
-
-pub and-left : (s t : Bool) → (s && t) ≡ true → s ≡ true
-and-left true t e = refl
-and-left false t e = e
-
-pub and-right : (s t : Bool) → (s && t) ≡ true → t ≡ true
-and-right true t e = e
-and-right false t e = absurd (true≢false (sym e))
-
-module _ (rows : ℕ) (score : ℕ → Float) (solid : (p : ℕ) → isNan (score p) ≡ false) (some : 0 < rows) (few : rows ≤ 63) (w : ℕ → Bool) (v : Work) (s : Sound rows (rows * rows) score w v) where
+module _ {rows : ℕ} {score : ℕ → Float} (solid : (p : ℕ) → isNan (score p) ≡ false) (some : 0 < rows) (few : rows ≤ 63) {w : ℕ → Bool} {v : Work} (s : Sound rows (rows * rows) score w v) where
   marked-within : (r i : ℕ) → i < rows * rows → isMarked (v .marks) r ≡ true → Within (rows * rows) score w (entryAt score (r * (rows * rows) + i))
   marked-within r i h m =
       let q : (r * (rows * rows) + i) / (rows * rows) ≡ r = digits-div r h in

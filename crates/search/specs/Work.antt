@@ -8,9 +8,9 @@ use lib.Dec.{T, eqb}
 use lib.Ieee.{Float}
 use lib.Signed.{ltZ}
 use Rattle.search.specs.declared.entry.Entry.{Entry}
-use Rattle.search.specs.Best.{Best, allOffered}
+use Rattle.search.specs.Best.{In, Best, allOffered}
 use Rattle.search.specs.Held.{mergedHeld}
-use Rattle.search.specs.Marks.{isMarked}
+use Rattle.search.specs.Marks.{isMarked, fullMarks}
 use Rattle.floats.specs.Key.{keyOf}
 use Rattle.search.specs.Rank.{beatsOf}
 
@@ -47,6 +47,16 @@ module _ (score : ℕ → Float) where
   entriesFrom p zero = []
   entriesFrom p (suc n) = entryAt p ∷ entriesFrom (suc p) n
 
+-- rows r, r + 1 and so on, n of them
+abbrev pub rowsFrom : ℕ → ℕ → List ℕ
+rowsFrom r zero = []
+rowsFrom r (suc n) = r ∷ rowsFrom (suc r) n
+
+-- every row stands in the list, in any order and any number of times, and nothing else does
+pub record Covers (rows : ℕ) (l : List ℕ) : Type 0 where
+  pub none-past : (r : ℕ) → In l r → r < rows
+  pub every : (r : ℕ) → r < rows → In l r
+
 -- ---- partial results
 
 -- a mark for each row worked, and the best two entries of those rows
@@ -68,6 +78,11 @@ module _ (width : ℕ) (score : ℕ → Float) where
   abbrev pub rowWork : ℕ → Work
   rowWork r = record { marks = 2 ^ r; held = allOffered beatsOf 2 [] (rowEntries r) }
 
+  -- v once the rows of the list have been worked into it, one after the other
+  abbrev pub workedAll : List ℕ → Work → Work
+  workedAll [] v = v
+  workedAll (r ∷ more) v = workedAll more (joined v (rowWork r))
+
   -- the entries in rows of w
   abbrev pub Within : (ℕ → Bool) → Entry → Type 0
   Within w e = IsEntry score e × T (w (e .position / width))
@@ -75,6 +90,10 @@ module _ (width : ℕ) (score : ℕ → Float) where
 module _ (rows width : ℕ) (score : ℕ → Float) where
   abbrev pub allEntries : List Entry
   allEntries = entriesFrom score 0 (rows * width)
+
+  -- every mark, and what one pass over all positions keeps
+  abbrev pub wholeWork : Work
+  wholeWork = record { marks = fullMarks rows; held = onePass 2 allEntries }
 
   -- v is marked with exactly the rows of w, and holds the best two of their entries, or as many as they have
   pub record Sound (w : ℕ → Bool) (v : Work) : Type 0 where

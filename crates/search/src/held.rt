@@ -1,10 +1,10 @@
 // The best two entries of a search, how they take in one more, and merging (docs/RULES.md, T5, T8).
 ghost use mathlib.Core.Path.{_≡_};
 ghost use mathlib.Core.Bool.{cond};
-ghost use mathlib.Core.List.{[]};
+ghost use mathlib.Core.List.{[], _∷_};
 ghost use Rattle.search.specs.Best.{offered};
 ghost use Rattle.search.specs.Rank.{beatsOf};
-ghost use Rattle.search.specs.Held.{heldList, heldOf, holdsAt, mergedHeld};
+ghost use Rattle.search.specs.Held.{noEntry, heldList, heldOf, holdsAt, mergedHeld};
 use crate::entry::Entry;
 use crate::entry::beats;
 
@@ -20,10 +20,7 @@ impl Held {
     pub fn nothing() -> Held
         ensures { λ r. ⌜ r ≡ heldOf [] ⌝ }
     {
-        let none = Entry {
-            position: 0,
-            score: 0.0,
-        };
+        let none = no_entry();
         Held {
             count: 0,
             first: none,
@@ -32,51 +29,66 @@ impl Held {
     }
 }
 
-// `h` once `e` has been offered to it.
-pub fn offer(h: Held, e: Entry) -> Held
-    ensures { λ r. ⌜ r ≡ heldOf (offered beatsOf 2 e (heldList h)) ⌝ }
+// What stands in an unused place.
+fn no_entry() -> Entry
+    ensures { λ r. ⌜ r ≡ noEntry ⌝ }
 {
-    let n = h.count;
-    let first = h.first;
-    let second = h.second;
-    let none = Entry {
+    Entry {
         position: 0,
         score: 0.0,
-    };
-    if n == 0 {
-        return Held {
-            count: 1,
-            first: e,
-            second: none,
-        };
     }
-    if beats(e, first) {
-        return Held {
-            count: 2,
-            first: e,
-            second: first,
-        };
+}
+
+fn one(e: Entry) -> Held
+    ensures { λ r. ⌜ r ≡ heldOf (e ∷ []) ⌝ }
+{
+    let none = no_entry();
+    Held {
+        count: 1,
+        first: e,
+        second: none,
     }
-    if n == 1 {
-        return Held {
-            count: 2,
-            first: first,
-            second: e,
-        };
-    }
-    if beats(e, second) {
-        return Held {
-            count: 2,
-            first: first,
-            second: e,
-        };
-    }
+}
+
+fn two(first: Entry, second: Entry) -> Held
+    ensures { λ r. ⌜ r ≡ heldOf (first ∷ second ∷ []) ⌝ }
+{
     Held {
         count: 2,
         first: first,
         second: second,
     }
 }
+
+// `e`, where it beats `other`.
+fn better(e: Entry, other: Entry) -> Entry
+    ensures { λ r. ⌜ r ≡ cond (beatsOf e other) e other ⌝ }
+{
+    if beats(e, other) {
+        return e;
+    }
+    other
+}
+
+// `h` once `e` has been offered to it.
+pub fn offer(h: Held, e: Entry) -> Held
+    ensures { λ r. ⌜ r ≡ heldOf (offered beatsOf 2 e (heldList h)) ⌝ }
+{
+    let n = h.count;
+    let first = h.first;
+    if n == 0 {
+        return one(e);
+    }
+    if beats(e, first) {
+        return two(e, first);
+    }
+    if n == 1 {
+        return two(first, e);
+    }
+    let second = h.second;
+    two(first, better(e, second))
+}
+
 // Is an entry at this position held?
 fn holds(h: Held, position: u64) -> bool
     ensures { λ r. ⌜ r ≡ holdsAt (heldList h) position ⌝ }
@@ -111,29 +123,13 @@ fn tidy(h: Held) -> Held
     let n = h.count;
     let first = h.first;
     let second = h.second;
-    let none = Entry {
-        position: 0,
-        score: 0.0,
-    };
     if n == 0 {
-        return Held {
-            count: 0,
-            first: none,
-            second: none,
-        };
+        return Held::nothing();
     }
     if n == 1 {
-        return Held {
-            count: 1,
-            first: first,
-            second: none,
-        };
+        return one(first);
     }
-    Held {
-        count: 2,
-        first: first,
-        second: second,
-    }
+    two(first, second)
 }
 
 // The best two by distinct position over both; at a shared position the entry of `a` stays.
@@ -146,10 +142,10 @@ pub fn merge_held(a: Held, b: Held) -> Held
         return own;
     }
     let first = b.first;
-    let one = offer_fresh(own, own, first);
+    let more = offer_fresh(own, own, first);
     if n == 1 {
-        return one;
+        return more;
     }
     let second = b.second;
-    offer_fresh(one, own, second)
+    offer_fresh(more, own, second)
 }

@@ -2,3 +2,8 @@
 pub mod GenotypesLaws
 pub mod MendelLaws
 pub mod SampleLaws
+pub mod PlacesLaws
+pub mod SameLaws
+pub mod OpenLaws
+pub mod ShapeCode
+pub mod RowCode

@@ -21,7 +21,10 @@ countAllowed c = leb c 1000000
 unfoldable pub weightAllowed : Float → Bool
 weightAllowed x = le (nat 0) x && le x (nat 1000)
 
--- all bits zero, so −0.0 is not
+-- what an unused place holds: zero in every bit, so −0.0 is not
+abbrev pub noCount : ℕ → Bool
+noCount c = eqb c 0
+
 abbrev pub noWeight : Float → Bool
 noWeight x = eqb (toBits binary64 x) 0
 
@@ -36,7 +39,7 @@ unfoldable pub inputRight : Part → Bool
 inputRight p =
     leb 1 (p .clusters)
     && (leb (p .clusters) 8
-    && (placesRight countAllowed (λ c. eqb c 0) (3 * p .clusters) (p .counts) && placesRight weightAllowed noWeight (p .clusters) (p .weights)))
+    && (placesRight countAllowed noCount (3 * p .clusters) (p .counts) && placesRight weightAllowed noWeight (p .clusters) (p .weights)))
 
 -- the same cluster number, the same counts, and the same weights bit for bit
 abbrev pub sameNumbers : List ℕ → List ℕ → Bool

@@ -1,10 +1,10 @@
 -- The four steps at every input: what each gives, refusals and the part handed back with it. Definitions only (RULES.md, O1, O2, T6, T8 to T10).
 use Prim.Native.Nat.{ℕ, _*_}
-use mathlib.Core.Bool.{Bool, true, false, not, cond, _&&_, _||_}
+use mathlib.Core.Bool.{Bool, true, false, not, cond, decide, _&&_, _||_}
 use mathlib.Core.List.{List, [], _∷_}
 use lib.Dec.{eqb, ltb, leb}
 use lib.ListN.{length}
-use lib.Signed.{leZ}
+use lib.IntN.{ℤ-discrete}
 use lib.Ieee.{Float}
 use Rattle.floats.specs.F64.{nat}
 use Rattle.floats.specs.Key.{keyOf}
@@ -42,13 +42,10 @@ sampleStep p s h =
 
 -- ---- opening
 
-abbrev pub allCounts : List ℕ → Bool
-allCounts [] = true
-allCounts (c ∷ l) = countAllowed c && allCounts l
-
-abbrev pub allWeights : List Float → Bool
-allWeights [] = true
-allWeights (x ∷ l) = weightAllowed x && allWeights l
+-- do all elements of a list pass a test?
+abbrev pub every : {A : Type 0} → (A → Bool) → List A → Bool
+every passes [] = true
+every passes (x ∷ l) = passes x && every passes l
 
 -- O1: no cluster, too many, the wrong number of counts or weights, a count, a weight; else a part with no row worked
 unfoldable pub openStep : ℕ → List ℕ → List Float → Stepped
@@ -56,8 +53,8 @@ openStep n counts weights =
     cond (eqb n 0) (gives NoCluster emptyPart)
     (cond (ltb 8 n) (gives TooMany emptyPart)
     (cond (not (eqb (length counts) (3 * n) && eqb (length weights) n)) (gives Shape emptyPart)
-    (cond (not (allCounts counts)) (gives Count emptyPart)
-    (cond (not (allWeights weights)) (gives Weight emptyPart)
+    (cond (not (every countAllowed counts)) (gives Count emptyPart)
+    (cond (not (every weightAllowed weights)) (gives Weight emptyPart)
     (gives Done (freshPart n counts weights))))))
 
 -- ---- rows and merging
@@ -98,12 +95,12 @@ unread n counts =
     eqb (columnTotal n counts (sampleNumber Child)) 0
     || (eqb (columnTotal n counts (sampleNumber Father)) 0 || eqb (columnTotal n counts (sampleNumber Mother)) 0)
 
--- is there a runner-up, and is its score equal to the best?
+-- is there a runner-up, and has it the key of the best?
 abbrev pub hasRunner : Held → Bool
 hasRunner h = leb 2 (h .count)
 
 unfoldable pub tied : Held → Bool
-tied h = hasRunner h && (leZ (keyOf (h .first .score)) (keyOf (h .second .score)) && leZ (keyOf (h .second .score)) (keyOf (h .first .score)))
+tied h = hasRunner h && decide (ℤ-discrete (keyOf (h .first .score)) (keyOf (h .second .score)))
 
 -- T10: Unread before Tied, Won where neither holds
 unfoldable pub groundOf : ℕ → List ℕ → Held → Ground

@@ -108,6 +108,7 @@ fn closed_as(p: Part) -> Closed
     let counts = p.counts;
     let held = p.held;
     let first = held.first;
+    let runner = held.second;
     Closed {
         refusal: Refusal::Done,
         part: p,
@@ -115,7 +116,7 @@ fn closed_as(p: Part) -> Closed
         score: first.score,
         ground: ground_of(n, counts, held),
         has_runner: 2 <= held.count,
-        runner: held.second,
+        runner,
     }
 }
 

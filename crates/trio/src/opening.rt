@@ -2,9 +2,8 @@
 ghost use mathlib.Core.Path.{_≡_};
 ghost use Prim.Native.Nat.{_≤_};
 ghost use Rattle.floats.specs.F64.{nat};
-ghost use Rattle.trio.specs.Part.{padded};
-ghost use Rattle.trio.specs.Steps.{allCounts, allWeights, openStep, gives};
-ghost use Rattle.trio.specs.Part.{emptyPart, freshPart};
+ghost use Rattle.trio.specs.Part.{countAllowed, weightAllowed, padded, freshPart, emptyPart};
+ghost use Rattle.trio.specs.Steps.{every, openStep, gives};
 ghost use lib.ListN.{length};
 use crate::part::Part;
 use crate::part::Stepped;
@@ -13,7 +12,7 @@ use refusals::Refusal;
 use search::held::Held;
 
 fn counts_allowed(counts: &[u32]) -> bool
-    ensures { λ r. ⌜ r ≡ allCounts (now (counts .entry)) ⌝ }
+    ensures { λ r. ⌜ r ≡ every countAllowed (now (counts .entry)) ⌝ }
 {
     let mut i: usize = 0;
     while i < counts.len() {
@@ -26,7 +25,7 @@ fn counts_allowed(counts: &[u32]) -> bool
 }
 
 fn weights_allowed(weights: &[f64]) -> bool
-    ensures { λ r. ⌜ r ≡ allWeights (now (weights .entry)) ⌝ }
+    ensures { λ r. ⌜ r ≡ every weightAllowed (now (weights .entry)) ⌝ }
 {
     let mut i: usize = 0;
     while i < weights.len() {

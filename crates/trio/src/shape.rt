@@ -2,23 +2,22 @@
 ghost use mathlib.Core.Path.{_≡_};
 ghost use mathlib.Core.Bool.{cond};
 ghost use mathlib.Core.List.{map};
-ghost use lib.Dec.{eqb};
 ghost use lib.Ieee.{binary64, toBits};
-ghost use Rattle.trio.specs.Part.{countAllowed, weightAllowed, noWeight, placesRight, sameNumbers, sameInput, rightPart};
+ghost use Rattle.trio.specs.Part.{countAllowed, noCount, weightAllowed, noWeight, placesRight, sameNumbers, sameInput, rightPart};
 use crate::genotypes::genotype_count;
 use crate::part::Part;
 use floats::bits::bits;
 use search::shape::work_right;
 
 fn count_right(x: u32, in_use: bool) -> bool
-    ensures { λ r. ⌜ r ≡ cond «in_use» (countAllowed x) (eqb x 0) ⌝ }
+    ensures { λ r. ⌜ r ≡ cond «in_use» (countAllowed x) (noCount x) ⌝ }
 {
     if in_use { x <= 1000000 } else { x == 0 }
 }
 
 // Are the counts in use within the limit, and the others 0?
 fn counts_right(counts: [u32; 24], used: u64) -> bool
-    ensures { λ r. ⌜ r ≡ placesRight countAllowed (λ c. eqb c 0) used counts ⌝ }
+    ensures { λ r. ⌜ r ≡ placesRight countAllowed noCount used counts ⌝ }
 {
     let mut i: u64 = 0;
     while i < 24 {

@@ -1,5 +1,7 @@
 -- `search::entry::beats` meets its contract. A key that a call gave is the number of its bits again (`toZ-ofZ`); then by the two comparisons of the keys.
+use mathlib.Core.Path.{sym, ap₂, _∙_}
 use borrow.Author.Needs.{needs}
+use lib.Signed.{ltZ}
 use mir.Facts.{toZ-ofZ}
 use mir.Syntax.{w64}
 use Rattle.search.proofs.HeldLaws.{beats-larger, beats-smaller, beats-equal}
@@ -18,9 +20,10 @@ below-requires c κs = search needs
 returns : tie.Need-returns
 returns c =
     let a = c .before .before .before .before .args in
-    let ka = toZ-ofZ {w = w64} {z = c .before .before .before .key .result} (search needs) in
-    let kb = toZ-ofZ {w = w64} {z = c .before .before .key2 .result} (search needs) in
-    beats-larger (a .a) (a .b) (cc)
+    let k = c .before .before .before in
+    let ka = toZ-ofZ {w = w64} {z = k .key .result} (search needs) ∙ k .key .ensures in
+    let kb = toZ-ofZ {w = w64} {z = c .before .before .key2 .result} (search needs) ∙ c .before .before .key2 .ensures in
+    beats-larger (a .a) (a .b) (sym (ap₂ ltZ kb ka) ∙ sym (c .before .below .ensures) ∙ c .if1 .taken)
 
 below-requires-2 : tie.Need-below-requires-2
 below-requires-2 c κs = search needs
@@ -28,16 +31,19 @@ below-requires-2 c κs = search needs
 returns-2 : tie.Need-returns-2
 returns-2 c =
     let a = c .before .before .before .before .before .before .args in
-    let ka = toZ-ofZ {w = w64} {z = c .before .before .before .before .before .key .result} (search needs) in
-    let kb = toZ-ofZ {w = w64} {z = c .before .before .before .before .key2 .result} (search needs) in
-    beats-smaller (a .a) (a .b) (cc) (cc)
+    let e = c .before .before in
+    let ka = toZ-ofZ {w = w64} {z = e .before .before .before .key .result} (search needs) ∙ e .before .before .before .key .ensures in
+    let kb = toZ-ofZ {w = w64} {z = e .before .before .key2 .result} (search needs) ∙ e .before .before .key2 .ensures in
+    beats-smaller (a .a) (a .b) (sym (ap₂ ltZ kb ka) ∙ sym (e .before .below .ensures) ∙ e .if1 .left) (sym (ap₂ ltZ ka kb) ∙ sym (c .before .below2 .ensures) ∙ c .if2 .taken)
 
 returns-3 : tie.Need-returns-3
 returns-3 c =
     let a = c .before .before .before .before .before .before .before .before .args in
-    let ka = toZ-ofZ {w = w64} {z = c .before .before .before .before .before .before .before .key .result} (search needs) in
-    let kb = toZ-ofZ {w = w64} {z = c .before .before .before .before .before .before .key2 .result} (search needs) in
-    beats-equal (a .a) (a .b) (cc) (cc)
+    let e = c .before .before .before .before in
+    let ka = toZ-ofZ {w = w64} {z = e .before .before .before .key .result} (search needs) ∙ e .before .before .before .key .ensures in
+    let kb = toZ-ofZ {w = w64} {z = e .before .before .key2 .result} (search needs) ∙ e .before .before .key2 .ensures in
+    beats-equal (a .a) (a .b) (sym (ap₂ ltZ kb ka) ∙ sym (e .before .below .ensures) ∙ e .if1 .left)
+    (sym (ap₂ ltZ ka kb) ∙ sym (c .before .before .before .below2 .ensures) ∙ c .before .before .if2 .left)
 
 pub beats-spec : {M : Type 1} → statement M
 beats-spec =

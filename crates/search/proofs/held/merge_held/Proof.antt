@@ -33,7 +33,7 @@ returns-3 c =
     let a = c .before .before .before .before .before .before .before .args in
     let o = c .before .before .before .before .before .before .tidy .result in
     let e = c .before .before .before .before .before .before .tidy .ensures in
-    c .offer-fresh2 .ensures ∙ merge-two o (a .b .first) (a .b .second) (tidy-normal (a .a) o e) (a .b .count) (c .before .before .before .offer-fresh .result) (search needs) (search needs) (c .before .before .before .offer-fresh .ensures)
+    c .offer-fresh2 .ensures ∙ merge-two o (a .b .first) (a .b .second) (tidy-normal (a .a) o e) (a .b .count) (c .before .before .before .offer-fresh .result) (c .before .before .before .before .before .if1 .left) (c .before .before .if2 .left) (c .before .before .before .offer-fresh .ensures)
     ∙ ap (λ (l : List Entry). heldOf (mergedHeld l (inUse (a .b .count) (a .b .first) (a .b .second)))) (tidy-list (a .a) o e)
 
 pub merge-held-spec : {M : Type 1} → statement M

@@ -1,6 +1,5 @@
 -- `search::marks::all_marked` meets its contract. `1 << rows` is 2 ^ rows; past 64 rows the full word is larger than any of 64 bits.
 use Prim.Native.Nat.{_≤_, _<_, _^_}
-use mathlib.Core.Path.{_≡_}
 use native.Mathlib.Omega.{arith}
 use borrow.Author.Needs.{needs}
 use borrow.Author.Tests.{ne-eqb}

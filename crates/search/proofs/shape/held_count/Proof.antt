@@ -1,7 +1,6 @@
 -- `search::shape::held_count` meets its contract. By the two tests.
 use mathlib.Core.Path.{sym}
 use native.Mathlib.Omega.{arith}
-use borrow.Author.Needs.{needs}
 use Rattle.search.proofs.CountLaws.{held-none, held-one, held-two}
 use Rattle.search.proofs.shape.held_count.Statement.{statement}
 use Rattle.search.proofs.shape.held_count.Tie as tie

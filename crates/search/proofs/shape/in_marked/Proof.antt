@@ -19,12 +19,12 @@ is-marked-requires : tie.Need-is-marked-requires
 is-marked-requires c κs = search needs
 
 returns : tie.Need-returns
-returns c = search needs
+returns c = c .is-marked .ensures
 
 returns-2 : tie.Need-returns-2
 returns-2 c =
     let a = c .before .before .args in
-    unmarked-past (a .rows) (a .marks) (a .e .position / (a .rows * a .rows)) (search needs) (search needs)
+    unmarked-past (a .rows) (a .marks) (a .e .position / (a .rows * a .rows)) (c .before .before .pre .1 .1) (c .if1 .left)
 
 pub in-marked-spec : {M : Type 1} → statement M
 in-marked-spec = tie.close (tie.spec mul-r div-r is-marked-requires returns returns-2)

@@ -1,13 +1,13 @@
 -- `search::shape::list_right` meets its contract. By the count, then the first entry's test.
 use mathlib.Core.Bool.{true, false}
-use mathlib.Core.Path.{_∙_}
+use mathlib.Core.Path.{sym, _∙_}
 use borrow.Author.Needs.{needs}
 use Rattle.search.proofs.ShapeCode.{list-two}
 use Rattle.search.proofs.shape.list_right.Statement.{statement}
 use Rattle.search.proofs.shape.list_right.Tie as tie
 
 returns : tie.Need-returns
-returns c = search needs
+returns c = rw (c .if1 .taken)
 
 scored-in-marked-requires : tie.Need-scored-in-marked-requires
 scored-in-marked-requires c κs = search needs
@@ -25,12 +25,14 @@ pair-right-requires c κs = search needs
 returns-3 : tie.Need-returns-3
 returns-3 c =
     let a = c .before .before .before .before .before .before .before .args in
-    c .pair-right .ensures ∙ list-two (a .rows) (a .marks) (a .h) true (search needs) (search needs) (cc)
+    let d = c .before .before in
+    c .pair-right .ensures ∙ list-two (a .rows) (a .marks) (a .h) true (d .before .before .if1 .left) (d .before .if2 .left) (sym (d .scored-in-marked2 .ensures) ∙ c .before .if3 .taken)
 
 returns-4 : tie.Need-returns-4
 returns-4 c =
     let a = c .before .before .before .before .before .before .args in
-    list-two (a .rows) (a .marks) (a .h) false (search needs) (search needs) (cc)
+    let d = c .before in
+    list-two (a .rows) (a .marks) (a .h) false (d .before .before .if1 .left) (d .before .if2 .left) (sym (d .scored-in-marked2 .ensures) ∙ c .if3 .left)
 
 pub list-right-spec : {M : Type 1} → statement M
 list-right-spec =

@@ -1,8 +1,5 @@
 -- `search::shape::unused_zero` meets its contract. By the count.
-use mathlib.Core.Bool.{true, false}
-use mathlib.Core.Path.{_≡_}
 use borrow.Author.Needs.{needs}
-use Rattle.search.specs.Shape.{isNoEntry}
 use Rattle.search.proofs.ShapeCode.{unused-two}
 use Rattle.search.proofs.shape.unused_zero.Statement.{statement}
 use Rattle.search.proofs.shape.unused_zero.Tie as tie
@@ -15,28 +12,23 @@ is-no-entry-requires-2 c κs = search needs
 
 returns : tie.Need-returns
 returns c =
-    let a = c .before .before .before .before .args in
-    let t : isNoEntry (a .first) ≡ true = cc in
-    rw (c .before .before .before .if1 .taken, t) (c .is-no-entry2 .ensures)
+    rw (c .before .before .before .if1 .taken, ← c .before .before .is-no-entry .ensures, c .before .if2 .taken) (c .is-no-entry2 .ensures)
 
 returns-2 : tie.Need-returns-2
 returns-2 c =
-    let a = c .before .before .before .args in
-    let t : isNoEntry (a .first) ≡ false = cc in
-    rw (c .before .before .if1 .taken, t)
+    rw (c .before .before .if1 .taken, ← c .before .is-no-entry .ensures, c .if2 .left)
 
 is-no-entry-requires-3 : tie.Need-is-no-entry-requires-3
 is-no-entry-requires-3 c κs = search needs
 
 returns-3 : tie.Need-returns-3
 returns-3 c =
-    let a = c .before .before .before .args in
     rw (c .before .if3 .taken) (c .is-no-entry3 .ensures)
 
 returns-4 : tie.Need-returns-4
 returns-4 c =
     let a = c .before .before .args in
-    unused-two (a .n) (a .first) (a .second) (search needs) (search needs)
+    unused-two (a .n) (a .first) (a .second) (c .before .if1 .left) (c .if3 .left)
 
 pub unused-zero-spec : {M : Type 1} → statement M
 unused-zero-spec =

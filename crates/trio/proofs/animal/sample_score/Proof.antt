@@ -1,0 +1,47 @@
+-- `trio::animal::sample_score` meets its contract. By the shape of the part.
+use Prim.Native.Nat.{ℕ, _<_}
+use mathlib.Core.Path.{sym, subst, _∙_}
+use lib.Dec.{lit<}
+use lib.Ieee.{round, ofInt, ofBits}
+use Rattle.trio.specs.declared.samples.Sample.{Sample}
+use Rattle.trio.specs.declared.samples.Sample.the-variants.{Child, Father, Mother}
+use Rattle.trio.specs.Samples.{sampleNumber}
+use Rattle.trio.specs.Steps.{sampleStep}
+use Rattle.trio.proofs.ShapeCode.{few-clusters}
+use borrow.Author.Needs.{needs}
+use Rattle.trio.proofs.animal.sample_score.Statement.{statement}
+use Rattle.trio.proofs.animal.sample_score.Tie as tie
+
+sample-below : (s : Sample) → sampleNumber s < 3
+sample-below Child = lit< tt
+sample-below Father = lit< tt
+sample-below Mother = lit< tt
+
+right-part-requires : tie.Need-right-part-requires
+right-part-requires c κs = search needs
+
+sample-number-requires : tie.Need-sample-number-requires
+sample-number-requires c κs = search needs
+
+compute-log-likelihood-requires : tie.Need-compute-log-likelihood-requires
+compute-log-likelihood-requires c κs = 
+    let a = c .before .before .before .before .before .args in
+    (few-clusters (a .p) (sym (c .before .before .before .before .right-part .ensures) ∙ c .before .before .before .if1 .taken), subst (λ (n : ℕ). n < 3) (sym (c .sample-number .ensures)) (sample-below (a .s)))
+
+returns : tie.Need-returns
+unfolding sampleStep
+returns c = rw (sym (c .before .before .before .before .before .right-part .ensures) ∙ c .before .before .before .before .if1 .taken, c .compute-log-likelihood .ensures, c .before .sample-number .ensures)
+
+returns-2 : tie.Need-returns-2
+unfolding sampleStep round ofInt ofBits
+returns-2 c = rw (sym (c .before .right-part .ensures) ∙ c .if1 .left)
+
+pub sample-score-spec : {M : Type 1} → statement M
+sample-score-spec =
+    tie.close
+    (tie.spec
+    right-part-requires
+    sample-number-requires
+    compute-log-likelihood-requires
+    returns
+    returns-2)

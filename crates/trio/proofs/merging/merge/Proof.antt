@@ -1,0 +1,47 @@
+-- `trio::merging::merge` meets its contract. By each test in turn.
+use mathlib.Core.Path.{sym, _∙_}
+use Rattle.trio.specs.Steps.{mergeStep}
+use borrow.Author.Needs.{needs}
+use Rattle.trio.proofs.merging.merge.Statement.{statement}
+use Rattle.trio.proofs.merging.merge.Tie as tie
+
+right-part-requires : tie.Need-right-part-requires
+right-part-requires c κs = search needs
+
+right-part-requires-2 : tie.Need-right-part-requires-2
+right-part-requires-2 c κs = search needs
+
+same-input-requires : tie.Need-same-input-requires
+same-input-requires c κs = search needs
+
+joined-requires : tie.Need-joined-requires
+joined-requires c κs = search needs
+
+returns : tie.Need-returns
+unfolding mergeStep
+returns c = rw (sym (c .before .before .before .before .before .before .right-part .ensures) ∙ c .before .before .before .before .before .if1 .taken, sym (c .before .before .before .before .right-part2 .ensures) ∙ c .before .before .before .if2 .taken, sym (c .before .before .same-input .ensures) ∙ c .before .if3 .taken, c .joined .ensures)
+
+returns-2 : tie.Need-returns-2
+unfolding mergeStep
+returns-2 c = rw (sym (c .before .before .before .before .before .right-part .ensures) ∙ c .before .before .before .before .if1 .taken, sym (c .before .before .before .right-part2 .ensures) ∙ c .before .before .if2 .taken, sym (c .before .same-input .ensures) ∙ c .if3 .left)
+
+returns-3 : tie.Need-returns-3
+unfolding mergeStep
+returns-3 c = rw (sym (c .before .before .before .right-part .ensures) ∙ c .before .before .if1 .taken, sym (c .before .right-part2 .ensures) ∙ c .if2 .left)
+
+returns-4 : tie.Need-returns-4
+unfolding mergeStep
+returns-4 c = rw (sym (c .before .right-part .ensures) ∙ c .if1 .left)
+
+pub merge-spec : {M : Type 1} → statement M
+merge-spec =
+    tie.close
+    (tie.spec
+    right-part-requires
+    right-part-requires-2
+    same-input-requires
+    joined-requires
+    returns
+    returns-2
+    returns-3
+    returns-4)
