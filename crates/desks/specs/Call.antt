@@ -1,26 +1,21 @@
 -- The call of a whole trio. Definitions only (RULES.md, D2, T5, T9).
-use Prim.Native.Nat.{ℕ, zero, suc, _+_}
+use Prim.Native.Nat.{ℕ, zero, suc}
 use mathlib.Core.Bool.{cond}
 use mathlib.Core.List.{List}
 use lib.Dec.{eqb}
 use lib.Ieee.{Float}
 use Rattle.refusals.specs.Refusals.{numberOf}
-use Rattle.search.specs.Marks.{fullMarks}
-use Rattle.search.specs.Work.{Work, onePass, allEntries}
+use Rattle.search.specs.Work.{wholeWork}
 use Rattle.trio.specs.declared.closing.Closed.{Closed}
 use Rattle.trio.specs.declared.part.Part.{Part}
 use Rattle.trio.specs.declared.part.Stepped.{Stepped}
 use Rattle.trio.specs.Genotypes.{rowWidth}
 use Rattle.trio.specs.Part.{rowCount, withWork}
-use Rattle.trio.specs.Steps.{scoreIn, openStep, closedAs, refusedClosing}
+use Rattle.trio.specs.Steps.{scoreIn, openStep, rowStep, closedAs, refusedClosing}
 
--- the work of one pass over all positions in rising order: the best triple and the best of the rest, a later equal score replacing an earlier one
-abbrev pub wholeWork : Part → Work
-wholeWork p = record { marks = fullMarks (rowCount p); held = onePass 2 (allEntries (rowCount p) (rowWidth (p .clusters)) (scoreIn p)) }
-
--- what one undivided pass over an accepted input says
+-- what one undivided pass over the input of a part says: it keeps the best triple and the best of the rest, a later equal score replacing an earlier one
 abbrev pub onePassCall : Part → Closed
-onePassCall p = closedAs (withWork p (wholeWork p))
+onePassCall p = closedAs (withWork p (wholeWork (rowCount p) (rowWidth (p .clusters)) (scoreIn p)))
 
 -- what an opening leads to: its refusal, or the one pass over its input
 unfoldable pub calledBy : Stepped → Closed
@@ -28,3 +23,10 @@ calledBy o = cond (eqb (numberOf (o .refusal)) 0) (onePassCall (o .part)) (refus
 
 abbrev pub callOf : ℕ → List ℕ → List Float → Closed
 callOf n counts weights = calledBy (openStep n counts weights)
+
+-- ---- for the code
+
+-- the part after its first k rows, in rising order
+unfoldable pub workedTo : Part → ℕ → Part
+workedTo p zero = p
+workedTo p (suc k) = rowStep (workedTo p k) k .part

@@ -1,3 +1,6 @@
--- The definitions of `desks`: histories of parts and what they promise, and the whole call.
-pub mod History
+-- The definitions of `desks`: what an accepted input is, the whole call, histories of parts and what they promise.
+pub mod Accepted
+pub mod ChildPairs
 pub mod Call
+pub mod UnreadCall
+pub mod History

@@ -1,6 +1,7 @@
 // The call of a whole trio: opened, every row worked, and closed (docs/RULES.md, D2).
 ghost use mathlib.Core.Path.{_≡_};
-ghost use Rattle.desks.specs.Call.{callOf};
+ghost use Rattle.trio.specs.Steps.{rowsIn};
+ghost use Rattle.desks.specs.Call.{callOf, workedTo};
 use refusals::Refusal;
 use trio::closing::Closed;
 use trio::closing::close;
@@ -12,7 +13,7 @@ use trio::rows::work_row;
 
 // The part with every row worked into it, in rising order.
 fn all_rows(p: Part) -> Part
-    ensures { λ r. ⌜ r ≡ allWorked p ⌝ }
+    ensures { λ r. ⌜ r ≡ workedTo p (rowsIn p) ⌝ }
 {
     let rows = row_count(p);
     let mut part = p;

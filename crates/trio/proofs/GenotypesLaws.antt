@@ -1,14 +1,14 @@
 -- How many genotypes there are, and which one stands where in the list. Assumes nothing.
 use Prim.Native.Nat.{ℕ, zero, suc, _+_, _-_, _*_, _/_, _≤_, _<_, suc-le-suc, zero-le}
 use mathlib.Core.Path.{_≡_, refl, sym, ap, _∙_}
-use mathlib.Core.List.{_++_}
+use mathlib.Core.List.{List, _++_}
 use native.Mathlib.Nat.{add-zero, add-suc, suc-add, suc-mul, mul-suc, mul-add, suc-le-suc-iff}
 use native.Mathlib.Numerals.{add-one}
 use native.Mathlib.Omega.{arith}
 use lib.ListN.{length, getD, length-append, List·getD-append}
 use lib.Seq.{getD-append-add}
 use Rattle.trio.specs.declared.genotypes.Pair.{Pair}
-use Rattle.trio.specs.Genotypes.{pair, pairsWith, pairsFrom, genotypes, genotypeCount}
+use Rattle.trio.specs.Genotypes.{pair, pairsWith, pairsFrom, genotypeCount}
 
 -- ---- how many
 
@@ -40,21 +40,26 @@ with-at : (i j m k : ℕ) (d : Pair) → k < m → getD (pairsWith i j m) k d �
 with-at i j (suc m) zero d h = rw add-zero
 with-at i j (suc m) (suc k) d h = rw (with-at i (suc j) m k d (suc-le-suc-iff .0 h), suc-add, add-suc)
 
--- n - i pairs begin with i
+-- the pairs from i on are the n - i that begin with i, and those from i + 1 on
 module _ (n i k : ℕ) (d : Pair) (some : i < n) where
-  less : n - i ≡ suc (n - (i + 1))
-  less = omega arith
+  abbrev more : ℕ
+  more = n - (i + 1)
+
+  abbrev first : List Pair
+  first = pairsWith i i (suc more)
+
+  whole : n - i ≡ suc more
+  whole = omega arith
 
   pub at-first : k < n - i → getD (pairsFrom i (n - i)) k d ≡ pair i (i + k)
   at-first h =
-      let l : k < length (pairsWith i i (suc (n - (i + 1)))) = omega (arith, with-length i i (suc (n - (i + 1)))) in
-      rw (less, List·getD-append (pairsWith i i (suc (n - (i + 1)))) (pairsFrom (suc i) (n - (i + 1))) d k l) (with-at i i (suc (n - (i + 1))) k d (omega arith))
+      let l : k < length first = omega (arith, with-length i i (suc more)) in
+      rw (whole, List·getD-append first (pairsFrom (suc i) more) d k l) (with-at i i (suc more) k d (omega arith))
 
-  pub at-later : n - i ≤ k → getD (pairsFrom i (n - i)) k d ≡ getD (pairsFrom (i + 1) (n - (i + 1))) (k - (n - i)) d
+  pub at-later : n - i ≤ k → getD (pairsFrom i (n - i)) k d ≡ getD (pairsFrom (i + 1) more) (k - (n - i)) d
   at-later h =
-      let w = pairsWith i i (suc (n - (i + 1))) in
-      let e : k ≡ length w + (k - (n - i)) = omega (arith, with-length i i (suc (n - (i + 1)))) in
-      ap (λ m. getD (pairsFrom i m) k d) less
-      ∙ ap (λ j. getD (w ++ pairsFrom (suc i) (n - (i + 1))) j d) e
-      ∙ getD-append-add w (pairsFrom (suc i) (n - (i + 1))) (k - (n - i)) d
-      ∙ ap (λ j. getD (pairsFrom j (n - (i + 1))) (k - (n - i)) d) (sym (add-one i))
+      let e : k ≡ length first + (k - (n - i)) = omega (arith, with-length i i (suc more)) in
+      ap (λ m. getD (pairsFrom i m) k d) whole
+      ∙ ap (λ j. getD (first ++ pairsFrom (suc i) more) j d) e
+      ∙ getD-append-add first (pairsFrom (suc i) more) (k - (n - i)) d
+      ∙ ap (λ j. getD (pairsFrom j more) (k - (n - i)) d) (sym (add-one i))

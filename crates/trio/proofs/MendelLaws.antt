@@ -1,7 +1,7 @@
 -- The pairs of a child, collected one by one as the code does. Assumes nothing.
 use Prim.Native.Nat.{ℕ, _+_, _≤_, _<_}
 use mathlib.Core.Path.{_≡_, refl, sym, ap, _∙_}
-use mathlib.Core.Bool.{Bool, true, false, cond, _&&_, _||_, false≢true}
+use mathlib.Core.Bool.{Bool, true, false, cond, _||_, and-eq-true-iff}
 use mathlib.Core.List.{List, [], _∷_, _++_, append-nil}
 use native.Mathlib.Numerals.{add-one}
 use native.Mathlib.Omega.{arith}
@@ -13,14 +13,10 @@ use Rattle.trio.specs.declared.genotypes.Pair.{Pair}
 use Rattle.trio.specs.Genotypes.{pair}
 use Rattle.trio.specs.Mendel.{samePair, among, withoutPair, distinct, pushed}
 
-and-parts : (a b : Bool) → (a && b) ≡ true → (a ≡ true) × (b ≡ true)
-and-parts true b e = (refl, e)
-and-parts false b e = (e, cc)
-
 -- the test tells equal pairs
 pub same-is : (p q : Pair) → samePair p q ≡ true → p ≡ q
 same-is p q e =
-    let parts = and-parts (eqb (p .low) (q .low)) (eqb (p .high) (q .high)) e in
+    let parts = and-eq-true-iff (eqb (p .low) (q .low)) (eqb (p .high) (q .high)) .0 e in
     let l = eqb-true (p .low) (q .low) (parts .0) in
     let h = eqb-true (p .high) (q .high) (parts .1) in
     ap (λ x. record { low = x; high = p .high }) l ∙ ap (λ x. record { low = q .low; high = x }) h
@@ -30,7 +26,7 @@ without-append p [] m = refl
 without-append p (q ∷ l) m = go (samePair p q) (without-append p l m)
   where
     go : (b : Bool) → withoutPair p (l ++ m) ≡ withoutPair p l ++ withoutPair p m
-       → cond b (withoutPair p (l ++ m)) (q ∷ withoutPair p (l ++ m)) ≡ cond b (withoutPair p l) (q ∷ withoutPair p l) ++ withoutPair p m
+        → cond b (withoutPair p (l ++ m)) (q ∷ withoutPair p (l ++ m)) ≡ cond b (withoutPair p l) (q ∷ withoutPair p l) ++ withoutPair p m
     go true e = e
     go false e = ap (q ∷_) e
 

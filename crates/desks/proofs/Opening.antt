@@ -1,0 +1,142 @@
+-- What an opening that is not refused tells, and that the part which it gives has the right shape.
+use Prim.Native.Nat.{ℕ, zero, suc, _*_, _≤_, suc-le-suc, zero-le}
+use mathlib.Core.Bool.{Bool, true, false, not, cond, _&&_}
+use mathlib.Core.List.{List, [], _∷_}
+use mathlib.Core.Path.{_≡_, refl, sym, ap, subst, _∙_}
+use native.Mathlib.Nat.{le-of-suc-le-suc, not-suc-le-zero, mul-pos}
+use native.Mathlib.Omega.{arith}
+use borrow.Author.Tests.{eqb-true, eqb-false, ltb-false, le-leb}
+use lib.Dec.{T, eqb, ltb, leb, lit≤}
+use lib.ListN.{length}
+use lib.Ieee.{Float, binary64, isNan, toBits, ofInt}
+use Rattle.floats.specs.F64.{nat}
+use Rattle.refusals.specs.declared.Refusal.the-variants.{Done, NoCluster, TooMany, Shape, Count, Weight}
+use Rattle.refusals.specs.Refusals.{numberOf}
+use Rattle.search.specs.Held.{heldOf}
+use Rattle.search.specs.Shape.{workRight}
+use Rattle.search.specs.Work.{noWork}
+use Rattle.search.proofs.ShapeLaws.{and-true, and-both, work-right}
+use Rattle.search.proofs.WorkLaws.{none-sound}
+use Rattle.trio.specs.declared.part.Stepped.{Stepped}
+use Rattle.trio.specs.Genotypes.{genotypeCount, rowWidth}
+use Rattle.trio.specs.Part.{countAllowed, noCount, weightAllowed, noWeight, placesRight, inputRight, padded, freshPart, emptyPart, rightPart}
+use Rattle.trio.specs.Steps.{gives, every, openStep}
+
+-- ---- what it tells
+
+pub record Opened (n : ℕ) (counts : List ℕ) (weights : List Float) : Type 0 where
+  pub some-clusters : 1 ≤ n
+  pub few-clusters : n ≤ 8
+  pub counts-length : length counts ≡ 3 * n
+  pub weights-length : length weights ≡ n
+  pub counts-allowed : every countAllowed counts ≡ true
+  pub weights-allowed : every weightAllowed weights ≡ true
+
+module _ (n : ℕ) (counts : List ℕ) (weights : List Float) where
+  -- openStep over the outcomes of its five tests
+  abbrev chosen : (a b c d e : Bool) → Stepped
+  chosen a b c d e =
+      cond a (gives NoCluster emptyPart) (cond b (gives TooMany emptyPart) (cond (not c) (gives Shape emptyPart)
+      (cond (not d) (gives Count emptyPart) (cond (not e) (gives Weight emptyPart) (gives Done (freshPart n counts weights))))))
+
+  pub record Passed (a b c d e : Bool) : Type 0 where
+    pub no-first : a ≡ false
+    pub no-second : b ≡ false
+    pub third : c ≡ true
+    pub fourth : d ≡ true
+    pub fifth : e ≡ true
+
+  suc-not-zero : {k : ℕ} → suc k ≡ 0 → ⊥
+  suc-not-zero q = omega arith
+
+  passed : (a b c d e : Bool) → numberOf (chosen a b c d e .refusal) ≡ 0 → Passed a b c d e
+  passed true b c d e h = absurd (suc-not-zero h)
+  passed false true c d e h = absurd (suc-not-zero h)
+  passed false false false d e h = absurd (suc-not-zero h)
+  passed false false true false e h = absurd (suc-not-zero h)
+  passed false false true true false h = absurd (suc-not-zero h)
+  passed false false true true true h = record { no-first = refl; no-second = refl; third = refl; fourth = refl; fifth = refl }
+
+  abbrev shaped : Bool
+  shaped = eqb (length counts) (3 * n) && eqb (length weights) n
+
+  pub opened-tells : numberOf (openStep n counts weights .refusal) ≡ 0 → Opened n counts weights
+  unfolding openStep
+  opened-tells h =
+      let p = passed (eqb n 0) (ltb 8 n) shaped (every countAllowed counts) (every weightAllowed weights) h in
+      let z = eqb-false n 0 (p .no-first) in
+      record {
+        some-clusters = omega arith;
+        few-clusters = ltb-false 8 n (p .no-second);
+        counts-length = eqb-true (length counts) (3 * n) (and-both (eqb (length counts) (3 * n)) (eqb (length weights) n) (p .third) .0);
+        weights-length = eqb-true (length weights) n (and-both (eqb (length counts) (3 * n)) (eqb (length weights) n) (p .third) .1);
+        counts-allowed = p .fourth;
+        weights-allowed = p .fifth;
+      }
+
+  pub opened-is : numberOf (openStep n counts weights .refusal) ≡ 0 → openStep n counts weights ≡ gives Done (freshPart n counts weights)
+  unfolding openStep
+  opened-is h =
+      let p = passed (eqb n 0) (ltb 8 n) shaped (every countAllowed counts) (every weightAllowed weights) h in
+      rw (p .no-first, p .no-second, p .third, p .fourth, p .fifth)
+
+-- ---- the shape of what it gives
+
+module _ {A : Type 0} (inUse unused : A → Bool) (z : A) (blank : unused z ≡ true) where
+  places-none : (k : ℕ) → placesRight inUse unused 0 (padded k z []) ≡ true
+  places-none zero = refl
+  places-none (suc k) = and-true blank (places-none k)
+
+  pub places-padded : (k : ℕ) (l : List A) → length l ≤ k → every inUse l ≡ true → placesRight inUse unused (length l) (padded k z l) ≡ true
+  places-padded zero [] h a = refl
+  places-padded zero (x ∷ l) h a = absurd (not-suc-le-zero h)
+  places-padded (suc k) [] h a = places-none (suc k)
+  places-padded (suc k) (x ∷ l) h a = and-true (and-both (inUse x) (every inUse l) a .0) (places-padded k l (le-of-suc-le-suc h) (and-both (inUse x) (every inUse l) a .1))
+
+no-weight : noWeight (nat 0) ≡ true
+unfolding toBits ofInt
+no-weight = refl
+
+pub rows-some : (n : ℕ) → 1 ≤ n → 1 ≤ genotypeCount n
+unfolding genotypeCount
+rows-some zero h = h
+rows-some (suc n) h = suc-le-suc zero-le
+
+pub rows-few : (n : ℕ) → n ≤ 8 → genotypeCount n ≤ 36
+unfolding genotypeCount
+rows-few zero h = lit≤ tt
+rows-few (suc zero) h = lit≤ tt
+rows-few (suc (suc zero)) h = lit≤ tt
+rows-few (suc (suc (suc zero))) h = lit≤ tt
+rows-few (suc (suc (suc (suc zero)))) h = lit≤ tt
+rows-few (suc (suc (suc (suc (suc zero))))) h = lit≤ tt
+rows-few (suc (suc (suc (suc (suc (suc zero)))))) h = lit≤ tt
+rows-few (suc (suc (suc (suc (suc (suc (suc zero))))))) h = lit≤ tt
+rows-few (suc (suc (suc (suc (suc (suc (suc (suc zero)))))))) h = lit≤ tt
+rows-few (suc (suc (suc (suc (suc (suc (suc (suc (suc n))))))))) h = absurd (omega arith)
+
+no-score : (p : ℕ) → isNan (nat 0) ≡ false
+unfolding isNan ofInt
+no-score p = refl
+
+module _ (n : ℕ) (counts : List ℕ) (weights : List Float) (o : Opened n counts weights) where
+  -- no row worked is sound work of any search
+  fresh-work : workRight (genotypeCount n) (noWork .marks) (heldOf (noWork .held)) ≡ true
+  fresh-work =
+      let s = rows-some n (o .some-clusters) in
+      let f = rows-few n (o .few-clusters) in
+      work-right {score = λ (p : ℕ). nat 0} no-score s (omega arith) none-sound
+
+  pub fresh-right : rightPart (freshPart n counts weights) ≡ true
+  unfolding rightPart inputRight
+  fresh-right =
+      let f = o .few-clusters in
+      let k : length counts ≤ 24 = omega (arith, o .counts-length) in
+      let m : length weights ≤ 8 = omega (arith, o .weights-length) in
+      and-true
+      (and-true (le-leb 1 n (o .some-clusters)) (and-true (le-leb n 8 (o .few-clusters)) (and-true
+      (ap (λ (i : ℕ). placesRight countAllowed noCount i (padded 24 0 counts)) (sym (o .counts-length))
+      ∙ places-padded countAllowed noCount 0 refl 24 counts k (o .counts-allowed))
+      (ap (λ (i : ℕ). placesRight weightAllowed noWeight i (padded 8 (nat 0) weights)) (sym (o .weights-length))
+      ∙ places-padded weightAllowed noWeight (nat 0) no-weight 8 weights m (o .weights-allowed)))))
+      fresh-work

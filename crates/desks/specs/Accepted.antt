@@ -1,0 +1,15 @@
+-- What every check of an opening has passed, for the laws. Definitions only (RULES.md, L1, L2, L3).
+use Prim.Native.Nat.{ℕ, _*_, _≤_, _<_}
+use mathlib.Core.Path.{_≡_}
+use mathlib.Core.Bool.{true}
+use mathlib.Core.List.{List}
+use lib.ListN.{getD}
+use lib.Ieee.{Float, nan}
+use Rattle.trio.specs.Part.{weightAllowed}
+
+-- 1 to 8 clusters, three counts and one weight for each, all within their limits
+pub record Accepted (n : ℕ) (counts : List ℕ) (weights : List Float) : Type 0 where
+  pub some : 1 ≤ n
+  pub few : n ≤ 8
+  pub count-allowed : (i : ℕ) → i < 3 * n → getD counts i 0 ≤ 1000000
+  pub weight-allowed : (c : ℕ) → c < n → weightAllowed (getD weights c nan) ≡ true

@@ -1,0 +1,22 @@
+-- What the call of an unread trio is. Definitions only (RULES.md, T4, T10, X2).
+use Prim.Native.Nat.{ℕ, _-_, _*_}
+use mathlib.Core.Path.{_≡_}
+use lib.Ieee.{Float, inf}
+use mathlib.Core.Bool.{true}
+use Rattle.refusals.specs.declared.Refusal.the-variants.{Done}
+use Rattle.trio.specs.declared.closing.Closed.{Closed}
+use Rattle.trio.specs.declared.closing.Ground.the-variants.{Unread}
+use Rattle.trio.specs.declared.genotypes.Triple.{Triple}
+use Rattle.trio.specs.Genotypes.{pair, genotypeCount, rowWidth}
+
+-- every animal with the last genotype: both alleles name the last cluster
+abbrev pub lastTriple : ℕ → Triple
+lastTriple n = record { child = pair (n - 1) (n - 1); father = pair (n - 1) (n - 1); mother = pair (n - 1) (n - 1) }
+
+-- the last position of all, with the last genotypes, and Unread
+pub record LastUnread (n : ℕ) (c : Closed) : Type 0 where
+  pub is-done : c .refusal ≡ Done
+  pub at : c .part .held .first .position ≡ genotypeCount n * rowWidth n - 1
+  pub triple-is : c .triple ≡ lastTriple n
+  pub score-is : c .score ≡ inf true
+  pub ground-is : c .ground ≡ Unread
