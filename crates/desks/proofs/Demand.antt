@@ -1,11 +1,10 @@
 -- Demand 3, for every trio that an opening accepts, and what follows from it for merging.
-use Prim.Native.Nat.{ℕ, zero, suc}
+use Prim.Native.Nat.{ℕ}
 use mathlib.Core.Bool.{true, false, or-comm, or-assoc, or-self}
-use mathlib.Core.List.{List, [], _∷_}
+use mathlib.Core.List.{List}
 use mathlib.Core.Logic.{_≢_}
 use mathlib.Core.Path.{_≡_, refl, sym, ap, subst, _∙_}
 use borrow.Author.Tests.{eq-eqb, ne-eqb}
-use lib.ListN.{length}
 use lib.Ieee.{Float, isNan}
 use Rattle.floats.specs.F64.{nat}
 use Rattle.refusals.specs.Refusals.{numberOf}
@@ -14,19 +13,14 @@ use Rattle.search.specs.Work.{noWork}
 use Rattle.search.proofs.ShapeLaws.{and-both}
 use Rattle.trio.specs.declared.part.Part.{Part}
 use Rattle.trio.specs.declared.part.Stepped.{Stepped}
-use Rattle.trio.specs.Part.{inputRight, rowCount, withWork, rightPart, padded, freshPart}
+use Rattle.trio.specs.Part.{inputRight, rowCount, withWork, rightPart, freshPart}
 use Rattle.trio.specs.Steps.{scoreIn, rowsIn, openStep, refusedClosing, closeStep}
 use Rattle.desks.specs.Call.{calledBy, callOf, workedTo}
 use Rattle.desks.specs.History.{History, merged, partOf, rowsOf, Promised}
 use Rattle.desks.proofs.Inputs.{scores-numbers}
-use Rattle.desks.proofs.Opening.{Opened, opened-tells, opened-is, fresh-right}
+use Rattle.desks.proofs.Opening.{Opened, opened-tells, opened-is, padded-length, fresh-right}
 use Rattle.desks.proofs.Promises.{promised, same-rows}
 use Rattle.desks.proofs.Rising.{rising-closes}
-
-padded-length : {A : Type 0} (k : ℕ) (z : A) (l : List A) → length (padded k z l) ≡ k
-padded-length zero z l = refl
-padded-length (suc k) z [] = ap suc (padded-length k z [])
-padded-length (suc k) z (x ∷ l) = ap suc (padded-length k z l)
 
 -- an opened part: of the right shape, with no work in it, and its scores are numbers
 pub record Fresh (start : Part) : Type 0 where

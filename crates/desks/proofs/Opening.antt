@@ -82,6 +82,11 @@ module _ (n : ℕ) (counts : List ℕ) (weights : List Float) where
 
 -- ---- the shape of what it gives
 
+pub padded-length : {A : Type 0} (k : ℕ) (z : A) (l : List A) → length (padded k z l) ≡ k
+padded-length zero z l = refl
+padded-length (suc k) z [] = ap suc (padded-length k z [])
+padded-length (suc k) z (x ∷ l) = ap suc (padded-length k z l)
+
 module _ {A : Type 0} (inUse unused : A → Bool) (z : A) (blank : unused z ≡ true) where
   places-none : (k : ℕ) → placesRight inUse unused 0 (padded k z []) ≡ true
   places-none zero = refl

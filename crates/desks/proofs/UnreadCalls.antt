@@ -1,26 +1,33 @@
 -- The call of an unread trio of two or more clusters is the last triple of all, however the other animals' counts and the weights are.
-use Prim.Native.Nat.{ℕ, zero, suc, _*_, _-_, _≤_}
-use mathlib.Core.Bool.{true, cond}
-use mathlib.Core.List.{List, [], _∷_}
-use mathlib.Core.Path.{_≡_, refl, ap, _∙_}
-use native.Mathlib.Nat.{mul-le-mul, le-trans}
+use Prim.Native.Nat.{ℕ, zero, suc, _+_, _*_, _-_, _≤_, _<_, zero-le}
+use mathlib.Core.Bool.{Bool, true, false, _||_}
+use mathlib.Core.List.{List, [], _∷_, map}
+use mathlib.Core.Path.{_≡_, refl, sym, ap, ap₂, subst, _∙_}
+use native.Mathlib.Nat.{mul-le-mul, le-trans, le-of-suc-le-suc, not-suc-le-zero}
 use native.Mathlib.Omega.{arith}
-use lib.Dec.{lit≤}
-use lib.Ieee.{inf}
+use borrow.Author.Tests.{eqb-true}
+use lib.Dec.{eqb, lit≤, lit<}
+use lib.ListN.{length, getD}
+use lib.Ieee.{Float, inf}
+use Rattle.floats.specs.F64.{nat}
+use Rattle.refusals.specs.Refusals.{numberOf}
 use Rattle.search.specs.declared.entry.Entry.{Entry}
 use Rattle.search.specs.Held.{heldOf}
-use Rattle.search.specs.Marks.{fullMarks}
+use Rattle.search.specs.Shape.{workRight}
 use Rattle.search.specs.Work.{onePass, entryAt, allEntries}
-use Rattle.trio.specs.declared.closing.Closed.{Closed}
-use Rattle.trio.specs.declared.closing.Ground.{Ground}
-use Rattle.trio.specs.declared.closing.Ground.the-variants.{Won, Tied, Unread}
+use Rattle.search.proofs.ShapeLaws.{and-both}
 use Rattle.trio.specs.declared.part.Part.{Part}
+use Rattle.trio.specs.declared.part.Stepped.{Stepped}
 use Rattle.trio.specs.Genotypes.{genotypeCount, genotypeAt, rowWidth, tripleAt}
-use Rattle.trio.specs.Part.{rowCount, withWork}
-use Rattle.trio.specs.Steps.{scoreIn, unread, tied, groundOf, closedAs}
-use Rattle.desks.specs.Call.{onePassCall}
+use Rattle.trio.specs.Samples.{upFrom, reads, sum, columnTotal}
+use Rattle.trio.specs.Part.{inputRight, rowCount, rightPart, padded, freshPart}
+use Rattle.trio.specs.Steps.{scoreIn, openStep, unread, groundOf, closedAs}
+use Rattle.desks.specs.Call.{onePassCall, calledBy, callOf}
 use Rattle.desks.specs.UnreadCall.{lastTriple, LastUnread}
 use Rattle.desks.proofs.Flat.{flat-pass}
+use Rattle.desks.proofs.Inputs.{input-accepted}
+use Rattle.desks.proofs.Opening.{opened-tells, opened-is, padded-length, fresh-right}
+use Rattle.desks.proofs.ScoreBounds.{unread-least}
 
 -- the last position has the last genotype three times
 last-triple : (n : ℕ) → 1 ≤ n → n ≤ 8 → tripleAt n (genotypeCount n * rowWidth n - 1) ≡ lastTriple n
@@ -67,3 +74,53 @@ module _ (start : Part) (many : 2 ≤ start .clusters) (few : start .clusters �
         score-is = ap (λ (l : List Entry). heldOf l .first .score) held-is ∙ least (genotypeCount n * rowWidth n - 1);
         ground-is = rw none-read;
       }
+
+-- ---- over every input that an opening accepts
+
+-- a part lays the counts out with zeros behind them, which adds no reads
+padded-get : (k i : ℕ) (l : List ℕ) → length l ≤ k → getD (padded k 0 l) i 0 ≡ getD l i 0
+padded-get zero i [] h = refl
+padded-get zero i (x ∷ l) h = absurd (not-suc-le-zero h)
+padded-get (suc k) zero [] h = refl
+padded-get (suc k) (suc i) [] h = padded-get k i [] zero-le
+padded-get (suc k) zero (x ∷ l) h = refl
+padded-get (suc k) (suc i) (x ∷ l) h = padded-get k i l (le-of-suc-le-suc h)
+
+module _ (counts : List ℕ) (short : length counts ≤ 24) where
+  column-padded : (s c n : ℕ) → sum (map (reads (padded 24 0 counts) s) (upFrom c n)) ≡ sum (map (reads counts s) (upFrom c n))
+  column-padded s c zero = refl
+  column-padded s c (suc n) = ap₂ _+_ (padded-get 24 (3 * c + s) counts short) (column-padded s (suc c) n)
+
+  total-padded : (n s : ℕ) → columnTotal n (padded 24 0 counts) s ≡ columnTotal n counts s
+  unfolding columnTotal
+  total-padded n s = column-padded s 0 n
+
+  unread-padded : (n : ℕ) → unread n (padded 24 0 counts) ≡ unread n counts
+  unfolding unread
+  unread-padded n = rw (total-padded n 0, total-padded n 1, total-padded n 2)
+
+-- some column has no reads
+unread-column : (n : ℕ) (counts : List ℕ) → unread n counts ≡ true → (s : ℕ) × (s < 3) × (columnTotal n counts s ≡ 0)
+unfolding unread
+unread-column n counts h = go (eqb (columnTotal n counts 0) 0) refl (eqb (columnTotal n counts 1) 0) refl h
+  where
+    go : (a : Bool) → eqb (columnTotal n counts 0) 0 ≡ a → (b : Bool) → eqb (columnTotal n counts 1) 0 ≡ b → (a || (b || eqb (columnTotal n counts 2) 0)) ≡ true
+        → (s : ℕ) × (s < 3) × (columnTotal n counts s ≡ 0)
+    go true e b f h = (0, lit< tt, eqb-true (columnTotal n counts 0) 0 e)
+    go false e true f h = (1, lit< tt, eqb-true (columnTotal n counts 1) 0 f)
+    go false e false f h = (2, lit< tt, eqb-true (columnTotal n counts 2) 0 h)
+
+module _ (n : ℕ) (counts : List ℕ) (weights : List Float) (accepted : numberOf (openStep n counts weights .refusal) ≡ 0) (many : 2 ≤ n) where
+  pub unread-call : unread n counts ≡ true → LastUnread n (callOf n counts weights)
+  unfolding calledBy rightPart
+  unread-call none =
+      let o = opened-tells n counts weights accepted in
+      let f = o .few-clusters in
+      let p = freshPart n counts weights in
+      let short : length counts ≤ 24 = omega (arith, o .counts-length) in
+      let u : unread n (p .counts) ≡ true = unread-padded counts short n ∙ none in
+      let r = and-both (inputRight p) (workRight (rowCount p) (p .marks) (p .held)) (fresh-right n counts weights o) .0 in
+      let a = input-accepted p r (padded-length 8 (nat 0) weights) in
+      let c = unread-column n (p .counts) u in
+      subst (λ (s : Stepped). LastUnread n (calledBy s)) (sym (opened-is n counts weights accepted))
+      (last-unread p many f (λ q. unread-least n (p .counts) (p .weights) a q (c .0) (c .1) (c .2)) u)
