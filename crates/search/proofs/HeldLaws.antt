@@ -62,7 +62,7 @@ module _ (a b : Entry) where
   beats-equal t u = rw (t, u)
 
 -- the list of a `Held` fits one
-in-use-back : (n : ℕ) (f s : Entry) → heldList (heldOf (inUse n f s)) ≡ inUse n f s
+pub in-use-back : (n : ℕ) (f s : Entry) → heldList (heldOf (inUse n f s)) ≡ inUse n f s
 in-use-back zero f s = refl
 in-use-back (suc zero) f s = refl
 in-use-back (suc (suc n)) f s = refl
@@ -93,6 +93,11 @@ kept-whole e (x ∷ y ∷ l) = go (beatsOf e x) (beatsOf e y)
     go true u = refl
     go false true = refl
     go false false = refl
+
+-- and so does one that a list has been offered to
+pub all-kept-whole : (l h : List Entry) → heldList (heldOf h) ≡ h → heldList (heldOf (allOffered beatsOf 2 h l)) ≡ allOffered beatsOf 2 h l
+all-kept-whole [] h w = w
+all-kept-whole (e ∷ l) h w = all-kept-whole l (offered beatsOf 2 e h) (kept-whole e h)
 
 module _ (a : Held) (f s : Entry) (h : a ≡ heldOf (heldList a)) where
   -- what is left once f has been offered to a, if it is fresh

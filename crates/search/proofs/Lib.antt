@@ -10,6 +10,7 @@ pub mod MergeLaws
 pub mod WorkLaws
 pub mod JoinLaws
 pub mod ShapeLaws
+pub mod KeepLaws
 pub mod ReworkLaws
 pub mod ShapeCode
 pub mod BestCode

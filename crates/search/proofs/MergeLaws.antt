@@ -123,7 +123,8 @@ ordered-one (a ∷ b ∷ []) o x y (inr (inr i)) j p = absurd i
 ordered-one (a ∷ b ∷ c ∷ l) o x y i j p = absurd o
 
 module _ (a b : List Entry) (oa : Ordered a) (ob : Ordered b) where
-  both-one : (x y : Entry) → Both a b x → Both a b y → x .position ≡ y .position → x ≡ y
+  -- both lists have one entry at a position
+  pub both-one : (x y : Entry) → Both a b x → Both a b y → x .position ≡ y .position → x ≡ y
   both-one x y (inl i) (inl j) p = ordered-one a oa x y i j p
   both-one x y (inl i) (inr j) p = absurd (true≢false (sym (in-held-at a x i) ∙ ap (holdsAt a) p ∙ j .1))
   both-one x y (inr i) (inl j) p = absurd (true≢false (sym (in-held-at a y j) ∙ ap (holdsAt a) (sym p) ∙ i .1))

@@ -5,7 +5,7 @@ use mathlib.Core.List.{List, [], _∷_}
 use mathlib.Core.Logic.{_⊎_, inl, inr, ⊎-elim}
 use mathlib.Core.Path.{_≡_, refl, sym, ap, ap₂, subst, _∙_}
 use native.Mathlib.Decide.{ℕ-discrete}
-use native.Mathlib.Nat.{mul-pos}
+use native.Mathlib.Nat.{add-zero, mul-pos}
 use native.Mathlib.Omega.{arith}
 use borrow.Author.Tests.{eq-eqb}
 use lib.Bits.{or-lt}
@@ -27,6 +27,13 @@ use Rattle.search.proofs.ShapeLaws.{Shaped, right-shaped, and-both}
 use Rattle.search.proofs.WorkLaws.{row-best, best-all}
 
 module _ (width : ℕ) (score : ℕ → Float) where
+  -- the last of rising rows is worked last
+  pub worked-last : (n r : ℕ) (v : Work) → workedAll width score (rowsFrom r (suc n)) v ≡ joined (workedAll width score (rowsFrom r n) v) (rowWork width score (r + n))
+  worked-last zero r v = rw add-zero
+  worked-last (suc n) r v =
+      let e : suc r + n ≡ r + suc n = omega arith in
+      worked-last n (suc r) (joined v (rowWork width score r)) ∙ ap (λ (s : ℕ). joined (workedAll width score (rowsFrom r (suc n)) v) (rowWork width score s)) e
+
   -- ---- marks only grow
 
   worked-below : (rows : ℕ) (l : List ℕ) (v : Work) → v .marks < 2 ^ rows → ((r : ℕ) → In l r → r < rows) → workedAll width score l v .marks < 2 ^ rows

@@ -12,7 +12,7 @@ use lib.Arith.{lt-one, digits-div}
 use lib.Dec.{T, eqb, ltb, leb}
 use lib.Ieee.Bits.{is-true}
 use lib.Ieee.{Float, isNan, toBits, ofBits}
-use lib.Pow.{pow-mono, ones-lt}
+use lib.Pow.{pow-mono}
 use Rattle.search.specs.declared.entry.Entry.{Entry}
 use Rattle.search.specs.declared.held.Held.{Held}
 use Rattle.search.specs.Best.{In, Best}
@@ -70,18 +70,21 @@ right-shaped rows marks h r =
       scored = l .1;
     }
 
--- so what has every mark has an entry to give
-pub full-holds : (rows : ℕ) (h : Held) → workRight rows (fullMarks rows) h ≡ true → 1 ≤ h .count
-full-holds rows h r = let s = right-shaped rows (fullMarks rows) h r in go s (ℕ-discrete rows 1)
+-- so what has a mark has an entry to give
+pub marked-holds : {rows marks : ℕ} {h : Held} → Shaped rows marks h → marks ≢ 0 → 1 ≤ h .count
+marked-holds {rows} {marks} {h} s n = go (ℕ-discrete rows 1)
   where
-    some-mark : Shaped rows (fullMarks rows) h → fullMarks rows ≢ 0
-    some-mark s e = omega (arith, pow-mono (s .some))
+    go : Dec (rows ≡ 1) → 1 ≤ h .count
+    go (yes o) = omega (arith, s .counted ∙ ap (λ (x : ℕ). heldCount x marks) o ∙ held-one marks (subst (λ (x : ℕ). marks < 2 ^ x) o (s .below)) n)
+    go (no o) = omega (arith, s .counted ∙ held-two rows marks (omega (arith, s .some)) (s .below) n)
 
-    go : Shaped rows (fullMarks rows) h → Dec (rows ≡ 1) → 1 ≤ h .count
-    go s (yes o) = omega (arith, s .counted ∙ ap (λ (x : ℕ). heldCount x (fullMarks x)) o ∙ held-one (fullMarks 1) (ones-lt 1) (λ e. some-mark s (ap fullMarks o ∙ e)))
-    go s (no o) = omega (arith, s .counted ∙ held-two rows (fullMarks rows) (omega (arith, s .some)) (s .below) (some-mark s))
+-- and so has what has every mark
+pub full-holds : (rows : ℕ) (h : Held) → workRight rows (fullMarks rows) h ≡ true → 1 ≤ h .count
+full-holds rows h r =
+    let s = right-shaped rows (fullMarks rows) h r in
+    marked-holds s (λ e. omega (arith, pow-mono (s .some)))
 
--- ---- a sound partial result has the right shape
+-- ---- the best two of a set of entries have the right shape
 
 -- the list of a `Held` is its list again
 pub held-back : (S : Entry → Type 0) (l : List Entry) → Best beatsOf 2 S l → heldList (heldOf l) ≡ l
@@ -96,76 +99,98 @@ unused-zero [] = refl
 unused-zero (p ∷ []) = refl
 unused-zero (p ∷ q ∷ l) = refl
 
-module _ {rows : ℕ} {score : ℕ → Float} (solid : (p : ℕ) → isNan (score p) ≡ false) (some : 0 < rows) (few : rows ≤ 63) {w : ℕ → Bool} {v : Work} (s : Sound rows (rows * rows) score w v) where
-  marked-within : (r i : ℕ) → i < rows * rows → isMarked (v .marks) r ≡ true → Within (rows * rows) score w (entryAt score (r * (rows * rows) + i))
-  marked-within r i h m =
-      let q : (r * (rows * rows) + i) / (rows * rows) ≡ r = digits-div r h in
-      (refl, subst (λ (x : ℕ). T (w x)) (sym q) (subst T (sym m ∙ s .marks-are r) tt))
+-- the entries of S lie in marked rows, their scores are numbers, no two share a position, and there are as many as the marks ask for
+pub record Fills (rows marks : ℕ) (S : Entry → Type 0) : Type 0 where
+  pub scored : (e : Entry) → S e → scoredInMarked rows marks e ≡ true
+  pub apart : (a b : Entry) → S a → S b → a .position ≡ b .position → a ≡ b
+  pub one : marks ≢ 0 → (a : Entry) × S a
+  pub two : marks ≢ 0 → 2 ≤ rows → (a : Entry) × (b : Entry) × S a × S b × (a .position ≢ b .position)
 
-  within-marked : (e : Entry) → Within (rows * rows) score w e → inMarked rows (v .marks) e ≡ true
-  within-marked e p = s .marks-are (e .position / (rows * rows)) ∙ is-true (w (e .position / (rows * rows))) (p .1)
-
-  scored-within : (e : Entry) → Within (rows * rows) score w e → scoredInMarked rows (v .marks) e ≡ true
-  scored-within e p = and-true (ap (λ (x : Entry). not (isNan (x .score))) (p .0) ∙ ap not (solid (e .position))) (within-marked e p)
-
-  list-right : (l : List Entry) → Best beatsOf 2 (Within (rows * rows) score w) l → listRight rows (v .marks) l ≡ true
+module _ {rows marks : ℕ} {S : Entry → Type 0} (f : Fills rows marks S) (some : 0 < rows) (few : rows ≤ 63) (below : marks < 2 ^ rows) where
+  list-right : (l : List Entry) → Best beatsOf 2 S l → listRight rows marks l ≡ true
   list-right [] b = refl
-  list-right (p ∷ []) b = scored-within p (b .0 .0)
+  list-right (p ∷ []) b = f .scored p (b .0 .0)
   list-right (p ∷ q ∷ []) b =
       let m = b .1 .0 .0 in
-      and-true (scored-within p (b .0 .0)) (and-true (scored-within q (m .0)) (and-true
-      (ap not (ne-eqb (p .position) (q .position) (λ e. m .1 (m .0 .0 ∙ ap (entryAt score) (sym e) ∙ sym (b .0 .0 .0)))))
+      and-true (f .scored p (b .0 .0)) (and-true (f .scored q (m .0)) (and-true
+      (ap not (ne-eqb (p .position) (q .position) (λ e. m .1 (f .apart q p (m .0) (b .0 .0) (sym e)))))
       (is-true (beatsOf p q) (⊎-elim (λ e. absurd (m .1 e)) (λ t. t) (b .0 .1 q (m .0))))))
   list-right (p ∷ q ∷ r ∷ l) b = absurd (b .1 .1)
 
-  count-none : v .marks ≡ 0 → (l : List Entry) → Best beatsOf 2 (Within (rows * rows) score w) l → heldOf l .count ≡ 0
+  in-marked : (e : Entry) → S e → inMarked rows marks e ≡ true
+  in-marked e p = and-both (not (isNan (e .score))) (inMarked rows marks e) (f .scored e p) .1
+
+  count-none : marks ≡ 0 → (l : List Entry) → Best beatsOf 2 S l → heldOf l .count ≡ 0
   count-none z [] b = refl
   count-none z (p ∷ l) b =
-      absurd (true≢false (sym (within-marked p (b .0 .0)) ∙ ap (λ (m : ℕ). isMarked m (p .position / (rows * rows))) z ∙ marked-none (p .position / (rows * rows))))
+      absurd (true≢false (sym (in-marked p (b .0 .0)) ∙ ap (λ (m : ℕ). isMarked m (p .position / (rows * rows))) z ∙ marked-none (p .position / (rows * rows))))
 
   -- one row of one position
-  count-one : (r : ℕ) → isMarked (v .marks) r ≡ true → rows ≡ 1 → (l : List Entry) → Best beatsOf 2 (Within (rows * rows) score w) l → heldOf l .count ≡ 1
-  count-one r m o [] b = absurd (b (entryAt score (r * (rows * rows) + 0)) (marked-within r 0 (mul-pos some some) m))
-  count-one r m o (p ∷ []) b = refl
-  count-one r m o (p ∷ q ∷ l) b =
-      absurd (b .1 .0 .0 .1 (b .1 .0 .0 .0 .0 ∙ ap (entryAt score) (first q (b .1 .0 .0 .0) ∙ sym (first p (b .0 .0))) ∙ sym (b .0 .0 .0)))
+  count-one : marks ≢ 0 → rows ≡ 1 → (l : List Entry) → Best beatsOf 2 S l → heldOf l .count ≡ 1
+  count-one n o [] b = let a = f .one n in absurd (b (a .0) (a .1))
+  count-one n o (p ∷ []) b = refl
+  count-one n o (p ∷ q ∷ l) b = let m = b .1 .0 .0 in absurd (m .1 (f .apart q p (m .0) (b .0 .0) (first q (m .0) ∙ sym (first p (b .0 .0)))))
     where
-      first : (e : Entry) → Within (rows * rows) score w e → e .position ≡ 0
+      first : (e : Entry) → S e → e .position ≡ 0
       first e p =
-          let k : e .position / (rows * rows) < rows = unmarked-above rows (v .marks) (e .position / (rows * rows)) (s .marks-below) (within-marked e p) in
+          let k : e .position / (rows * rows) < rows = unmarked-above rows marks (e .position / (rows * rows)) below (in-marked e p) in
           let u : e .position < rows * (rows * rows) = div-lt-iff-lt-mul (mul-pos some some) .0 k in
           lt-one (rw o at u)
 
   -- a row of more
-  count-two : (r : ℕ) → isMarked (v .marks) r ≡ true → 2 ≤ rows → (l : List Entry) → Best beatsOf 2 (Within (rows * rows) score w) l → heldOf l .count ≡ 2
-  count-two r m o [] b = absurd (b (entryAt score (r * (rows * rows) + 0)) (marked-within r 0 (mul-pos some some) m))
-  count-two r m o (p ∷ []) b = absurd (go (ℕ-discrete (r * (rows * rows) + 0) (p .position)))
+  count-two : marks ≢ 0 → 2 ≤ rows → (l : List Entry) → Best beatsOf 2 S l → heldOf l .count ≡ 2
+  count-two n o [] b = let a = f .one n in absurd (b (a .0) (a .1))
+  count-two n o (p ∷ []) b = let d = f .two n o in absurd (go d (ℕ-discrete (d .0 .position) (p .position)))
     where
-      go : Dec (r * (rows * rows) + 0 ≡ p .position) → ⊥
-      go (yes e) = b .1 (entryAt score (r * (rows * rows) + 1)) (marked-within r 1 (omega (arith, mul-le-mul o o)) m, λ c. omega (arith, ap (λ (y : Entry). y .position) c))
-      go (no e) = b .1 (entryAt score (r * (rows * rows) + 0)) (marked-within r 0 (mul-pos some some) m, λ c. e (ap (λ (y : Entry). y .position) c))
-  count-two r m o (p ∷ q ∷ l) b = refl
+      go : (d : (a : Entry) × (b : Entry) × S a × S b × (a .position ≢ b .position)) → Dec (d .0 .position ≡ p .position) → ⊥
+      go d (yes e) = b .1 (d .1) (d .3, λ c. d .4 (e ∙ ap (λ (y : Entry). y .position) (sym c)))
+      go d (no e) = b .1 (d .0) (d .2, λ c. e (ap (λ (y : Entry). y .position) c))
+  count-two n o (p ∷ q ∷ l) b = refl
 
-  count-right : heldOf (v .held) .count ≡ heldCount rows (v .marks)
-  count-right = go (ℕ-discrete (v .marks) 0) (ℕ-discrete rows 1)
+  count-right : (l : List Entry) → Best beatsOf 2 S l → heldOf l .count ≡ heldCount rows marks
+  count-right l b = go (ℕ-discrete marks 0) (ℕ-discrete rows 1)
     where
-      go : Dec (v .marks ≡ 0) → Dec (rows ≡ 1) → heldOf (v .held) .count ≡ heldCount rows (v .marks)
-      go (yes z) o = count-none z (v .held) (s .held-best) ∙ sym (held-none rows) ∙ ap (heldCount rows) (sym z)
+      go : Dec (marks ≡ 0) → Dec (rows ≡ 1) → heldOf l .count ≡ heldCount rows marks
+      go (yes z) o = count-none z l b ∙ sym (held-none rows) ∙ ap (heldCount rows) (sym z)
       go (no z) (yes o) =
-          let r = some-marked (v .marks) z in
-          let k : v .marks < 2 ^ 1 = subst (λ (x : ℕ). v .marks < 2 ^ x) o (s .marks-below) in
-          count-one (r .0) (r .1) o (v .held) (s .held-best) ∙ sym (held-one (v .marks) k z) ∙ ap (λ (x : ℕ). heldCount x (v .marks)) (sym o)
+          let k : marks < 2 ^ 1 = subst (λ (x : ℕ). marks < 2 ^ x) o below in
+          count-one z o l b ∙ sym (held-one marks k z) ∙ ap (λ (x : ℕ). heldCount x marks) (sym o)
       go (no z) (no o) =
-          let r = some-marked (v .marks) z in
           let t : 2 ≤ rows = omega arith in
-          count-two (r .0) (r .1) t (v .held) (s .held-best) ∙ sym (held-two rows (v .marks) t (s .marks-below) z)
+          count-two z t l b ∙ sym (held-two rows marks t below z)
 
-  pub work-right : workRight rows (v .marks) (heldOf (v .held)) ≡ true
+  pub best-right : (l : List Entry) → Best beatsOf 2 S l → workRight rows marks (heldOf l) ≡ true
   unfolding workRight
-  work-right =
+  best-right l b =
       and-true (le-leb 1 rows some)
       (and-true (le-leb rows 63 few)
-      (and-true (lt-ltb (v .marks) (2 ^ rows) (s .marks-below))
-      (and-true (eq-eqb (heldOf (v .held) .count) (heldCount rows (v .marks)) count-right)
-      (and-true (unused-zero (v .held))
-      (ap (listRight rows (v .marks)) (held-back (Within (rows * rows) score w) (v .held) (s .held-best)) ∙ list-right (v .held) (s .held-best))))))
+      (and-true (lt-ltb marks (2 ^ rows) below)
+      (and-true (eq-eqb (heldOf l .count) (heldCount rows marks) (count-right l b))
+      (and-true (unused-zero l) (ap (listRight rows marks) (held-back S l b) ∙ list-right l b)))))
+
+-- ---- so a sound partial result has it
+
+module _ {rows : ℕ} {score : ℕ → Float} (solid : (p : ℕ) → isNan (score p) ≡ false) (some : 0 < rows) (few : rows ≤ 63) {w : ℕ → Bool} {v : Work} (s : Sound rows (rows * rows) score w v) where
+  -- entry i of row r
+  abbrev at : ℕ → ℕ → Entry
+  at r i = entryAt score (r * (rows * rows) + i)
+
+  marked-within : (r i : ℕ) → i < rows * rows → isMarked (v .marks) r ≡ true → Within (rows * rows) score w (at r i)
+  marked-within r i h m =
+      let q : (r * (rows * rows) + i) / (rows * rows) ≡ r = digits-div r h in
+      (refl, subst (λ (x : ℕ). T (w x)) (sym q) (subst T (sym m ∙ s .marks-are r) tt))
+
+  within-fills : Fills rows (v .marks) (Within (rows * rows) score w)
+  within-fills =
+      record {
+        scored = λ e p. and-true (ap (λ (x : Entry). not (isNan (x .score))) (p .0) ∙ ap not (solid (e .position)))
+            (s .marks-are (e .position / (rows * rows)) ∙ is-true (w (e .position / (rows * rows))) (p .1));
+        apart = λ a b p q e. p .0 ∙ ap (entryAt score) e ∙ sym (q .0);
+        one = λ n. let r = some-marked (v .marks) n in (at (r .0) 0, marked-within (r .0) 0 (mul-pos some some) (r .1));
+        two = λ n o.
+            let r = some-marked (v .marks) n in
+            (at (r .0) 0, at (r .0) 1, marked-within (r .0) 0 (mul-pos some some) (r .1), marked-within (r .0) 1 (omega (arith, mul-le-mul o o)) (r .1), λ e. omega arith);
+      }
+
+  pub work-right : workRight rows (v .marks) (heldOf (v .held)) ≡ true
+  work-right = best-right within-fills some few (s .marks-below) (v .held) (s .held-best)

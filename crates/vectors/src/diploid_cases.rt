@@ -1,6 +1,7 @@
 // The cases of the diploid genotype.
-ghost use Prim.Native.Nat.{_≤_};
-ghost use lib.ListN.{length};
+use crate::lists;
+use crate::lists::Floats;
+use crate::lists::Listed;
 use crate::words;
 use crate::words::Cursor;
 use crate::words::Float;
@@ -13,9 +14,6 @@ use diploid::genotype::GenotypeResult;
 use diploid::model::Mode;
 use diploid::model::Model;
 
-// As many floats as a line can hold, whose shortest is ` nan`.
-type Floats = [f64; 1024];
-
 enum ReadMode {
     Is(Mode),
     Unread,
@@ -23,12 +21,6 @@ enum ReadMode {
 
 enum Three {
     Are(f64, f64, f64, Cursor),
-    Unread,
-}
-
-// So many floats of a list, with the cursor behind them.
-enum Listed {
-    Are(usize, Cursor),
     Unread,
 }
 
@@ -52,35 +44,6 @@ fn read_three(line: &[u8], c: Cursor) -> Three {
         return Three::Unread;
     };
     Three::Are(x, y, z, after_z)
-}
-
-// The first n words behind the cursor, into the first n places.
-fn read_floats(line: &[u8], c: Cursor, n: usize, floats: &mut [f64]) -> Listed
-    requires { ⌜ n ≤ length (now floats) ⌝ }
-{
-    let mut at = c;
-    let mut i = 0;
-    while i < n {
-        let Float::Is(x, after) = words::read_float(line, at) else {
-            return Listed::Unread;
-        };
-        floats[i] = x;
-        at = after;
-        i += 1;
-    }
-    Listed::Are(n, at)
-}
-
-// A list: its length, then its members. No line has more than the 1,024 members that there is room for.
-fn read_list(line: &[u8], c: Cursor, floats: &mut [f64]) -> Listed {
-    let U32::Is(n, after) = words::read_u32(line, c) else {
-        return Listed::Unread;
-    };
-    let count = n as usize;
-    if floats.len() < count {
-        return Listed::Unread;
-    }
-    read_floats(line, after, count, floats)
 }
 
 fn numbers(text: &mut Text, out: Out, answer: GenotypeResult) -> Out {
@@ -124,7 +87,7 @@ fn with_counts(
 
 fn with_table(model: Model, line: &[u8], c: Cursor, text: &mut Text, out: Out) -> Out {
     let mut floats: Floats = [0.0; 1024];
-    let Listed::Are(n, after) = read_list(line, c, &mut floats) else {
+    let Listed::Are(n, after) = lists::read_float_list(line, c, &mut floats) else {
         return write::unread(text, out);
     };
     if floats.len() < n {

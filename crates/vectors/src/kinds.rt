@@ -1,8 +1,12 @@
 // The kinds of cases: the first word of a line names its kind. A kind is a function of the line, the cursor behind the name, the text and
-// what waits there, in a file of its own, with a branch here.
+// what waits there, and of the registers if it works with them, with a branch here.
 use crate::diploid_cases;
 use crate::kernel_cases;
 use crate::kernel_cases::Kernel;
+use crate::registers::Answered;
+use crate::registers::Registers;
+use crate::step_cases;
+use crate::trio_cases;
 use crate::words;
 use crate::words::Cursor;
 use crate::write;
@@ -26,11 +30,28 @@ const KEY: u64 = 0x6b6579;
 
 const DIPLOID: u64 = 0x6469706c6f6964;
 
-// The answer to a line, without its newline.
-pub fn answer(line: &[u8], text: &mut Text, out: Out) -> Out {
-    let at = words::word_end(line, 0);
-    let name = words::packed(&line[..at]);
-    let c = Cursor { at };
+const MENDEL: u64 = 0x6d656e64656c;
+
+const SAMPLE: u64 = 0x73616d706c65;
+
+const CALL: u64 = 0x63616c6c;
+
+const OPEN: u64 = 0x6f70656e;
+
+const PART: u64 = 0x70617274;
+
+const COPY: u64 = 0x636f7079;
+
+const ROW: u64 = 0x726f77;
+
+const MERGE: u64 = 0x6d65726765;
+
+const CLOSE: u64 = 0x636c6f7365;
+
+const SHOW: u64 = 0x73686f77;
+
+// The answer to a kind that asks no register.
+fn plain(name: u64, line: &[u8], c: Cursor, text: &mut Text, out: Out) -> Out {
     match name {
         LN => kernel_cases::of_float(Kernel::Ln, line, c, text, out),
         EXP => kernel_cases::of_float(Kernel::Exp, line, c, text, out),
@@ -40,6 +61,29 @@ pub fn answer(line: &[u8], text: &mut Text, out: Out) -> Out {
         BINOMIAL => kernel_cases::binomial(line, c, text, out),
         KEY => kernel_cases::key(line, c, text, out),
         DIPLOID => diploid_cases::diploid(line, c, text, out),
+        MENDEL => trio_cases::mendel(line, c, text, out),
+        SAMPLE => trio_cases::sample(line, c, text, out),
+        CALL => trio_cases::call(line, c, text, out),
         _ => write::unread(text, out),
+    }
+}
+
+// The answer to a line, without its newline, and the registers after it.
+pub fn answer(line: &[u8], text: &mut Text, out: Out, registers: Registers) -> Answered {
+    let at = words::word_end(line, 0);
+    let name = words::packed(&line[..at]);
+    let c = Cursor { at };
+    match name {
+        OPEN => step_cases::open(line, c, text, out, registers),
+        PART => step_cases::part(line, c, text, out, registers),
+        COPY => step_cases::copy(line, c, text, out, registers),
+        ROW => step_cases::row(line, c, text, out, registers),
+        MERGE => step_cases::merge(line, c, text, out, registers),
+        CLOSE => step_cases::close(line, c, text, out, registers),
+        SHOW => step_cases::show(line, c, text, out, registers),
+        _ => Answered {
+            out: plain(name, line, c, text, out),
+            registers,
+        },
     }
 }

@@ -2,15 +2,19 @@
 ghost use Prim.Native.Nat.{_≤_};
 ghost use lib.ListN.{length};
 use crate::kinds;
+use crate::registers;
+use crate::registers::Answered;
+use crate::registers::Registers;
 use crate::write;
 use crate::write::Out;
 use crate::write::Text;
 
-// What is kept between two pieces: how many bytes of an unended line have come, and the answers that wait.
+// What is kept between two pieces: how many bytes of an unended line have come, the answers that wait, and the registers.
 // A line that does not fit the buffer counts as one byte more than the buffer has, however long it is.
 pub struct Held {
     pub count: usize,
     pub out: Out,
+    pub registers: Registers,
 }
 
 // How far a piece was read for one line, and how many bytes that line has then.
@@ -23,6 +27,7 @@ pub fn nothing_held() -> Held {
     Held {
         count: 0,
         out: write::empty(),
+        registers: registers::zeros(),
     }
 }
 
@@ -50,13 +55,26 @@ fn gather(piece: &[u8], from: usize, line: &mut [u8], count: usize) -> Gathered
 }
 
 // Answers a line that has ended.
-fn answered(line: &[u8], count: usize, text: &mut Text, out: Out) -> Out {
+fn answered(
+    line: &[u8],
+    count: usize,
+    text: &mut Text,
+    out: Out,
+    registers: Registers,
+) -> Answered {
     if line.len() < count {
         let refused = write::unread(text, out);
-        return write::end_line(text, refused);
+        return Answered {
+            out: write::end_line(text, refused),
+            registers,
+        };
     }
-    let answer = kinds::answer(&line[..count], text, out);
-    write::end_line(text, answer)
+    let answer = kinds::answer(&line[..count], text, out, registers);
+    let after = answer.registers;
+    Answered {
+        out: write::end_line(text, answer.out),
+        registers: after,
+    }
 }
 
 // Takes the next piece of the input.
@@ -64,25 +82,40 @@ pub fn feed(piece: &[u8], line: &mut [u8], text: &mut Text, held: Held) -> Held 
     let mut i = 0;
     let mut count = held.count;
     let mut out = held.out;
+    let mut registers = held.registers;
     while i < piece.len() {
         let g = gather(piece, i, line, count);
         let at = g.at;
         count = g.count;
         if piece.len() <= at {
-            return Held { count, out };
+            return Held {
+                count,
+                out,
+                registers,
+            };
         }
-        out = answered(line, count, text, out);
+        let answer = answered(line, count, text, out, registers);
+        out = answer.out;
+        registers = answer.registers;
         count = 0;
         i = at + 1;
     }
-    Held { count, out }
+    Held {
+        count,
+        out,
+        registers,
+    }
 }
 
 // The input has ended: a last line without its newline is answered too, and what waits is written.
 pub fn end(line: &[u8], text: &mut Text, held: Held) {
-    let mut out = held.out;
-    if held.count > 0 {
-        out = answered(line, held.count, text, out);
+    let count = held.count;
+    let out = held.out;
+    let registers = held.registers;
+    if count > 0 {
+        let last = answered(line, count, text, out, registers);
+        write::flush(text, last.out);
+        return;
     }
     write::flush(text, out);
 }

@@ -3,6 +3,10 @@ mod diploid_cases;
 mod kernel_cases;
 mod kinds;
 mod lines;
+mod lists;
+mod registers;
+mod step_cases;
+mod trio_cases;
 mod words;
 mod write;
 

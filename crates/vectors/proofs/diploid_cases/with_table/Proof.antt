@@ -5,11 +5,11 @@ use borrow.Author.Needs.{needs}
 use Rattle.vectors.proofs.diploid_cases.with_table.Statement.{statement}
 use Rattle.vectors.proofs.diploid_cases.with_table.Tie as tie
 
-slice-aggregate-read-list : tie.Need-slice-aggregate-read-list
-slice-aggregate-read-list c = search needs
+slice-aggregate-read-float-list : tie.Need-slice-aggregate-read-float-list
+slice-aggregate-read-float-list c = search needs
 
-read-list-requires : tie.Need-read-list-requires
-read-list-requires c κs = search needs
+read-float-list-requires : tie.Need-read-float-list-requires
+read-float-list-requires c κs = search needs
 
 enum-known-n : tie.Need-enum-known-n
 enum-known-n c = search needs
@@ -45,8 +45,8 @@ pub with-table-spec : {M : Type 1} → statement M
 with-table-spec =
     tie.close
     (tie.spec
-    slice-aggregate-read-list
-    read-list-requires
+    slice-aggregate-read-float-list
+    read-float-list-requires
     enum-known-n
     enum-told
     unread-requires

@@ -7,10 +7,10 @@ use Rattle.vectors.proofs.lines.feed.Statement.{statement}
 use Rattle.vectors.proofs.lines.feed.Tie as tie
 
 abbrev Inv-loop : tie.InvT-loop
-Inv-loop piece line₀ text₀ i₀ count₀ out₀ line text i count out = (i ≤ length piece) × (length line ≡ length line₀)
+Inv-loop piece line₀ text₀ i₀ count₀ out₀ registers₀ line text i count out registers = (i ≤ length piece) × (length line ≡ length line₀)
 
 abbrev μ-loop : tie.MeasureT-loop
-μ-loop piece line₀ text₀ i₀ count₀ out₀ line text i count out = length piece - i
+μ-loop piece line₀ text₀ i₀ count₀ out₀ registers₀ line text i count out registers = length piece - i
 
 loop-holds : tie.Need-loop-holds Inv-loop μ-loop
 loop-holds c = search needs

@@ -1,22 +1,22 @@
--- `vectors::diploid_cases::read_floats` is safe and ends: its place in the list rises with each turn. Assumes nothing.
+-- `vectors::lists::read_counts` is safe and ends: its place in the list rises with each turn. Assumes nothing.
 use Prim.Native.Nat.{_≤_, _-_}
 use mathlib.Core.Path.{_≡_}
 use lib.ListN.{length}
 use borrow.Author.Needs.{needs}
-use Rattle.vectors.proofs.diploid_cases.read_floats.Statement.{statement}
-use Rattle.vectors.proofs.diploid_cases.read_floats.Tie as tie
+use Rattle.vectors.proofs.lists.read_counts.Statement.{statement}
+use Rattle.vectors.proofs.lists.read_counts.Tie as tie
 
 abbrev Inv-loop : tie.InvT-loop
-Inv-loop line n floats₀ at₀ i₀ floats at i = (i ≤ n) × (length floats ≡ length floats₀)
+Inv-loop line n counts₀ at₀ i₀ counts at i = (i ≤ n) × (length counts ≡ length counts₀)
 
 abbrev μ-loop : tie.MeasureT-loop
-μ-loop line n floats₀ at₀ i₀ floats at i = n - i
+μ-loop line n counts₀ at₀ i₀ counts at i = n - i
 
 loop-holds : tie.Need-loop-holds Inv-loop μ-loop
 loop-holds c = search needs
 
-read-float-requires : tie.Need-read-float-requires Inv-loop μ-loop
-read-float-requires c κs = search needs
+read-u32-requires : tie.Need-read-u32-requires Inv-loop μ-loop
+read-u32-requires c κs = search needs
 
 enum-known-x : tie.Need-enum-known-x Inv-loop μ-loop
 enum-known-x c = search needs
@@ -30,11 +30,11 @@ same-length c = search needs
 returns : tie.Need-returns Inv-loop μ-loop
 returns c = search needs
 
-mul-floats : tie.Need-mul-floats Inv-loop μ-loop
-mul-floats c = search needs
+mul-counts : tie.Need-mul-counts Inv-loop μ-loop
+mul-counts c = search needs
 
-slice-write-floats : tie.Need-slice-write-floats Inv-loop μ-loop
-slice-write-floats c = search needs
+slice-write-counts : tie.Need-slice-write-counts Inv-loop μ-loop
+slice-write-counts c = search needs
 
 add-i : tie.Need-add-i Inv-loop μ-loop
 add-i c = search needs
@@ -51,20 +51,20 @@ same-length-2 c = search needs
 returns-2 : tie.Need-returns-2 Inv-loop μ-loop
 returns-2 c = search needs
 
-pub read-floats-spec : {M : Type 1} → statement M
-read-floats-spec =
+pub read-counts-spec : {M : Type 1} → statement M
+read-counts-spec =
     tie.close
     (tie.spec
     Inv-loop
     μ-loop
     loop-holds
-    read-float-requires
+    read-u32-requires
     enum-known-x
     enum-told
     same-length
     returns
-    mul-floats
-    slice-write-floats
+    mul-counts
+    slice-write-counts
     add-i
     loop-less
     loop-again
