@@ -1,6 +1,7 @@
 -- What a trio's answers obey: scores are numbers, every history of parts keeps its promises, and what closing a forged part means.
 pub mod TripleLaws
 pub mod ChildPairLaws
+pub mod Every
 pub mod SampleBounds
 pub mod ScoreBounds
 pub mod Inputs

@@ -1,21 +1,21 @@
 -- Within the limits an animal with reads has a finite score under every genotype, at most 2 ^ 40 in size; one without reads has minus infinity.
 -- Assumes nothing.
 use Prim.Native.Nat.{ℕ, zero, suc, _+_, _-_, _*_, _^_, _≤_, _<_}
-use native.Mathlib.Nat.{add-zero, add-suc, suc-add, zero-add, zero-mul, suc-mul, le-refl, eq-or-lt-of-le, eq-zero-or-pos}
+use native.Mathlib.Nat.{add-zero, zero-mul, suc-mul, le-refl, lt-irrefl, eq-or-lt-of-le, eq-zero-or-pos}
 use native.Mathlib.Omega.{arith}
-use mathlib.Core.Path.{_≡_, refl, sym, ap, subst}
+use mathlib.Core.Path.{_≡_, refl, sym, subst}
 use mathlib.Core.Bool.{Bool, true, false, not, _&&_, _||_, and-false}
 use mathlib.Core.Logic.{⊎-elim}
-use mathlib.Core.List.{List, [], _∷_, _++_, map}
-use borrow.Author.Tests.{eq-eqb, ne-eqb, le-ltb}
-use lib.Dec.{T, eqb, ltb, lit≤, lit<}
+use mathlib.Core.List.{List, _++_, map}
+use borrow.Author.Tests.{le-ltb}
+use lib.Dec.{T, ltb, lit≤, lit<}
 use lib.IntN.{pos}
 use lib.ListN.{getD}
 use lib.Ieee.{Float, nan, inf, binary64, sum as sumOf, add, sub, div, neg, lt, le, eq, round, ofInt, fits}
 use lib.Ieee.Fits.{and-l, and-r, add-fits, sub-fits, div-fits}
 use lib.Ieee.Scale.{finite}
 use lib.Ieee.Positive.{positive}
-use Rattle.floats.specs.F64.{_⊕_, _⊖_, _⊗_, _⊘_, nat, decimal}
+use Rattle.floats.specs.F64.{_⊕_, _⊖_, _⊘_, nat, decimal}
 use Rattle.floats.specs.Within.{Within, NotBelow, Low, least, finite-low}
 use Rattle.floats.proofs.Floats.{eqb-zero}
 use Rattle.floats.proofs.Bounds.{within-more, within-whole, within-fraction, within-add, above-fraction, above-add}
@@ -29,33 +29,7 @@ use Rattle.trio.specs.Samples.{upFrom, clusters, reads, sum, columnTotal, sumFr
 use Rattle.trio.specs.Part.{weightAllowed}
 use Rattle.trio.proofs.SampleLaws.{count-at-most}
 use Rattle.desks.specs.Accepted.{Accepted}
-
--- ---- a test that every element of a list passes
-
-abbrev pub every : {A : Type 0} → (A → Bool) → List A → Bool
-every f [] = true
-every f (x ∷ l) = f x && every f l
-
-every-at : {A : Type 0} (f : A → Bool) (l : List A) (k : ℕ) (d : A) → T (every f l) → T (f d) → T (f (getD l k d))
-every-at f [] k d h e = e
-every-at f (x ∷ l) zero d h e = and-l (f x) (every f l) h
-every-at f (x ∷ l) (suc k) d h e = every-at f l k d (and-r (f x) (every f l) h) e
-
-none : (d : ℕ) → d < 0 → ⊥
-none d h = omega arith
-
-every-up : (f : ℕ → Bool) (i m d : ℕ) → T (every f (upFrom i m)) → d < m → T (f (i + d))
-every-up f i zero d h l = absurd (none d l)
-every-up f i (suc m) zero h l = rw add-zero (and-l (f i) (every f (upFrom (suc i) m)) h)
-every-up f i (suc m) (suc d) h l =
-    let k : d < m = omega arith in
-    rw (add-suc, ← suc-add) (every-up f (suc i) m d (and-r (f i) (every f (upFrom (suc i) m)) h) k)
-
-pub every-between : (f : ℕ → Bool) (i m d : ℕ) → T (every f (upFrom i m)) → i ≤ d → d < i + m → T (f d)
-every-between f i m d h l u =
-    let e : i + (d - i) ≡ d = omega arith in
-    let k : d - i < m = omega arith in
-    rw e at (every-up f i m (d - i) h k)
+use Rattle.desks.proofs.Every.{every, every-at, every-between}
 
 -- ---- the divided expectations: with two clusters or more each lies between 0 and 1
 
@@ -63,9 +37,13 @@ every-between f i m d h l u =
 abbrev share : ℕ → Pair → ℕ → Float
 share n h c = expectation h c ⊘ expectationTotal n h
 
--- p and 1 − p are above zero, also by the tests of `logBinomial`
+-- the test of `logBinomial`
+abbrev atEnd : Float → Bool
+atEnd p = le p (nat 0) || le (nat 1) p
+
+-- p and 1 − p are above zero, also by that test
 abbrev inside : Float → Bool
-inside p = positive p && (positive (nat 1 ⊖ p) && not (le p (nat 0) || le (nat 1) p))
+inside p = positive p && (positive (nat 1 ⊖ p) && not (atEnd p))
 
 abbrev sharesInside : ℕ → Pair → Bool
 sharesInside n h = every (λ (c : ℕ). inside (share n h c)) (clusters n)
@@ -77,7 +55,7 @@ all-inside = tt
 
 every-genotype : (f : Pair → Bool) (n k : ℕ) → 1 ≤ n → T (every f (genotypes n)) → T (f (genotypeAt n k))
 unfolding genotypeAt
-every-genotype f zero k l h = absurd (none 0 l)
+every-genotype f zero k l h = absurd (lt-irrefl 0 l)
 every-genotype f (suc n) k l h = every-at f (genotypes (suc n)) k (pair 0 0) h (and-l (f (pair 0 0)) (every f (pairsWith 0 1 n ++ pairsFrom 1 n)) h)
 
 share-inside : (n k c : ℕ) → 2 ≤ n → n ≤ 8 → c < n → T (inside (share n (genotypeAt n k) c))
@@ -106,11 +84,12 @@ off false h = refl
 inside-within : (k n : ℕ) (p : Float) → k ≤ n → n < 2 ^ 23 → T (fits binary64 p) → T (inside p) → Within (2 ^ 36) (logBinomial k n p)
 unfolding logBinomial
 inside-within k n p h l f t =
-    let rest = and-r (positive p) (positive (nat 1 ⊖ p) && not (le p (nat 0) || le (nat 1) p)) t in
-    let between = off (le p (nat 0) || le (nat 1) p) (and-r (positive (nat 1 ⊖ p)) (not (le p (nat 0) || le (nat 1) p)) rest) in
-    let first = within-ln p f (and-l (positive p) (positive (nat 1 ⊖ p) && not (le p (nat 0) || le (nat 1) p)) t) in
-    let second = within-ln (nat 1 ⊖ p) (sub-fits binary64 (nat 1) p) (and-l (positive (nat 1 ⊖ p)) (not (le p (nat 0) || le (nat 1) p)) rest) in
-    rw between (within-add (term-within k (lnOf p) (omega arith) first) (term-within (n - k) (lnOf (nat 1 ⊖ p)) (omega arith) second) (lit≤ tt))
+    let q = nat 1 ⊖ p in
+    let rest = and-r (positive p) (positive q && not (atEnd p)) t in
+    let first = within-ln p f (and-l (positive p) (positive q && not (atEnd p)) t) in
+    let second = within-ln q (sub-fits binary64 (nat 1) p) (and-l (positive q) (not (atEnd p)) rest) in
+    rw (off (atEnd p) (and-r (positive q) (not (atEnd p)) rest))
+    (within-add (term-within k (lnOf p) (omega arith) first) (term-within (n - k) (lnOf q) (omega arith) second) (lit≤ tt))
 
 -- all of them at 1
 whole-within : (k : ℕ) → Within (2 ^ 36) (logBinomial k k (nat 1))
@@ -120,7 +99,10 @@ whole-within k = rw (le-ltb k k (le-refl k), and-false (ltb 0 k)) (within-whole 
 one-cluster-within : (counts : List ℕ) (s k c : ℕ) → c < 1 → Within (2 ^ 36) (logBinomial (reads counts s c) (columnTotal 1 counts s) (share 1 (genotypeAt 1 k) c))
 unfolding columnTotal
 one-cluster-within counts s k zero h = rw (only-genotype k, share-whole, add-zero) (whole-within (reads counts s 0))
-one-cluster-within counts s k (suc c) h = absurd (none c (omega arith))
+one-cluster-within counts s k (suc c) h = absurd (no-more c h)
+  where
+    no-more : (c : ℕ) → suc c < 1 → ⊥
+    no-more c h = omega arith
 
 -- ---- the logarithm of a weight
 

@@ -1,12 +1,11 @@
 -- Within the limits no score is a NaN or plus infinity: it is finite where every animal has reads, and minus infinity where one has none.
 -- Assumes nothing.
-use Prim.Native.Nat.{ℕ, zero, suc, suc-le-suc, _/_, _%_, _^_, _≤_, _<_}
+use Prim.Native.Nat.{ℕ, zero, suc, suc-le-suc, _/_, _%_, _^_, _<_}
 use native.Mathlib.Omega.{arith}
 use mathlib.Core.Path.{_≡_, refl, subst, _∙_}
 use mathlib.Core.Bool.{Bool, true, false, cond}
 use mathlib.Core.List.{List}
 use lib.Dec.{T, lit≤, lit<}
-use lib.IntN.{pos}
 use lib.ListN.{length}
 use lib.Ieee.{Float, inf, binary64, add, round, isNan, fits, div, ofInt}
 use lib.Ieee.Fits.{round-fits, add-fits, div-fits}
@@ -14,7 +13,7 @@ use lib.Ieee.Scale.{finite}
 use lib.Ieee.Positive.{positive}
 use Rattle.floats.specs.F64.{_⊕_, _⊘_, nat, decimal}
 use Rattle.floats.specs.Within.{Within, Low, least, finite-low}
-use Rattle.floats.proofs.Bounds.{within-more, within-whole, within-add, within-div, above-whole, above-fraction, low-number, low-more, low-add, least-left, least-right}
+use Rattle.floats.proofs.Bounds.{within-more, within-add, above-fraction, low-number, low-more, low-add, least-left, least-right}
 use Rattle.kernels.specs.Ln.{lnOf}
 use Rattle.kernels.proofs.LnBounds.{within-ln}
 use Rattle.trio.specs.declared.genotypes.Pair.{Pair}
@@ -23,8 +22,9 @@ use Rattle.trio.specs.Mendel.{ordered, among, childPairs, mendelTerm}
 use Rattle.trio.specs.Samples.{upFrom, columnTotal, sampleScore}
 use Rattle.trio.specs.Score.{tripleScore, scoreOf}
 use Rattle.desks.specs.Accepted.{Accepted}
+use Rattle.desks.proofs.Every.{every, every-between}
 use Rattle.desks.proofs.ChildPairLaws.{child-pairs-few}
-use Rattle.desks.proofs.SampleBounds.{every, every-between, sample-least, sample-within, sample-low}
+use Rattle.desks.proofs.SampleBounds.{sample-least, sample-within, sample-low}
 
 -- ---- the Mendelian term
 
@@ -33,9 +33,9 @@ reciprocals-positive : T (every (λ (d : ℕ). positive (nat 1 ⊘ nat d)) (upFr
 unfolding round ofInt div
 reciprocals-positive = tt
 
-pub term-within : (c f m : Pair) → Within (2 ^ 12) (mendelTerm c f m)
+pub mendel-within : (c f m : Pair) → Within (2 ^ 12) (mendelTerm c f m)
 unfolding mendelTerm
-term-within c f m = go (among (ordered (c .low) (c .high)) (childPairs f m))
+mendel-within c f m = go (among (ordered (c .low) (c .high)) (childPairs f m))
   where
     d : ℕ
     d = length (childPairs f m)
@@ -62,6 +62,9 @@ low-not-plus : {n : ℕ} {x : Float} → Low n x → x ≡ inf false → ⊥
 low-not-plus least e = let z : _≡_ {A = ℕ} 0 1 = cc in omega arith
 low-not-plus (finite-low w) e = subst (λ (y : Float). T (finite y)) e (w .is-finite)
 
+no-column : (s : ℕ) → suc (suc (suc s)) < 3 → ⊥
+no-column s h = omega arith
+
 -- ---- the score at a position
 
 module _ (n : ℕ) (counts : List ℕ) (weights : List Float) (a : Accepted n counts weights) (p : ℕ) where
@@ -71,6 +74,9 @@ module _ (n : ℕ) (counts : List ℕ) (weights : List Float) (a : Accepted n co
 
   low : (s k : ℕ) → s < 3 → Low (2 ^ 40) (of s k)
   low s k h = sample-low n counts weights a s h k
+
+  none : (s k : ℕ) → columnTotal n counts s ≡ 0 → of s k ≡ inf true
+  none s k z = sample-least n counts weights s (genotypeAt n k) z
 
   abbrev child : ℕ
   child = p % genotypeCount n
@@ -84,38 +90,18 @@ module _ (n : ℕ) (counts : List ℕ) (weights : List Float) (a : Accepted n co
   abbrev term : Float
   term = mendelTerm (genotypeAt n child) (genotypeAt n father) (genotypeAt n mother)
 
+  heredity : Within (2 ^ 12) term
+  heredity = mendel-within (genotypeAt n child) (genotypeAt n father) (genotypeAt n mother)
+
   score-is : scoreOf n counts weights p ≡ of 1 father ⊕ of 2 mother ⊕ of 0 child ⊕ term
   unfolding tripleScore tripleAt
   score-is = refl
 
+  parents-low : Low (2 ^ 41) (of 1 father ⊕ of 2 mother)
+  parents-low = low-add (low 1 father (lit< tt)) (low 2 mother (lit< tt)) (lit≤ tt)
+
   pub score-low : Low (2 ^ 42) (scoreOf n counts weights p)
-  score-low =
-      let parents = low-add (low 1 father (lit< tt)) (low 2 mother (lit< tt)) (lit≤ tt) in
-      rw score-is (low-more (low-add (low-add parents (low 0 child (lit< tt)) (lit≤ tt)) (finite-low (term-within (genotypeAt n child) (genotypeAt n father) (genotypeAt n mother))) (lit≤ tt)) (lit≤ tt))
-
-  -- every animal has reads
-  pub score-within : ((s : ℕ) → s < 3 → 0 < columnTotal n counts s) → Within (2 ^ 42) (scoreOf n counts weights p)
-  score-within read =
-      let within : (s k : ℕ) → s < 3 → Within (2 ^ 40) (of s k) = λ s k h. sample-within n counts weights a s h k (read s h) in
-      let parents = within-add (within 1 father (lit< tt)) (within 2 mother (lit< tt)) (lit≤ tt) in
-      rw score-is (within-more (within-add (within-add parents (within 0 child (lit< tt)) (lit≤ tt)) (term-within (genotypeAt n child) (genotypeAt n father) (genotypeAt n mother)) (lit≤ tt)) (lit≤ tt))
-
-  none-read : (s k : ℕ) → columnTotal n counts s ≡ 0 → of s k ≡ inf true
-  none-read s k z = sample-least n counts weights s (genotypeAt n k) z
-
-  no-column : (s : ℕ) → suc (suc (suc s)) < 3 → ⊥
-  no-column s h = omega arith
-
-  -- some animal has none
-  pub unread-least : (s : ℕ) → s < 3 → columnTotal n counts s ≡ 0 → scoreOf n counts weights p ≡ inf true
-  unread-least zero h z =
-      let parents = low-add (low 1 father (lit< tt)) (low 2 mother (lit< tt)) (lit≤ tt) in
-      score-is ∙ rw (none-read 0 child z, swallowed parents, swallows (finite-low (term-within (genotypeAt n child) (genotypeAt n father) (genotypeAt n mother))))
-  unread-least (suc zero) h z =
-      score-is ∙ rw (none-read 1 father z, swallows (low 2 mother (lit< tt)), swallows (low 0 child (lit< tt)), swallows (finite-low (term-within (genotypeAt n child) (genotypeAt n father) (genotypeAt n mother))))
-  unread-least (suc (suc zero)) h z =
-      score-is ∙ rw (none-read 2 mother z, swallowed (low 1 father (lit< tt)), swallows (low 0 child (lit< tt)), swallows (finite-low (term-within (genotypeAt n child) (genotypeAt n father) (genotypeAt n mother))))
-  unread-least (suc (suc (suc s))) h z = absurd (no-column s h)
+  score-low = rw score-is (low-more (low-add (low-add parents-low (low 0 child (lit< tt)) (lit≤ tt)) (finite-low heredity) (lit≤ tt)) (lit≤ tt))
 
   pub score-number : isNan (scoreOf n counts weights p) ≡ false
   score-number = low-number score-low
@@ -126,3 +112,17 @@ module _ (n : ℕ) (counts : List ℕ) (weights : List Float) (a : Accepted n co
   -- it is an f64, since it is a sum
   pub score-fits : T (fits binary64 (scoreOf n counts weights p))
   score-fits = rw score-is (add-fits binary64 (of 1 father ⊕ of 2 mother ⊕ of 0 child) term)
+
+  -- every animal has reads
+  pub score-within : ((s : ℕ) → s < 3 → 0 < columnTotal n counts s) → Within (2 ^ 42) (scoreOf n counts weights p)
+  score-within read =
+      let within : (s k : ℕ) → s < 3 → Within (2 ^ 40) (of s k) = λ s k h. sample-within n counts weights a s h k (read s h) in
+      let parents = within-add (within 1 father (lit< tt)) (within 2 mother (lit< tt)) (lit≤ tt) in
+      rw score-is (within-more (within-add (within-add parents (within 0 child (lit< tt)) (lit≤ tt)) heredity (lit≤ tt)) (lit≤ tt))
+
+  -- some animal has none: the sums swallow the rest
+  pub unread-least : (s : ℕ) → s < 3 → columnTotal n counts s ≡ 0 → scoreOf n counts weights p ≡ inf true
+  unread-least zero h z = score-is ∙ rw (none 0 child z, swallowed parents-low, swallows (finite-low heredity))
+  unread-least (suc zero) h z = score-is ∙ rw (none 1 father z, swallows (low 2 mother (lit< tt)), swallows (low 0 child (lit< tt)), swallows (finite-low heredity))
+  unread-least (suc (suc zero)) h z = score-is ∙ rw (none 2 mother z, swallowed (low 1 father (lit< tt)), swallows (low 0 child (lit< tt)), swallows (finite-low heredity))
+  unread-least (suc (suc (suc s))) h z = absurd (no-column s h)

@@ -1,11 +1,17 @@
--- The clusters that a loop has still to walk, and that a count is at most its column's sum. Assumes nothing.
-use mathlib.Core.Path.{_≡_}
+-- The clusters that a loop has still to walk; that a count is at most its column's sum; that the clusters of a kind have one share. Assumes nothing.
+use mathlib.Core.Path.{_≡_, refl, sym, ap, _∙_}
+use mathlib.Core.Bool.{Bool, true, false, cond, _&&_, _||_}
 use mathlib.Core.List.{List, [], _∷_, map}
 use Prim.Native.Nat.{ℕ, zero, suc, _+_, _-_, _≤_, _<_}
 use native.Mathlib.Nat.{zero-add, add-zero, add-suc, suc-add}
 use native.Mathlib.Numerals.{add-one}
 use native.Mathlib.Omega.{arith}
-use Rattle.trio.specs.Samples.{upFrom, sum, reads, columnTotal}
+use borrow.Author.Tests.{eq-eqb, ne-eqb, eqb-true, eqb-false}
+use lib.Dec.{eqb}
+use lib.Ieee.{Float}
+use Rattle.floats.specs.F64.{_⊘_, nat, decimal}
+use Rattle.trio.specs.declared.genotypes.Pair.{Pair}
+use Rattle.trio.specs.Samples.{upFrom, sum, reads, columnTotal, named, expectation, withLogs}
 
 pub up-next : (c n : ℕ) → c < n → upFrom c (n - c) ≡ c ∷ upFrom (c + 1) (n - (c + 1))
 up-next c n h = let one : n - c ≡ suc (n - (c + 1)) = omega arith in rw (one, add-one)
@@ -28,3 +34,21 @@ part-at-most f i (suc m) (suc d) h =
 pub count-at-most : (n : ℕ) (counts : List ℕ) (s c : ℕ) → c < n → reads counts s c ≤ columnTotal n counts s
 unfolding columnTotal
 count-at-most n counts s c h = rw zero-add at (part-at-most (reads counts s) 0 n c h)
+
+expectation-by : (h : Pair) (c : ℕ) (a b : Bool) → eqb c (h .low) ≡ a → eqb c (h .high) ≡ b → expectation h c ≡ cond (a && b) (nat 1) (cond (a || b) (decimal 5 1) (decimal 1 3))
+unfolding expectation
+expectation-by h c a b e f = rw (e, f)
+
+-- every cluster that h names has the share of its lower one, and the others have one share too
+pub share-by-kind : (h : Pair) (c : ℕ) (t : Float) → cond (named h c) (withLogs (expectation h (h .low) ⊘ t)) (withLogs (decimal 1 3 ⊘ t)) ≡ withLogs (expectation h c ⊘ t)
+share-by-kind h c t = go (eqb c (h .low)) (eqb c (h .high)) refl refl
+  where
+    same : {x y : Float} → x ≡ y → withLogs (x ⊘ t) ≡ withLogs (y ⊘ t)
+    same e = ap (λ (z : Float). withLogs (z ⊘ t)) e
+
+    go : (a b : Bool) → eqb c (h .low) ≡ a → eqb c (h .high) ≡ b → cond (a || b) (withLogs (expectation h (h .low) ⊘ t)) (withLogs (decimal 1 3 ⊘ t)) ≡ withLogs (expectation h c ⊘ t)
+    go true b e f = same (ap (expectation h) (sym (eqb-true c (h .low) e)))
+    go false true e f =
+        let apart = ne-eqb (h .low) (h .high) (λ k. eqb-false c (h .low) e (eqb-true c (h .high) f ∙ sym k)) in
+        same (expectation-by h (h .low) true false (eq-eqb (h .low) (h .low) refl) apart ∙ sym (expectation-by h c false true e f))
+    go false false e f = same (sym (expectation-by h c false false e f))

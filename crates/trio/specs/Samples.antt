@@ -9,6 +9,7 @@ use Rattle.floats.specs.F64.{_⊕_, _⊖_, _⊗_, _⊘_, nat, decimal}
 use Rattle.kernels.specs.Ln.{lnOf}
 use Rattle.trio.specs.declared.genotypes.Pair.{Pair}
 use Rattle.trio.specs.declared.samples.Sample.{Sample}
+use Rattle.trio.specs.declared.samples.Share.{Share}
 use Rattle.trio.specs.declared.samples.Sample.the-variants.{Child, Father, Mother}
 
 -- the column of an animal
@@ -53,11 +54,13 @@ logBinomial k n p =
     (cond (impossibleAt k n p) (inf true) (nat 0))
     (nat k ⊗ lnOf p ⊕ nat (n - k) ⊗ lnOf (nat 1 ⊖ p))
 
+-- an allele names the cluster
+abbrev pub named : Pair → ℕ → Bool
+named h c = eqb c (h .low) || eqb c (h .high)
+
 -- 1 where both alleles name the cluster, 0.5 where one does, else 0.001
 unfoldable pub expectation : Pair → ℕ → Float
-expectation h c =
-    cond (eqb c (h .low) && eqb c (h .high)) (nat 1)
-    (cond (eqb c (h .low) || eqb c (h .high)) (decimal 5 1) (decimal 1 3))
+expectation h c = cond (eqb c (h .low) && eqb c (h .high)) (nat 1) (cond (named h c) (decimal 5 1) (decimal 1 3))
 
 -- their sum in cluster order
 unfoldable pub expectationTotal : ℕ → Pair → Float
@@ -72,3 +75,9 @@ clusterTerm n counts weights s h c =
 unfoldable pub sampleScore : ℕ → List ℕ → List Float → ℕ → Pair → Float
 sampleScore n counts weights s h =
     cond (eqb (columnTotal n counts s) 0) (inf true) (sumFrom (nat 0) (map (clusterTerm n counts weights s h) (clusters n)))
+
+-- ---- for the code
+
+-- a probability with its logarithms
+abbrev pub withLogs : Float → Share
+withLogs p = record { p = p; log = lnOf p; rest = lnOf (nat 1 ⊖ p) }

@@ -1,7 +1,9 @@
 // How well a genotype explains the reads of one animal (docs/RULES.md, T2).
 ghost use mathlib.Core.Path.{_≡_};
+ghost use mathlib.Core.Bool.{cond};
 ghost use Prim.Native.Nat.{_^_, _≤_, _<_};
-ghost use Rattle.trio.specs.Samples.{sampleNumber, columnTotal, impossibleAt, logBinomial, expectation, expectationTotal, sampleScore};
+ghost use Rattle.floats.specs.F64.{_⊘_};
+ghost use Rattle.trio.specs.Samples.{sampleNumber, columnTotal, impossibleAt, logBinomial, named, expectation, expectationTotal, sampleScore, withLogs};
 use crate::genotypes::Pair;
 use kernels::ln::ln;
 
@@ -37,7 +39,7 @@ pub(crate) fn column_total(n: u64, counts: [u32; 24], s: u64) -> u64
     total
 }
 
-// Whether no k of n is possible at p: some at 0, or not all at 1.
+// Whether k among n cannot be at p: some at 0, or not all at 1.
 fn impossible(k: u64, n: u64, p: f64) -> bool
     ensures { λ r. ⌜ r ≡ impossibleAt k n p ⌝ }
 {
@@ -47,18 +49,37 @@ fn impossible(k: u64, n: u64, p: f64) -> bool
     k < n && p == 1.0
 }
 
-// The log probability of k among n at p, without its coefficient.
-fn log_binomial(k: u64, n: u64, p: f64) -> f64
-    requires { ⌜ (k ≤ n) × (n ≤ 2 ^ 35) ⌝ }
-    ensures { λ r. ⌜ r ≡ logBinomial k n p ⌝ }
+// A probability with the two logarithms that its log probability takes.
+struct Share {
+    p: f64,
+    log: f64,
+    rest: f64,
+}
+
+fn share_of(expected: f64, whole: f64) -> Share
+    ensures { λ r. ⌜ r ≡ withLogs (expected ⊘ whole) ⌝ }
 {
+    let p = expected / whole;
+    Share {
+        p,
+        log: ln(p),
+        rest: ln(1.0 - p),
+    }
+}
+
+// The log probability of k among n at a share, without its coefficient.
+fn log_binomial(k: u64, n: u64, share: Share) -> f64
+    requires { ⌜ (k ≤ n) × (n ≤ 2 ^ 35) × (share ≡ withLogs (share .p)) ⌝ }
+    ensures { λ r. ⌜ r ≡ logBinomial k n (share .p) ⌝ }
+{
+    let p = share.p;
     if p <= 0.0 || 1.0 <= p {
         if impossible(k, n, p) {
             return -1.0 / 0.0;
         }
         return 0.0;
     }
-    (k as f64) * ln(p) + ((n - k) as f64) * ln(1.0 - p)
+    (k as f64) * share.log + ((n - k) as f64) * share.rest
 }
 
 // How much of the reads cluster c should have under a genotype, before it is divided by the total.
@@ -77,6 +98,20 @@ fn expected(pair: Pair, c: u64) -> f64
     1e-3
 }
 
+// `called` for the clusters that a genotype names, `other` for the rest.
+fn either(pair: Pair, c: u64, called: Share, other: Share) -> Share
+    ensures { λ r. ⌜ r ≡ cond (named pair c) called other ⌝ }
+{
+    if c == pair.low {
+        return called;
+    }
+    if c == pair.high {
+        return called;
+    }
+    other
+}
+
+// The expectations of all clusters, summed in their order: the sum depends on where the alleles stand.
 fn expected_total(n: u64, pair: Pair) -> f64
     ensures { λ r. ⌜ r ≡ expectationTotal n pair ⌝ }
 {
@@ -89,7 +124,7 @@ fn expected_total(n: u64, pair: Pair) -> f64
     total
 }
 
-// The log likelihood of column s under a genotype.
+// The log likelihood of column s under a genotype. The clusters that it names have one share, all others another: logarithms are taken of these two.
 pub(crate) fn compute_log_likelihood(
     n: u64,
     counts: [u32; 24],
@@ -105,11 +140,13 @@ pub(crate) fn compute_log_likelihood(
         return -1.0 / 0.0;
     }
     let whole = expected_total(n, pair);
+    let called = share_of(expected(pair, pair.low), whole);
+    let other = share_of(1e-3, whole);
     let mut log_lik = 0.0;
     let mut c: u64 = 0;
     while c < n {
         let obs = counts[(3 * c + s) as usize] as u64;
-        let exp = expected(pair, c) / whole;
+        let exp = either(pair, c, called, other);
         let q = weights[c as usize];
         log_lik = log_lik + (log_binomial(obs, total, exp) + ln(q + 1e-3));
         c += 1;
