@@ -21,8 +21,8 @@ use Rattle.floats.proofs.Floats.{eqb-zero}
 use Rattle.floats.proofs.Bounds.{within-more, within-whole, within-fraction, within-add, above-fraction, above-add}
 use Rattle.floats.proofs.Ranges.{within-range, not-below-zero}
 use Rattle.kernels.specs.Ln.{lnOf}
-use Rattle.kernels.proofs.LnBounds.{within-ln}
-use Rattle.kernels.proofs.BinomialBounds.{term-within}
+use Rattle.bounds.proofs.LnBounds.{within-ln}
+use Rattle.bounds.proofs.BinomialBounds.{term-within}
 use Rattle.trio.specs.declared.genotypes.Pair.{Pair}
 use Rattle.trio.specs.Genotypes.{pair, pairsWith, pairsFrom, genotypes, genotypeAt}
 use Rattle.trio.specs.Samples.{upFrom, clusters, reads, sum, columnTotal, sumFrom, logBinomial, expectation, expectationTotal, clusterTerm, sampleScore}

@@ -15,7 +15,7 @@ use Rattle.floats.specs.F64.{_⊕_, _⊘_, nat, decimal}
 use Rattle.floats.specs.Within.{Within, Low, least, finite-low}
 use Rattle.floats.proofs.Bounds.{within-more, within-add, above-fraction, low-number, low-more, low-add, least-left, least-right}
 use Rattle.kernels.specs.Ln.{lnOf}
-use Rattle.kernels.proofs.LnBounds.{within-ln}
+use Rattle.bounds.proofs.LnBounds.{within-ln}
 use Rattle.trio.specs.declared.genotypes.Pair.{Pair}
 use Rattle.trio.specs.Genotypes.{rowWidth, genotypeCount, genotypeAt, tripleAt}
 use Rattle.trio.specs.Mendel.{ordered, among, childPairs, mendelTerm}

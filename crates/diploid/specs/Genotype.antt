@@ -9,23 +9,17 @@ use Rattle.floats.specs.F64.{nat}
 use Rattle.floats.specs.Key.{keyOf}
 use Rattle.refusals.specs.declared.Refusal.{Refusal}
 use Rattle.refusals.specs.declared.Refusal.the-variants.{Done, Count, Model as BadModel, Table}
-use Rattle.diploid.specs.declared.model.Model.{Model}
-use Rattle.diploid.specs.declared.scores.Scores.{Scores}
-use Rattle.diploid.specs.declared.genotype.State.{State}
-use Rattle.diploid.specs.declared.genotype.State.the-variants.{Ref, Het, Hom, Non}
+use Rattle.models.specs.declared.model.Model.{Model}
+use Rattle.qualities.specs.declared.scores.Scores.{Scores}
+use Rattle.models.specs.declared.state.State.{State}
+use Rattle.models.specs.declared.state.State.the-variants.{Ref, Het, Hom, Non}
 use Rattle.diploid.specs.declared.genotype.GenotypeResult.{GenotypeResult}
-use Rattle.diploid.specs.Allowed.{modelAllowed, tableAllowed, countAllowed}
-use Rattle.diploid.specs.Order.{Pick, larger, smaller}
+use Rattle.tables.specs.Tables.{tableAllowed}
+use Rattle.diploid.specs.Allowed.{modelAllowed, countAllowed}
+use Rattle.qualities.specs.Order.{Pick, larger, smaller}
 use Rattle.diploid.specs.Scores.{scoresOf}
-use Rattle.diploid.specs.Quality.{qualsOf}
-use Rattle.diploid.specs.Calibration.{calibrated}
-
--- the number of a state in the text forms
-abbrev pub stateNumber : State → ℕ
-stateNumber Ref = 0
-stateNumber Het = 1
-stateNumber Hom = 2
-stateNumber Non = 3
+use Rattle.qualities.specs.Quality.{qualsOf}
+use Rattle.tables.specs.Calibration.{calibrated}
 
 -- what it means to win: a key that is at least each earlier one's, and above each later one's
 pub data Wins (s : Scores) : State → Type 0 where

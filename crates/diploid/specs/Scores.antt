@@ -8,13 +8,13 @@ use lib.Ieee.{Float, nan}
 use Rattle.floats.specs.F64.{_⊕_, _⊖_, _⊗_, nat}
 use Rattle.kernels.specs.Ln.{lnOf}
 use Rattle.kernels.specs.Exp.{expOf}
-use Rattle.kernels.specs.Gamma.{lnGammaOf}
-use Rattle.kernels.specs.Binomial.{lnChoose, lnPmf}
-use Rattle.diploid.specs.declared.model.Mode.{Mode}
-use Rattle.diploid.specs.declared.model.Mode.the-variants.{Beta, Bino, Phased}
-use Rattle.diploid.specs.declared.model.Model.{Model}
-use Rattle.diploid.specs.declared.scores.Scores.{Scores}
-use Rattle.diploid.specs.Order.{Pick}
+use Rattle.gammas.specs.Gamma.{lnGammaOf}
+use Rattle.gammas.specs.Binomial.{lnChoose, lnPmf}
+use Rattle.models.specs.declared.model.Mode.{Mode}
+use Rattle.models.specs.declared.model.Mode.the-variants.{Beta, Bino, Phased}
+use Rattle.models.specs.declared.model.Model.{Model}
+use Rattle.qualities.specs.declared.scores.Scores.{Scores}
+use Rattle.qualities.specs.Order.{Pick}
 
 -- the parameters of a state, 0 Ref, 1 Het, 2 Hom
 abbrev pub fraction : Model → ℕ → Float

@@ -1,26 +1,9 @@
-// Whether a model and a calibration table are allowed. A NaN is in no range.
+// Whether a model and counts are allowed.
 ghost use mathlib.Core.Path.{_≡_};
-ghost use Rattle.diploid.specs.Allowed.{inRange, allIn, modelAllowed, neverFalling, entries, tableAllowed};
-use crate::model::Model;
-
-pub(crate) fn in_range(low: f64, high: f64, x: f64) -> bool
-    ensures { λ r. ⌜ r ≡ inRange low high x ⌝ }
-{
-    low <= x && x <= high
-}
-
-fn all_in(low: f64, high: f64, xs: &[f64]) -> bool
-    ensures { λ r. ⌜ r ≡ allIn low high (now (xs .entry)) ⌝ }
-{
-    let mut i = 0;
-    while i < xs.len() {
-        if !in_range(low, high, xs[i]) {
-            return false;
-        }
-        i += 1;
-    }
-    true
-}
+ghost use mathlib.Core.Bool.{_&&_};
+ghost use Rattle.diploid.specs.Allowed.{modelAllowed, countAllowed};
+use models::model::Model;
+use tables::ranges::all_in;
 
 pub(crate) fn model_allowed(model: Model) -> bool
     ensures { λ r. ⌜ r ≡ modelAllowed model ⌝ }
@@ -34,27 +17,14 @@ pub(crate) fn model_allowed(model: Model) -> bool
     all_in(1e-6, 0.999999, &means) && all_in(0.001, 1000000.0, &precisions)
 }
 
-fn never_falling(table: &[f64]) -> bool
-    ensures { λ r. ⌜ r ≡ neverFalling (entries (now (table .entry))) ⌝ }
+pub(crate) fn counts_allowed(reference: u32, alt1: u32, alt2: u32) -> bool
+    ensures { λ r. ⌜ r ≡ (countAllowed reference && (countAllowed alt1 && countAllowed alt2)) ⌝ }
 {
-    let mut i = 0;
-    while i + 3 < table.len() {
-        if !(table[i] <= table[i + 2]) {
-            return false;
-        }
-        i += 2;
-    }
-    true
-}
-
-pub(crate) fn table_allowed(table: &[f64]) -> bool
-    ensures { λ r. ⌜ r ≡ tableAllowed (now (table .entry)) ⌝ }
-{
-    if table.len() % 2 != 0 {
+    if reference > 1000000 {
         return false;
     }
-    if table.len() > 32 {
+    if alt1 > 1000000 {
         return false;
     }
-    all_in(0.0, 1000.0, table) && never_falling(table)
+    alt2 <= 1000000
 }

@@ -1,27 +1,20 @@
 // The diploid genotype at every input.
 ghost use mathlib.Core.Path.{_≡_};
-ghost use mathlib.Core.Bool.{_&&_};
 ghost use lib.Signed.{leZ};
 ghost use Rattle.floats.specs.Key.{keyOf};
-ghost use Rattle.diploid.specs.Allowed.{countAllowed};
-ghost use Rattle.diploid.specs.Order.{larger, smaller};
-ghost use Rattle.diploid.specs.Genotype.{stateNumber, winner, blank, called, genotypeOf};
+ghost use Rattle.qualities.specs.Order.{larger, smaller};
+ghost use Rattle.diploid.specs.Genotype.{winner, blank, called, genotypeOf};
+use crate::allowed::counts_allowed;
 use crate::allowed::model_allowed;
-use crate::allowed::table_allowed;
-use crate::calibration::calibrate_gq;
-use crate::model::Model;
-use crate::quality::genotype_quals;
-use crate::scores::Scores;
 use crate::scores::genotype_scores;
 use floats::key::key;
+use models::model::Model;
+use models::state::State;
+use qualities::quality::genotype_quals;
+use qualities::scores::Scores;
 use refusals::Refusal;
-
-pub enum State {
-    Ref,
-    Het,
-    Hom,
-    Non,
-}
+use tables::allowed::table_allowed;
+use tables::calibration::calibrate_gq;
 
 // The state, its quality gq and the sample quality sq, or a refusal with zeros.
 pub struct GenotypeResult {
@@ -29,18 +22,6 @@ pub struct GenotypeResult {
     pub state: State,
     pub gq: f64,
     pub sq: f64,
-}
-
-// The number by which callers in other languages and every text form know a state.
-pub fn state_number(state: State) -> u32
-    ensures { λ n. ⌜ n ≡ stateNumber state ⌝ }
-{
-    match state {
-        State::Ref => 0,
-        State::Het => 1,
-        State::Hom => 2,
-        State::Non => 3,
-    }
 }
 
 // The order of two scores, by their keys.
@@ -72,18 +53,6 @@ fn blank_answer(refusal: Refusal) -> GenotypeResult
         gq: 0.0,
         sq: 0.0,
     }
-}
-
-fn counts_allowed(reference: u32, alt1: u32, alt2: u32) -> bool
-    ensures { λ r. ⌜ r ≡ (countAllowed reference && (countAllowed alt1 && countAllowed alt2)) ⌝ }
-{
-    if reference > 1000000 {
-        return false;
-    }
-    if alt1 > 1000000 {
-        return false;
-    }
-    alt2 <= 1000000
 }
 
 // What the scores make: the cap stands before calibration, inside `genotype_quals`.

@@ -2,25 +2,19 @@
 ghost use mathlib.Core.Path.{_≡_};
 ghost use Prim.Native.Nat.{_+_, _<_, _≤_};
 ghost use Rattle.floats.specs.F64.{_⊕_, nat};
-ghost use Rattle.kernels.specs.Gamma.{lnGammaOf};
-ghost use Rattle.kernels.specs.Binomial.{lnChoose, lnPmf};
-ghost use Rattle.diploid.specs.Order.{larger};
+ghost use Rattle.gammas.specs.Gamma.{lnGammaOf};
+ghost use Rattle.gammas.specs.Binomial.{lnChoose, lnPmf};
+ghost use Rattle.qualities.specs.Order.{larger};
 ghost use Rattle.diploid.specs.Scores.{betaLnPmf, betaScore, betaScores, binoScore, binoScores, oneWay, eitherWay, phasedScores, scoresOf};
-use crate::model::Mode;
-use crate::model::Model;
-use crate::order::max;
-use kernels::binomial::ln_choose;
-use kernels::binomial::ln_pmf_by;
+use gammas::binomial::ln_choose;
+use gammas::binomial::ln_pmf_by;
+use gammas::gamma::ln_gamma;
 use kernels::exp::exp;
-use kernels::gamma::ln_gamma;
 use kernels::ln::ln;
-
-// The log scores of Ref, Het and Hom.
-pub struct Scores {
-    pub homref: f64,
-    pub het: f64,
-    pub homalt: f64,
-}
+use models::model::Mode;
+use models::model::Model;
+use qualities::order::max;
+use qualities::scores::Scores;
 
 // The beta-binomial log probability of k among n, by its coefficient.
 fn beta_binomial_ln_pmf(choose: f64, k: u32, n: u32, alpha: f64, beta: f64) -> f64

@@ -5,9 +5,10 @@ use Rattle.floats.specs.Apart.{exponent, significand}
 use Rattle.floats.specs.Key.{keyOf}
 use Rattle.kernels.specs.Ln.{lnNearOne, lnParts, lnReduced, lnPositive, lnOf}
 use Rattle.kernels.specs.Exp.{expSeries, expParts, expOf}
-use Rattle.diploid.specs.Allowed.{modelAllowed, entries, neverFalling, tableAllowed}
+use Rattle.diploid.specs.Allowed.{modelAllowed}
+use Rattle.tables.specs.Tables.{entries, neverFalling, tableAllowed}
 use Rattle.diploid.specs.Genotype.{genotypeBy}
-use Rattle.diploid.proofs.WinnerLaws.{equal-scores}
+use Rattle.diploid_laws.proofs.WinnerLaws.{equal-scores}
 use Rattle.examples.specs.Examples.{Examples}
 
 pub examples : Examples

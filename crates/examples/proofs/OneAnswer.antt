@@ -8,13 +8,18 @@ use Rattle.kernels.proofs.ln.ln.Reads as ln
 use Rattle.kernels.proofs.exp.exp.Reads as exp
 use Rattle.kernels.proofs.log10.log10.Reads as log10
 use Rattle.kernels.proofs.log10.pow10.Reads as pow10
-use Rattle.kernels.proofs.gamma.ln_gamma.Reads as ln-gamma
-use Rattle.kernels.proofs.binomial.ln_choose.Reads as ln-choose
-use Rattle.kernels.proofs.binomial.ln_pmf_by.Reads as ln-pmf-by
-use Rattle.kernels.proofs.binomial.ln_pmf.Reads as ln-pmf
-use Rattle.diploid.proofs.model.Mode.number.Reads as mode-number
-use Rattle.diploid.proofs.model.Model.default.Reads as model-default
-use Rattle.diploid.proofs.genotype.state_number.Reads as state-number
+use Rattle.gammas.proofs.gamma.ln_gamma.Reads as ln-gamma
+use Rattle.gammas.proofs.binomial.ln_choose.Reads as ln-choose
+use Rattle.gammas.proofs.binomial.ln_pmf_by.Reads as ln-pmf-by
+use Rattle.gammas.proofs.binomial.ln_pmf.Reads as ln-pmf
+use Rattle.models.proofs.model.Mode.number.Reads as mode-number
+use Rattle.models.proofs.model.Model.default.Reads as model-default
+use Rattle.models.proofs.state.state_number.Reads as state-number
+use Rattle.tables.proofs.ranges.all_in.Reads as all-in
+use Rattle.tables.proofs.allowed.table_allowed.Reads as table-allowed
+use Rattle.tables.proofs.calibration.calibrate_gq.Reads as calibrate-gq
+use Rattle.qualities.proofs.order.max.Reads as max
+use Rattle.qualities.proofs.quality.genotype_quals.Reads as genotype-quals
 use Rattle.diploid.proofs.genotype.genotype.Reads as genotype
 use Rattle.exports.proofs.admulfas_ln.Reads as c-ln
 use Rattle.exports.proofs.admulfas_exp.Reads as c-exp
@@ -60,6 +65,8 @@ log10-once κ a v w e f = only
 pub pow10-once : OneAnswer pow10.Post
 pow10-once κ a v w e f = only
 
+-- ---- gammas
+
 pub ln-gamma-once : OneAnswer ln-gamma.Post
 ln-gamma-once κ a v w e f = only
 
@@ -72,7 +79,7 @@ ln-pmf-by-once κ a v w e f = only
 pub ln-pmf-once : OneAnswer ln-pmf.Post
 ln-pmf-once κ a v w e f = only
 
--- ---- diploid
+-- ---- models
 
 pub mode-number-once : OneAnswer mode-number.Post
 mode-number-once κ a v w e f = only
@@ -82,6 +89,27 @@ model-default-once κ a v w e f = only
 
 pub state-number-once : OneAnswer state-number.Post
 state-number-once κ a v w e f = only
+
+-- ---- tables
+
+pub all-in-once : OneAnswer all-in.Post
+all-in-once κ a v w e f = only
+
+pub table-allowed-once : OneAnswer table-allowed.Post
+table-allowed-once κ a v w e f = only
+
+pub calibrate-gq-once : OneAnswer calibrate-gq.Post
+calibrate-gq-once κ a v w e f = only
+
+-- ---- qualities
+
+pub max-once : OneAnswer max.Post
+max-once κ a v w e f = only
+
+pub genotype-quals-once : OneAnswer genotype-quals.Post
+genotype-quals-once κ a v w e f = only
+
+-- ---- diploid
 
 pub genotype-once : OneAnswer genotype.Post
 genotype-once κ a v w e f = only

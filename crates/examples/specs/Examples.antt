@@ -7,9 +7,9 @@ use Rattle.floats.specs.Key.{keyOf}
 use Rattle.kernels.specs.Ln.{lnOf}
 use Rattle.kernels.specs.Exp.{expOf}
 use Rattle.refusals.specs.declared.Refusal.the-variants.{Done}
-use Rattle.diploid.specs.declared.genotype.State.the-variants.{Hom}
-use Rattle.diploid.specs.declared.scores.Scores.{Scores}
-use Rattle.diploid.specs.Allowed.{defaultModel}
+use Rattle.models.specs.declared.state.State.the-variants.{Hom}
+use Rattle.qualities.specs.declared.scores.Scores.{Scores}
+use Rattle.models.specs.Models.{defaultModel}
 use Rattle.diploid.specs.Genotype.{winner, blank, genotypeOf}
 
 pub record Examples : Type 0 where

@@ -1,8 +1,8 @@
 -- The mode of a mode's number is that mode. Assumes nothing.
 use mathlib.Core.Path.{_≡_, refl}
-use Rattle.diploid.specs.declared.model.Mode.{Mode}
-use Rattle.diploid.specs.declared.model.Mode.the-variants.{Beta, Bino, Phased}
-use Rattle.diploid.specs.Allowed.{modeNumber}
+use Rattle.models.specs.declared.model.Mode.{Mode}
+use Rattle.models.specs.declared.model.Mode.the-variants.{Beta, Bino, Phased}
+use Rattle.models.specs.Models.{modeNumber}
 use Rattle.exports.specs.Diploid.{modeOf}
 
 pub mode-back : (m : Mode) → modeOf (modeNumber m) ≡ m

@@ -8,11 +8,12 @@ use lib.ListN.{length}
 use lib.Ieee.{Float}
 use Rattle.refusals.specs.Refusals.{numberOf}
 use Rattle.refusals.specs.declared.Refusal.the-variants.{Model as BadModel}
-use Rattle.diploid.specs.declared.model.Mode.{Mode}
-use Rattle.diploid.specs.declared.model.Mode.the-variants.{Beta, Bino, Phased}
-use Rattle.diploid.specs.declared.model.Model.{Model}
+use Rattle.models.specs.declared.model.Mode.{Mode}
+use Rattle.models.specs.declared.model.Mode.the-variants.{Beta, Bino, Phased}
+use Rattle.models.specs.declared.model.Model.{Model}
 use Rattle.diploid.specs.declared.genotype.GenotypeResult.{GenotypeResult}
-use Rattle.diploid.specs.Genotype.{stateNumber, blank, genotypeOf}
+use Rattle.models.specs.Models.{stateNumber}
+use Rattle.diploid.specs.Genotype.{blank, genotypeOf}
 
 -- the mode of a number; what is above 2 makes no model
 abbrev pub modeOf : ℕ → Mode

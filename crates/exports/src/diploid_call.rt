@@ -5,9 +5,10 @@ ghost use lib.ListN.{length};
 ghost use Rattle.exports.specs.Diploid.{modeOf, makesModel, diploidOf, IsNumbers};
 use diploid::genotype;
 use diploid::genotype::GenotypeResult;
-use diploid::genotype::State;
-use diploid::model::Mode;
-use diploid::model::Model;
+use models::model::Mode;
+use models::model::Model;
+use models::state;
+use models::state::State;
 use refusals::Refusal;
 
 fn mode_of(n: u32) -> Mode
@@ -106,7 +107,7 @@ pub extern "C" fn admulfas_diploid(
     );
     let called = answer.state;
     let refusal = answer.refusal;
-    *state = genotype::state_number(called);
+    *state = state::state_number(called);
     *gq = answer.gq;
     *sq = answer.sq;
     refusals::number(refusal)

@@ -5,9 +5,9 @@ pub mod diploid_call;
 
 ghost use mathlib.Core.Path.{_≡_};
 ghost use Rattle.floats.specs.Key.{keyOf};
-ghost use Rattle.kernels.specs.Binomial.{lnPmf};
+ghost use Rattle.gammas.specs.Binomial.{lnPmf};
 ghost use Rattle.kernels.specs.Exp.{expOf};
-ghost use Rattle.kernels.specs.Gamma.{lnGammaOf};
+ghost use Rattle.gammas.specs.Gamma.{lnGammaOf};
 ghost use Rattle.kernels.specs.Ln.{lnOf};
 ghost use Rattle.kernels.specs.Log10.{log10Of, pow10Of};
 
@@ -48,7 +48,7 @@ pub extern "C" fn admulfas_pow10(y: f64) -> f64
 pub extern "C" fn admulfas_ln_gamma(x: f64) -> f64
     ensures { λ r. ⌜ r ≡ lnGammaOf x ⌝ }
 {
-    kernels::gamma::ln_gamma(x)
+    gammas::gamma::ln_gamma(x)
 }
 
 // The log probability of k successes in n trials, each of probability p.
@@ -56,7 +56,7 @@ pub extern "C" fn admulfas_ln_gamma(x: f64) -> f64
 pub extern "C" fn admulfas_ln_pmf(k: u32, n: u32, p: f64) -> f64
     ensures { λ r. ⌜ r ≡ lnPmf k n p ⌝ }
 {
-    kernels::binomial::ln_pmf(k, n, p)
+    gammas::binomial::ln_pmf(k, n, p)
 }
 
 // The key of a score.

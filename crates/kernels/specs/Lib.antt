@@ -3,6 +3,4 @@ pub mod Ln
 pub mod Exp
 pub mod Near
 pub mod Log10
-pub mod Gamma
-pub mod Binomial
 pub mod Inner

@@ -11,8 +11,9 @@ use crate::write::Out;
 use crate::write::Text;
 use diploid::genotype;
 use diploid::genotype::GenotypeResult;
-use diploid::model::Mode;
-use diploid::model::Model;
+use models::model::Mode;
+use models::model::Model;
+use models::state::state_number;
 
 enum ReadMode {
     Is(Mode),
@@ -51,7 +52,7 @@ fn numbers(text: &mut Text, out: Out, answer: GenotypeResult) -> Out {
     let state = answer.state;
     let one = write::number(text, out, refusals::number(refusal));
     let to_state = write::space(text, one);
-    let two = write::number(text, to_state, genotype::state_number(state));
+    let two = write::number(text, to_state, state_number(state));
     let to_gq = write::space(text, two);
     let three = write::float(text, to_gq, answer.gq);
     let to_sq = write::space(text, three);

@@ -22,7 +22,7 @@ fn value(kernel: Kernel, x: f64) -> f64 {
         Kernel::Exp => kernels::exp::exp(x),
         Kernel::Log10 => kernels::log10::log10(x),
         Kernel::Pow10 => kernels::log10::pow10(x),
-        Kernel::Lgamma => kernels::gamma::ln_gamma(x),
+        Kernel::Lgamma => gammas::gamma::ln_gamma(x),
     }
 }
 
@@ -43,7 +43,7 @@ pub fn binomial(line: &[u8], c: Cursor, text: &mut Text, out: Out) -> Out {
     let Last::Is(p) = words::read_last_float(line, after_n) else {
         return write::unread(text, out);
     };
-    write::float(text, out, kernels::binomial::ln_pmf(k, n, p))
+    write::float(text, out, gammas::binomial::ln_pmf(k, n, p))
 }
 
 pub fn key(line: &[u8], c: Cursor, text: &mut Text, out: Out) -> Out {

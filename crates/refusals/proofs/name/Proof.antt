@@ -1,4 +1,5 @@
 -- `refusals::name` meets its contract: each arm has the bytes of the name that the definition gives its case. Assumes nothing.
+use mathlib.Core.Path.{refl}
 use borrow.Author.Needs.{needs}
 use Rattle.refusals.proofs.name.Statement.{statement}
 use Rattle.refusals.proofs.name.Tie as tie
@@ -43,43 +44,43 @@ enum-told-13 : tie.Need-enum-told-13
 enum-told-13 c = search needs
 
 returns : tie.Need-returns
-returns c = cc
+returns c = rw (c .before .before .enum-told .given .1) refl
 
 returns-2 : tie.Need-returns-2
-returns-2 c = cc
+returns-2 c = rw (c .before .before .enum-told2 .given .1) refl
 
 returns-3 : tie.Need-returns-3
-returns-3 c = cc
+returns-3 c = rw (c .before .before .enum-told3 .given .1) refl
 
 returns-4 : tie.Need-returns-4
-returns-4 c = cc
+returns-4 c = rw (c .before .before .enum-told4 .given .1) refl
 
 returns-5 : tie.Need-returns-5
-returns-5 c = cc
+returns-5 c = rw (c .before .before .enum-told5 .given .1) refl
 
 returns-6 : tie.Need-returns-6
-returns-6 c = cc
+returns-6 c = rw (c .before .before .enum-told6 .given .1) refl
 
 returns-7 : tie.Need-returns-7
-returns-7 c = cc
+returns-7 c = rw (c .before .before .enum-told7 .given .1) refl
 
 returns-8 : tie.Need-returns-8
-returns-8 c = cc
+returns-8 c = rw (c .before .before .enum-told8 .given .1) refl
 
 returns-9 : tie.Need-returns-9
-returns-9 c = cc
+returns-9 c = rw (c .before .before .enum-told9 .given .1) refl
 
 returns-10 : tie.Need-returns-10
-returns-10 c = cc
+returns-10 c = rw (c .before .before .enum-told10 .given .1) refl
 
 returns-11 : tie.Need-returns-11
-returns-11 c = cc
+returns-11 c = rw (c .before .before .enum-told11 .given .1) refl
 
 returns-12 : tie.Need-returns-12
-returns-12 c = cc
+returns-12 c = rw (c .before .before .enum-told12 .given .1) refl
 
 returns-13 : tie.Need-returns-13
-returns-13 c = cc
+returns-13 c = rw (c .before .before .enum-told13 .given .1) refl
 
 pub name-spec : {M : Type 1} → statement M
 name-spec =

@@ -1,5 +1,12 @@
 -- `diploid::scores::genotype_scores` meets its contract: each mode calls the definition's scores. Assumes nothing.
+use Prim.Native.Nat.{ℕ}
+use mathlib.Core.Path.{_≡_}
 use borrow.Author.Needs.{needs}
+use Rattle.models.specs.declared.model.Mode.{Mode}
+use Rattle.models.specs.declared.model.Mode.the-variants.{Beta, Bino, Phased}
+use Rattle.models.specs.declared.model.Model.{Model}
+use Rattle.qualities.specs.declared.scores.Scores.{Scores}
+use Rattle.qualities.specs.Order.{larger}
 use Rattle.diploid.specs.Scores.{scoresBy}
 use Rattle.diploid.proofs.scores.genotype_scores.Statement.{statement}
 use Rattle.diploid.proofs.scores.genotype_scores.Tie as tie
@@ -31,17 +38,27 @@ enum-told-3 c = search needs
 phased-genotype-scores-requires : tie.Need-phased-genotype-scores-requires
 phased-genotype-scores-requires c κs = search needs
 
+by-mode :
+    (k j : Mode) (m : Model) (r a b : ℕ) {s : Scores} → k ≡ j → s ≡ scoresBy larger j m r a b → s ≡ scoresBy larger k m r a b
+by-mode k j m r a b e h = rw e h
+
 returns : tie.Need-returns
 unfolding scoresBy
-returns c = cc
+returns c =
+    let a = c .before .before .before .args in
+    by-mode (a .model .mode) Beta (a .model) (a .reference) (a .alt1) (a .alt2) (c .before .enum-told .given .1) (c .beta-genotype-scores .ensures)
 
 returns-2 : tie.Need-returns-2
 unfolding scoresBy
-returns-2 c = cc
+returns-2 c =
+    let a = c .before .before .before .args in
+    by-mode (a .model .mode) Bino (a .model) (a .reference) (a .alt1) (a .alt2) (c .before .enum-told2 .given .1) (c .bino-genotype-scores .ensures)
 
 returns-3 : tie.Need-returns-3
 unfolding scoresBy
-returns-3 c = cc
+returns-3 c =
+    let a = c .before .before .before .args in
+    by-mode (a .model .mode) Phased (a .model) (a .reference) (a .alt1) (a .alt2) (c .before .enum-told3 .given .1) (c .phased-genotype-scores .ensures)
 
 pub genotype-scores-spec : {M : Type 1} → statement M
 genotype-scores-spec =

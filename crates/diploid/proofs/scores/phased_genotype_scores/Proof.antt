@@ -2,10 +2,10 @@
 -- factorials that the code makes of it. Assumes nothing.
 use Prim.Native.Nat.{_+_}
 use borrow.Author.Needs.{needs}
-use native.Mathlib.Omega.{arith}
+use native.Mathlib.Nat.{add-comm}
 use lib.Ieee.{round, ofInt, ofBits}
 use Rattle.diploid.specs.Scores.{phasedScores}
-use Rattle.diploid.proofs.Factorials.{choose-by-factorials}
+use Rattle.diploid.proofs.Factorials.{choose-by-factorials, less-last, less-middle, last-first, middle-first, first-first, first-last}
 use Rattle.diploid.proofs.scores.phased_genotype_scores.Statement.{statement}
 use Rattle.diploid.proofs.scores.phased_genotype_scores.Tie as tie
 
@@ -45,20 +45,27 @@ ln-factorial-requires-6 c κs = search needs
 ln-factorial-requires-7 : tie.Need-ln-factorial-requires-7
 ln-factorial-requires-7 c κs = search needs
 
+-- once the seven log factorials are there: the arguments, and each coefficient in turn
+abbrev start : tie.After-ln-factorial7 → tie.Start
+start c = c .before .before .before .before .before .before .before .before .before
+
 one-way-requires : tie.Need-one-way-requires
 one-way-requires c κs =
-    let a = c .before .before .before .before .before .before .before .before .before .args in (
-      search needs,
-      cc (choose-by-factorials (a .alt2) (a .reference + a .alt1) (a .reference + a .alt1 + a .alt2) (omega arith) (omega arith)),
-      cc (choose-by-factorials (a .alt1) (a .reference) (a .reference + a .alt1) (omega arith) (omega arith)),
+    let a = start c .args in
+    let few = less-last (a .reference) (a .alt1) (a .alt2) (start c .pre) in (
+      few,
+      choose-by-factorials (a .alt2) (a .reference + a .alt1) (a .reference + a .alt1 + a .alt2) (c .ln-factorial7 .ensures) (c .before .before .before .before .ln-factorial3 .ensures) (c .before .before .ln-factorial5 .ensures) (last-first (a .reference) (a .alt1) (a .alt2)) (start c .pre),
+      choose-by-factorials (a .alt1) (a .reference) (a .reference + a .alt1) (c .before .before .ln-factorial5 .ensures) (c .before .before .before .before .before .ln-factorial2 .ensures) (c .before .before .before .before .before .before .ln-factorial .ensures) (add-comm (a .alt1) (a .reference)) few,
     )
 
 one-way-requires-2 : tie.Need-one-way-requires-2
-one-way-requires-2 c κs =
-    let a = c .before .before .before .before .before .before .before .before .before .before .args in (
-      search needs,
-      cc (choose-by-factorials (a .alt1) (a .reference + a .alt2) (a .reference + a .alt1 + a .alt2) (omega arith) (omega arith)),
-      cc (choose-by-factorials (a .alt2) (a .reference) (a .reference + a .alt2) (omega arith) (omega arith)),
+one-way-requires-2 d κs =
+    let c = d .before in
+    let a = start c .args in
+    let few = less-middle (a .reference) (a .alt1) (a .alt2) (start c .pre) in (
+      few,
+      choose-by-factorials (a .alt1) (a .reference + a .alt2) (a .reference + a .alt1 + a .alt2) (c .ln-factorial7 .ensures) (c .before .before .before .before .before .ln-factorial2 .ensures) (c .before .ln-factorial6 .ensures) (middle-first (a .reference) (a .alt1) (a .alt2)) (start c .pre),
+      choose-by-factorials (a .alt2) (a .reference) (a .reference + a .alt2) (c .before .ln-factorial6 .ensures) (c .before .before .before .before .ln-factorial3 .ensures) (c .before .before .before .before .before .before .ln-factorial .ensures) (add-comm (a .alt2) (a .reference)) few,
     )
 
 array-read-ln : tie.Need-array-read-ln
@@ -71,9 +78,10 @@ array-read-binomial-ln-pmf : tie.Need-array-read-binomial-ln-pmf
 array-read-binomial-ln-pmf c = search needs
 
 binomial-ln-pmf-requires : tie.Need-binomial-ln-pmf-requires
-binomial-ln-pmf-requires c κs =
-    let a = c .before .before .before .before .before .before .before .before .before .before .before .before .args in
-    cc (choose-by-factorials (a .reference) (a .alt1 + a .alt2) (a .reference + a .alt1 + a .alt2) (omega arith) (omega arith))
+binomial-ln-pmf-requires d κs =
+    let c = d .before .before .before in
+    let a = start c .args in
+    choose-by-factorials (a .reference) (a .alt1 + a .alt2) (a .reference + a .alt1 + a .alt2) (c .ln-factorial7 .ensures) (c .before .before .before .before .before .before .ln-factorial .ensures) (c .before .before .before .ln-factorial4 .ensures) (first-first (a .reference) (a .alt1) (a .alt2)) (start c .pre)
 
 array-read-ln-2 : tie.Need-array-read-ln-2
 array-read-ln-2 c = search needs
@@ -94,9 +102,10 @@ array-read-binomial-ln-pmf-2 : tie.Need-array-read-binomial-ln-pmf-2
 array-read-binomial-ln-pmf-2 c = search needs
 
 binomial-ln-pmf-requires-2 : tie.Need-binomial-ln-pmf-requires-2
-binomial-ln-pmf-requires-2 c κs =
-    let a = c .before .before .before .before .before .before .before .before .before .before .before .before .before .before .before .before .args in
-    cc (choose-by-factorials (a .alt1 + a .alt2) (a .reference) (a .reference + a .alt1 + a .alt2) (omega arith) (omega arith))
+binomial-ln-pmf-requires-2 d κs =
+    let c = d .before .before .before .before .before .before .before in
+    let a = start c .args in
+    choose-by-factorials (a .alt1 + a .alt2) (a .reference) (a .reference + a .alt1 + a .alt2) (c .ln-factorial7 .ensures) (c .before .before .before .ln-factorial4 .ensures) (c .before .before .before .before .before .before .ln-factorial .ensures) (first-last (a .reference) (a .alt1) (a .alt2)) (start c .pre)
 
 returns : tie.Need-returns
 unfolding phasedScores round ofInt ofBits

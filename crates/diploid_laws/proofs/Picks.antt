@@ -1,0 +1,120 @@
+-- Any max and any min beside the crate's own: alike but for a zero's sign, which neither a power of ten, nor a size, nor the difference of the two largest
+-- sees. Assumes nothing.
+use mathlib.Core.Path.{_≡_, refl, sym, ap, _∙_, subst}
+use mathlib.Core.Logic.{_⊎_, inl, inr}
+use mathlib.Core.Bool.{Bool, true, false, cond, true≢false}
+use lib.Dec.{T}
+use lib.Ieee.{Float, round, mul, lt, ofInt}
+use lib.Ieee.Scale.{finite}
+use Rattle.floats.specs.F64.{_⊖_, _⊗_}
+use Rattle.floats.proofs.Ranges.{le-not-lt}
+use Rattle.kernels.specs.Log10.{pow10Of}
+use Rattle.qualities.specs.declared.scores.Scores.{Scores}
+use Rattle.qualities.specs.Order.{Pick, IsMax, IsMin, larger, smaller, absolute}
+use Rattle.diploid.specs.Scores.{EachScore}
+use Rattle.qualities.specs.Quality.{minusTen, first, second, gapOf}
+use Rattle.floats.proofs.Differences.{less-itself}
+use Rattle.floats.proofs.Zeros.{zeroOf, Number, Alike, same, zeros, alike-number, lt-alike, neither-below, sub-alike-below}
+use Rattle.diploid_laws.proofs.QualityBounds.{pow10-zero}
+use Rattle.diploid_laws.proofs.Signs.{lt-itself}
+use Rattle.diploid_laws.proofs.Largest.{tied-or-below}
+
+-- ---- a pick and the crate's own
+
+-- r is a where b is not above it, or b where a is not above it: related to the crate's choice, where the two are related if neither is above the other
+module _ (R : Float → Float → Type 0) (of-equal : (x y : Float) → x ≡ y → R x y) where
+  chosen : (r a b : Float) (above back : Bool) → ((r ≡ a) × (above ≡ false)) ⊎ ((r ≡ b) × (back ≡ false)) → (above ≡ false → back ≡ false → R b a) → R r (cond above b a)
+  chosen r a b above back h f = elim h [ inl p ↦ of-equal r (cond above b a) (p .0 ∙ sym (ap (λ (t : Bool). cond t b a) (p .1))) | inr p ↦ go above f (p .0) (p .1) ]
+    where
+      go : (above : Bool) → (above ≡ false → back ≡ false → R b a) → r ≡ b → back ≡ false → R r (cond above b a)
+      go true f e k = of-equal r b e
+      go false f e k = subst (λ (z : Float). R z a) (sym e) (f refl k)
+
+  pub chosen-max : (max : Pick) → IsMax max → (a b : Float) → Number a → Number b → (Alike b a → R b a) → R (max a b) (larger a b)
+  chosen-max max is-max a b n k f =
+      chosen (max a b) a b (lt a b) (lt b a)
+      (elim (is-max a b (n .is-finite) (k .is-finite)) [ inl p ↦ inl (p .0, le-not-lt b a (p .1)) | inr p ↦ inr (p .0, le-not-lt a b (p .1)) ])
+      (λ u v. f (neither-below b a k n v u))
+
+  pub chosen-min : (min : Pick) → IsMin min → (a b : Float) → Number a → Number b → (Alike b a → R b a) → R (min a b) (smaller a b)
+  chosen-min min is-min a b n k f =
+      chosen (min a b) a b (lt b a) (lt a b)
+      (elim (is-min a b (n .is-finite) (k .is-finite)) [ inl p ↦ inl (p .0, le-not-lt a b (p .1)) | inr p ↦ inr (p .0, le-not-lt b a (p .1)) ])
+      (λ u v. f (neither-below b a k n u v))
+
+alike-either : {a b c d : Float} (t : Bool) → Alike a c → Alike b d → Alike (cond t b a) (cond t d c)
+alike-either true h k = k
+alike-either false h k = h
+
+pub larger-alike : {a b c d : Float} → Alike a c → Alike b d → Alike (larger a b) (larger c d)
+larger-alike {a} {b} {c} {d} h k = subst (λ (t : Bool). Alike (larger a b) (cond t d c)) (lt-alike h k) (alike-either (lt a b) h k)
+
+pub smaller-alike : {a b c d : Float} → Alike a c → Alike b d → Alike (smaller a b) (smaller c d)
+smaller-alike {a} {b} {c} {d} h k = subst (λ (t : Bool). Alike (smaller a b) (cond t d c)) (lt-alike k h) (alike-either (lt b a) h k)
+
+pub larger-number : (a b : Float) → Number a → Number b → Number (larger a b)
+larger-number a b n k = go (lt a b)
+  where
+    go : (t : Bool) → Number (cond t b a)
+    go true = k
+    go false = n
+
+pub smaller-number : (a b : Float) → Number a → Number b → Number (smaller a b)
+smaller-number a b n k = go (lt b a)
+  where
+    go : (t : Bool) → Number (cond t b a)
+    go true = k
+    go false = n
+
+-- ---- the functions that do not see a zero's sign
+
+pub pow10-alike : {x y : Float} → Alike x y → pow10Of x ≡ pow10Of y
+pow10-alike same = refl
+pow10-alike (zeros s t) = pow10-zero s ∙ sym (pow10-zero t)
+
+pub size-alike : {x y : Float} → Alike x y → absolute (minusTen ⊗ x) ≡ absolute (minusTen ⊗ y)
+unfolding mul round ofInt
+size-alike same = refl
+size-alike (zeros true true) = refl
+size-alike (zeros true false) = refl
+size-alike (zeros false true) = refl
+size-alike (zeros false false) = refl
+
+-- the difference of the two largest
+pub record AlikeScores (n k : Scores) : Type 0 where
+  pub ref-alike : Alike (n .homref) (k .homref)
+  pub het-alike : Alike (n .het) (k .het)
+  pub hom-alike : Alike (n .homalt) (k .homalt)
+
+module _ (n k : Scores) (alike : AlikeScores n k) (numbers : EachScore Number n) where
+  firsts : Alike (first n) (first k)
+  firsts = larger-alike (larger-alike (alike .ref-alike) (alike .het-alike)) (alike .hom-alike)
+
+  seconds : Alike (second n) (second k)
+  seconds = larger-alike (smaller-alike (alike .ref-alike) (alike .het-alike)) (smaller-alike (larger-alike (alike .ref-alike) (alike .het-alike)) (alike .hom-alike))
+
+  first-number : Number (first n)
+  first-number = larger-number (larger (n .homref) (n .het)) (n .homalt) (larger-number (n .homref) (n .het) (numbers .for-homref) (numbers .for-het)) (numbers .for-homalt)
+
+  second-number : Number (second n)
+  second-number =
+      let high = larger-number (n .homref) (n .het) (numbers .for-homref) (numbers .for-het) in
+      larger-number (smaller (n .homref) (n .het)) (smaller (larger (n .homref) (n .het)) (n .homalt)) (smaller-number (n .homref) (n .het) (numbers .for-homref) (numbers .for-het))
+      (smaller-number (larger (n .homref) (n .het)) (n .homalt) high (numbers .for-homalt))
+
+  tied-gap : (q : Scores) → T (finite (first q)) → second q ≡ first q → gapOf q ≡ zeroOf false
+  unfolding gapOf
+  tied-gap q f e = ap (λ (z : Float). z ⊖ first q) e ∙ less-itself (first q) f
+
+  not-both : (q r : Scores) → Alike (first q) (first r) → Alike (second q) (second r) → second q ≡ first q → lt (second r) (first r) ≡ true → ⊥
+  not-both q r f g e h = true≢false (sym h ∙ sym (lt-alike g f) ∙ ap (λ (z : Float). lt z (first q)) e ∙ lt-itself (first q))
+
+  pub gap-same : gapOf n ≡ gapOf k
+  unfolding gapOf
+  gap-same = elim (tied-or-below n) [
+    | inl e ↦ elim (tied-or-below k) [
+      | inl g ↦ tied-gap n (first-number .is-finite) e ∙ sym (tied-gap k (alike-number firsts first-number .is-finite) g)
+      | inr h ↦ absurd (not-both n k firsts seconds e h)
+    ]
+    | inr h ↦ sub-alike-below seconds firsts second-number first-number h
+  ]

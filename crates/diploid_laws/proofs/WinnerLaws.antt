@@ -1,0 +1,79 @@
+-- The winner is the state of the largest key, the later one where two are equal, and no other state is. Assumes nothing.
+use mathlib.Core.Path.{_≡_, refl, sym, subst}
+use mathlib.Core.Bool.{Bool, true, false, not, _&&_, cond}
+use native.Mathlib.Nat.{le-of-lt}
+use borrow.Author.Tests.{lt-leb}
+use lib.IntN.{ℤ, pos, negsuc}
+use lib.Dec.{T, ltb→lt, le→leb, nleb→lt, lt→ltb}
+use lib.Ieee.Bits.{is-true}
+use lib.Signed.{leZ, _≤ℤ_, _<ℤ_, ≤ℤ-refl, <ℤ-≤ℤ-trans, clashℤ}
+use Rattle.floats.specs.Key.{keyOf}
+use Rattle.qualities.specs.declared.scores.Scores.{Scores}
+use Rattle.models.specs.declared.state.State.{State}
+use Rattle.models.specs.declared.state.State.the-variants.{Ref, Het, Hom}
+use Rattle.diploid.specs.Genotype.{winner, Wins, ref-wins, het-wins, hom-wins}
+
+-- ---- the tests of whole numbers
+
+at-most : (a b : ℤ) → T (leZ a b) → a ≤ℤ b
+at-most a b t = record { le = t }
+
+above : (a b : ℤ) → T (not (leZ a b)) → b <ℤ a
+above (pos a) (pos b) t = record { lt = lt→ltb b a (nleb→lt a b t) }
+above (pos a) (negsuc b) t = record { lt = tt }
+above (negsuc a) (pos b) t = absurd t
+above (negsuc a) (negsuc b) t = record { lt = lt→ltb a b (nleb→lt b a t) }
+
+below-at-most : (a b : ℤ) → a <ℤ b → a ≤ℤ b
+below-at-most (pos a) (pos b) h = record { le = le→leb a b (le-of-lt (ltb→lt a b (h .lt))) }
+below-at-most (pos a) (negsuc b) h = absurd (h .lt)
+below-at-most (negsuc a) (pos b) h = record { le = tt }
+below-at-most (negsuc a) (negsuc b) h = record { le = le→leb b a (le-of-lt (ltb→lt b a (h .lt))) }
+
+test-holds : (a b : ℤ) → a ≤ℤ b → leZ a b ≡ true
+test-holds a b h = is-true (leZ a b) (h .le)
+
+test-fails : (a b : ℤ) → b <ℤ a → leZ a b ≡ false
+test-fails (pos a) (pos b) h = lt-leb a b (ltb→lt b a (h .lt))
+test-fails (pos a) (negsuc b) h = refl
+test-fails (negsuc a) (pos b) h = absurd (h .lt)
+test-fails (negsuc a) (negsuc b) h = lt-leb b a (ltb→lt a b (h .lt))
+
+-- ---- the winner wins, and it alone
+
+pub winner-wins : (s : Scores) → Wins s (winner s)
+unfolding winner
+winner-wins s = go (leZ k0 k2) (leZ k1 k2) (leZ k0 k1) (at-most k0 k2) (above k0 k2) (at-most k1 k2) (above k1 k2) (at-most k0 k1) (above k0 k1)
+  where
+    k0 : ℤ
+    k0 = keyOf (s .homref)
+
+    k1 : ℤ
+    k1 = keyOf (s .het)
+
+    k2 : ℤ
+    k2 = keyOf (s .homalt)
+
+    go : (u v w : Bool) → (T u → k0 ≤ℤ k2) → (T (not u) → k2 <ℤ k0) → (T v → k1 ≤ℤ k2) → (T (not v) → k2 <ℤ k1) → (T w → k0 ≤ℤ k1) → (T (not w) → k1 <ℤ k0)
+        → Wins s (cond (u && v) Hom (cond w Het Ref))
+    go true true w a b c d e f = hom-wins (a tt) (c tt)
+    go true false true a b c d e f = het-wins (e tt) (d tt)
+    go true false false a b c d e f = clashℤ (<ℤ-≤ℤ-trans (f tt) (a tt)) (below-at-most k2 k1 (d tt))
+    go false v true a b c d e f = het-wins (e tt) (<ℤ-≤ℤ-trans (b tt) (e tt))
+    go false v false a b c d e f = ref-wins (f tt) (b tt)
+
+and-false : (b : Bool) → (b && false) ≡ false
+and-false true = refl
+and-false false = refl
+
+pub winner-only : {s : Scores} {t : State} → Wins s t → winner s ≡ t
+unfolding winner
+winner-only {s} (ref-wins h k) = rw (test-fails (keyOf (s .homref)) (keyOf (s .homalt)) k, test-fails (keyOf (s .homref)) (keyOf (s .het)) h)
+winner-only {s} (het-wins h k) = rw (test-fails (keyOf (s .het)) (keyOf (s .homalt)) k, and-false, test-holds (keyOf (s .homref)) (keyOf (s .het)) h)
+winner-only {s} (hom-wins h k) = rw (test-holds (keyOf (s .homref)) (keyOf (s .homalt)) h, test-holds (keyOf (s .het)) (keyOf (s .homalt)) k)
+
+-- three equal scores give Hom (RULES.md, X10)
+pub equal-scores : (s : Scores) → keyOf (s .homref) ≡ keyOf (s .homalt) → keyOf (s .het) ≡ keyOf (s .homalt) → winner s ≡ Hom
+equal-scores s p q =
+    let top = keyOf (s .homalt) in
+    winner-only (hom-wins (subst (λ (k : ℤ). k ≤ℤ top) (sym p) (≤ℤ-refl top)) (subst (λ (k : ℤ). k ≤ℤ top) (sym q) (≤ℤ-refl top)))

@@ -1,0 +1,1 @@
+// No code: what the diploid answer obeys beyond its contract.

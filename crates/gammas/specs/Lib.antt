@@ -1,0 +1,3 @@
+-- The definitions that the contracts of `gammas` cite.
+pub mod Gamma
+pub mod Binomial

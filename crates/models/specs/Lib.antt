@@ -1,0 +1,2 @@
+-- The definitions that the contracts of `models` cite.
+pub mod Models

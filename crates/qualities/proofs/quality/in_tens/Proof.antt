@@ -1,0 +1,12 @@
+-- `qualities::quality::in_tens` meets its contract: the code's constant is ln 10. Assumes nothing.
+use Rattle.kernels.proofs.Log10Laws.{ln-ten}
+use Rattle.qualities.specs.Quality.{inTens}
+use Rattle.qualities.proofs.quality.in_tens.Statement.{statement}
+use Rattle.qualities.proofs.quality.in_tens.Tie as tie
+
+returns : tie.Need-returns
+unfolding inTens
+returns c = rw ln-ten
+
+pub in-tens-spec : {M : Type 1} → statement M
+in-tens-spec = tie.close (tie.spec returns)

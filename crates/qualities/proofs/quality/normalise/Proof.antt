@@ -1,0 +1,27 @@
+-- `qualities::quality::normalise` meets its contract: each call gives what the definition names. Assumes nothing.
+use borrow.Author.Needs.{needs}
+use lib.Ieee.{ofInt, ofBits}
+use Rattle.qualities.specs.Quality.{normalised}
+use Rattle.qualities.proofs.quality.normalise.Statement.{statement}
+use Rattle.qualities.proofs.quality.normalise.Tie as tie
+
+whole-requires : tie.Need-whole-requires
+whole-requires c κs = search needs
+
+min-requires : tie.Need-min-requires
+min-requires c κs = search needs
+
+min-requires-2 : tie.Need-min-requires-2
+min-requires-2 c κs = search needs
+
+min-requires-3 : tie.Need-min-requires-3
+min-requires-3 c κs = search needs
+
+returns : tie.Need-returns
+unfolding normalised ofInt ofBits
+returns c =
+    rw
+    (c .min3 .ensures, c .before .before .min2 .ensures, c .before .before .before .before .min .ensures, c .before .before .before .before .before .before .whole .ensures)
+
+pub normalise-spec : {M : Type 1} → statement M
+normalise-spec = tie.close (tie.spec whole-requires min-requires min-requires-2 min-requires-3 returns)
