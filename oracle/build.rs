@@ -1,22 +1,34 @@
-//! Links the port, which `rt staticlib exports` writes to target/staticlib of the repository, and takes kanpig's text into the build:
-//! germ_genotyper.rs, or germ_genotyper.rs.txt, from anywhere below the folder that KANPIG_SRC names, with some names changed.
+//! Links the port, which `rt staticlib exports` writes to target/staticlib of the repository, and takes kanpig's text into the build: each
+//! of its files, or the same with `.txt` behind its name, from anywhere below the folder that KANPIG_SRC names, with some names changed.
 use std::path::{Path, PathBuf};
 use std::{env, fs};
 
 /// Where kanpig's files are looked for unless KANPIG_SRC says otherwise, seen from the repository's folder.
 const DEFAULT_SOURCE: &str = "../shared/docs/src/src/kplib";
 
-/// Names of kanpig's text and what they become; src/kanpig.rs has what stands behind the new ones.
-const RENAMED: [(&str, &str); 5] = [
-    (", Deserialize", ""),
-    (".ln()", ".kernel_ln()"),
-    (".exp()", ".kernel_exp()"),
-    (".log10()", ".kernel_log10()"),
-    ("10.0_f64.powf(", "kernel_pow10("),
-];
+/// A file of kanpig's.
+struct Source {
+    name: &'static str,
+    /// The crates whose `use` is left out.
+    crates: &'static [&'static str],
+    /// Names and what they become; src/kanpig.rs and src/trio_kanpig.rs have what stands behind the new ones.
+    renamed: &'static [(&'static str, &'static str)],
+}
 
-/// The crates whose `use` is left out.
-const CRATES: [&str; 3] = ["use ordered_float::", "use serde::", "use statrs::"];
+const SOURCES: [Source; 2] = [
+    Source {
+        name: "germ_genotyper.rs",
+        crates: &["use ordered_float::", "use serde::", "use statrs::"],
+        renamed: &[
+            (", Deserialize", ""),
+            (".ln()", ".kernel_ln()"),
+            (".exp()", ".kernel_exp()"),
+            (".log10()", ".kernel_log10()"),
+            ("10.0_f64.powf(", "kernel_pow10("),
+        ],
+    },
+    Source { name: "trio_genotyper.rs", crates: &["use ndarray::"], renamed: &[(".ln()", ".kernel_ln()")] },
+];
 
 fn found(folder: &Path, name: &str) -> Option<PathBuf> {
     let mut entries: Vec<PathBuf> = fs::read_dir(folder).ok()?.flatten().map(|entry| entry.path()).collect();
@@ -31,18 +43,29 @@ fn without(text: &str, start: &str) -> String {
     format!("{before}{after}")
 }
 
-fn bound(text: &str) -> String {
-    let mut text = CRATES.iter().fold(text.to_string(), |text, start| without(&text, start));
-    for (old, new) in RENAMED {
+fn bound(source: &Source, text: &str) -> String {
+    let mut text = source.crates.iter().fold(text.to_string(), |text, start| without(&text, start));
+    for (old, new) in source.renamed {
         assert!(text.contains(old), "no `{old}` in kanpig's text: is it another version?");
         text = text.replace(old, new);
     }
     text
 }
 
+/// All of kanpig's files, in the order of `SOURCES`; none where one is missing.
+fn texts(folder: &Path) -> Option<Vec<String>> {
+    let file = |source: &Source| found(folder, source.name).or_else(|| found(folder, &format!("{}.txt", source.name)));
+    let files: Vec<PathBuf> = SOURCES.iter().map(file).collect::<Option<_>>()?;
+    for file in &files {
+        println!("cargo:rerun-if-changed={}", file.display());
+    }
+    let read = |file: &PathBuf| fs::read_to_string(file).expect("kanpig's file is text");
+    Some(SOURCES.iter().zip(&files).map(|(source, file)| bound(source, &read(file))).collect())
+}
+
 fn main() {
-    let here = env::var("CARGO_MANIFEST_DIR").expect("cargo sets CARGO_MANIFEST_DIR");
-    let repository = Path::new(&here).join("..");
+    let here = PathBuf::from(env::var("CARGO_MANIFEST_DIR").expect("cargo sets CARGO_MANIFEST_DIR"));
+    let repository = here.join("..");
     let folder = repository.join("target/staticlib");
     println!("cargo:rustc-link-search=native={}", folder.display());
     println!("cargo:rustc-link-lib=static=exports");
@@ -50,19 +73,17 @@ fn main() {
 
     println!("cargo:rerun-if-env-changed=KANPIG_SRC");
     println!("cargo:rustc-check-cfg=cfg(kanpig)");
-    let source = env::var("KANPIG_SRC").map_or(repository.join(DEFAULT_SOURCE), PathBuf::from);
-    let file = found(&source, "germ_genotyper.rs").or_else(|| found(&source, "germ_genotyper.rs.txt"));
-    let text = match &file {
-        Some(file) => {
-            println!("cargo:rustc-cfg=kanpig");
-            println!("cargo:rerun-if-changed={}", file.display());
-            bound(&fs::read_to_string(file).expect("kanpig's file is text"))
-        }
-        None => {
-            println!("cargo:rerun-if-changed={}", source.display());
-            fs::read_to_string(Path::new(&here).join("missing.rs")).expect("missing.rs is there")
-        }
-    };
-    let out = env::var("OUT_DIR").expect("cargo sets OUT_DIR");
-    fs::write(Path::new(&out).join("germ_genotyper.rs"), text).expect("OUT_DIR can be written");
+    let folder = env::var("KANPIG_SRC").map_or(repository.join(DEFAULT_SOURCE), PathBuf::from);
+    let texts = texts(&folder);
+    if texts.is_some() {
+        println!("cargo:rustc-cfg=kanpig");
+    } else {
+        println!("cargo:rerun-if-changed={}", folder.display());
+    }
+    let missing = |source: &Source| fs::read_to_string(here.join("missing").join(source.name)).expect("the stand-in is there");
+    let texts = texts.unwrap_or_else(|| SOURCES.iter().map(missing).collect());
+    let out = PathBuf::from(env::var("OUT_DIR").expect("cargo sets OUT_DIR"));
+    for (source, text) in SOURCES.iter().zip(texts) {
+        fs::write(out.join(source.name), text).expect("OUT_DIR can be written");
+    }
 }

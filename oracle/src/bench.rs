@@ -1,9 +1,12 @@
 //! Times each kernel of the port, of kernels.rs and of the standard library on the same inputs, and one diploid call in each mode beside
-//! kanpig's own text over the same kernels and over the standard library's, and prints a Markdown table.
+//! kanpig's own text over the same kernels and over the standard library's, and one call of a trio likewise, and prints a Markdown table.
 //! All kernels are called through a pointer to an `extern "C"` function, so that none is inlined where another cannot be.
 use crate::diploid::Input;
 use crate::inputs::{Random, Trial};
 use crate::kanpig::{self, c_lgamma, with_ours, with_std};
+use crate::trio::Input as Trio;
+use crate::trio_inputs::usual_trio;
+use crate::trio_kanpig::{OURS, STD};
 use crate::{kernels, port};
 use std::hint::black_box;
 use std::time::Instant;
@@ -56,9 +59,9 @@ fn timing<'a, I: Copy, O>(inputs: &'a [I], call: impl Fn(I) -> O + 'a) -> Timing
 }
 
 /// The quickest of each timing's repeats, which other work on the machine disturbs least. They take turns, so that a slow moment hits all alike.
-fn quickest(timings: &[Timing]) -> Vec<f64> {
+fn quickest(repeats: usize, timings: &[Timing]) -> Vec<f64> {
     let mut best = vec![f64::INFINITY; timings.len()];
-    for _ in 0..REPEATS {
+    for _ in 0..repeats {
         for (timing, time) in timings.iter().zip(&mut best) {
             *time = time.min(timing());
         }
@@ -68,7 +71,10 @@ fn quickest(timings: &[Timing]) -> Vec<f64> {
 
 /// A line of the table. The timings are of the port, of plain Rust, and of the standard library if it has the kernel.
 fn row(name: &str, range: &str, timings: &[Timing]) {
-    let ns = quickest(timings);
+    row_of(name, range, &quickest(REPEATS, timings));
+}
+
+fn row_of(name: &str, range: &str, ns: &[f64]) {
     let (port, plain) = (ns[0], ns[1]);
     let (std, ratio) = match ns.get(2) {
         Some(std) => (format!("{std:.1}"), format!("{:.2}", port / std)),
@@ -106,6 +112,15 @@ fn diploid_row(name: &str, mode: u32, counts: &[[u32; 3]]) {
     row(&format!("diploid, {name}"), "counts to 60", &timings);
 }
 
+/// The whole call of n clusters, on so many inputs, so many times.
+fn trio_row(n: u32, inputs: usize, repeats: usize) {
+    let random = &mut Random::new(70 + u64::from(n));
+    let trios: Vec<Trio> = (0..inputs).map(|_| usual_trio(random, n)).collect();
+    let trios: Vec<&Trio> = trios.iter().collect();
+    let timings = [timing(&trios, |trio| port::trio(trio).pairs), timing(&trios, OURS.call), timing(&trios, STD.call)];
+    row_of(&format!("trio, {n} clusters"), &format!("{inputs} trios"), &quickest(repeats, &timings));
+}
+
 fn many<T>(mut draw: impl FnMut() -> T) -> Vec<T> {
     (0..INPUTS).map(|_| draw()).collect()
 }
@@ -138,5 +153,8 @@ pub fn run() {
     let counts = many(|| [0; 3].map(|_| random.below(61) as u32));
     for (mode, name) in [(0, "Beta"), (1, "Bino"), (2, "Phased")] {
         diploid_row(name, mode, &counts);
+    }
+    for (n, inputs, repeats) in [(2, INPUTS, 31), (4, 1024, 15), (8, 16, 9)] {
+        trio_row(n, inputs, repeats);
     }
 }

@@ -1,9 +1,8 @@
 //! Writes the cases that the gate replays through the program `vectors`: questions to crates/vectors/stdin and the answers, from plain
 //! Rust and kanpig's text and never from the port, to crates/vectors/stdout. The form of both is docs/VECTORS.md. Each kind has a function
 //! of its own.
-use crate::diploid_cases;
 use crate::inputs::{self, Random};
-use crate::kernels;
+use crate::{diploid_cases, kernels, step_cases, trio_cases};
 use std::collections::HashSet;
 use std::fs;
 use std::io;
@@ -178,6 +177,8 @@ pub fn write() -> io::Result<()> {
     kernel_cases(&mut cases);
     spelling_cases(&mut cases);
     diploid_cases::write(&mut cases);
+    trio_cases::write(&mut cases);
+    step_cases::write(&mut cases);
     cases.add("ln 3ff0000000000000", word(kernels::ln(1.0)));
     fs::write("crates/vectors/stdin", cases.questions.join("\n"))?;
     fs::write("crates/vectors/stdout", cases.answers.join("\n") + "\n")?;

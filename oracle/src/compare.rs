@@ -1,7 +1,7 @@
 //! Runs the port and the plain Rust on the same inputs and compares every bit; any NaN equals any NaN.
 use crate::diploid::{self, Input};
 use crate::inputs::{self, Random, Trial};
-use crate::{diploid_inputs, kanpig, kernels, port};
+use crate::{diploid_inputs, kanpig, kernels, port, trio_compare};
 use std::fmt::Debug;
 
 /// How many differences are shown.
@@ -11,8 +11,8 @@ fn same(a: f64, b: f64) -> bool {
     a.to_bits() == b.to_bits() || (a.is_nan() && b.is_nan())
 }
 
-/// Prints one line for a kernel, and its first differences; answers whether there is none.
-fn report<I: Debug, O: Debug>(name: &str, inputs: usize, differences: &[(I, O, O)]) -> bool {
+/// Prints one line, and the first differences; answers whether there is none.
+pub fn report<I: Debug, O: Debug>(name: &str, inputs: usize, differences: &[(I, O, O)]) -> bool {
     println!("{name}: {inputs} inputs, {} differences", differences.len());
     for (input, port, plain) in differences.iter().take(SHOWN) {
         println!("    at {input:?} the port gives {port:?} and plain Rust {plain:?}");
@@ -67,6 +67,14 @@ fn diploids() -> bool {
     equal.iter().all(|&e| e)
 }
 
+fn trios() -> bool {
+    if !kanpig::FOUND {
+        println!("trio: not compared; {}", kanpig::NOT_FOUND);
+        return true;
+    }
+    trio_compare::run()
+}
+
 /// Answers whether nothing differs anywhere.
 pub fn run() -> bool {
     let xs = inputs::floats(1, 150_000);
@@ -81,6 +89,7 @@ pub fn run() -> bool {
         binomial(&trials),
         key(&xs),
         diploids(),
+        trios(),
     ];
     equal.iter().all(|&e| e)
 }

@@ -39,9 +39,7 @@ pub fn run() {
     println!(
         "kanpig's text with the kernels of the rules, and with the standard library's ln, exp, log10 and powf. C's lgamma stands in for"
     );
-    println!(
-        "the log gamma of statrs, which was not run. No table; default and random models within the limits, an eighth of them with"
-    );
+    println!("the log gamma of statrs, which was not run. No table; default and random models within the limits, an eighth of them with");
     println!("states whose parameters are alike, so that scores tie and a last bit decides.");
     println!();
     println!("| mode, counts | inputs | states changed | gq: median | largest | sq: median | largest |");

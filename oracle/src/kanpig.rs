@@ -7,7 +7,7 @@ use std::cmp::Ordering;
 /// Whether kanpig's text was found when this was built.
 pub const FOUND: bool = cfg!(kanpig);
 
-pub const NOT_FOUND: &str = "kanpig's germ_genotyper.rs was not found: name the folder above it in KANPIG_SRC (README.md, \"Comparing\")";
+pub const NOT_FOUND: &str = "kanpig's files were not found: name the folder above them in KANPIG_SRC (README.md, \"Comparing\")";
 
 /// The order of the crate ordered_float: a NaN is the greatest and equals itself, and both zeros are equal.
 pub struct OrderedFloat(pub f64);

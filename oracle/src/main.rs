@@ -1,23 +1,36 @@
 //! The comparison of the port with plain Rust. `oracle/run` builds and starts it, in the repository's folder.
+mod asked;
 mod bench;
 mod cases;
 mod compare;
+mod desks;
 mod diploid;
 mod diploid_cases;
 mod diploid_inputs;
 mod distances;
+mod forged;
+mod histories;
 mod inputs;
 mod kanpig;
 mod kernels;
 mod limits;
 mod pairs;
+mod part;
 mod port;
+mod step_cases;
+mod trio;
+mod trio_cases;
+mod trio_compare;
+mod trio_distances;
+mod trio_inputs;
+mod trio_kanpig;
+mod trio_words;
 
 use std::process::ExitCode;
 
 fn main() -> ExitCode {
     let task = std::env::args().nth(1).unwrap_or_default();
-    if !kanpig::FOUND && ["cases", "distances", "limits"].contains(&task.as_str()) {
+    if !kanpig::FOUND && ["cases", "distances", "histories", "limits"].contains(&task.as_str()) {
         eprintln!("{}", kanpig::NOT_FOUND);
         return ExitCode::FAILURE;
     }
@@ -31,11 +44,16 @@ fn main() -> ExitCode {
             }
         }
         "bench" => bench::run(),
-        "distances" => distances::run(),
+        "histories" if histories::run() => {}
+        "histories" => return ExitCode::FAILURE,
+        "distances" => {
+            distances::run();
+            trio_distances::run();
+        }
         "limits" => limits::run(),
         "pairs" => pairs::run(),
         _ => {
-            eprintln!("usage: oracle compare|cases|bench|distances|limits|pairs");
+            eprintln!("usage: oracle compare|histories|cases|bench|distances|limits|pairs");
             return ExitCode::from(2);
         }
     }

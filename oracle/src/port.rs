@@ -1,6 +1,7 @@
 //! The port's functions, as the crate `exports` names them. They are proved to answer every argument and to touch no memory but what is
 //! lent to them.
 use crate::diploid::{Answer, Input};
+use crate::trio;
 
 #[rustfmt::skip]
 unsafe extern "C" {
@@ -21,6 +22,13 @@ unsafe extern "C" {
         table: *const f64, table_length: usize,
         reference: u32, alt1: u32, alt2: u32,
         state: &mut u32, gq: &mut f64, sq: &mut f64,
+    ) -> u32;
+
+    fn admulfas_trio(
+        clusters: u64,
+        counts: *const u32, counts_length: usize,
+        weights: *const f64, weights_length: usize,
+        pairs: &mut [u64; 6], score: &mut f64, ground: &mut u32, runner: &mut u32, position: &mut u64, second: &mut f64,
     ) -> u32;
 }
 
@@ -53,4 +61,34 @@ pub fn diploid_of(mode: u32, fractions: &[f64], means: &[f64], precisions: &[f64
 
 pub fn diploid(input: &Input) -> Answer {
     diploid_of(input.mode, &input.fractions, &input.means, &input.precisions, &input.table, input.counts)
+}
+
+/// The whole call of a trio. Where there is no runner-up its places must be zero.
+pub fn trio(input: &trio::Input) -> trio::Answer {
+    let (mut pairs, mut score, mut ground) = ([0; 6], 0.0, 0);
+    let (mut runner, mut position, mut second) = (0, 0, 0.0);
+    // SAFETY: each pointer comes with the length of its slice, which outlives the call, and the port only reads there.
+    let number = unsafe {
+        admulfas_trio(
+            u64::from(input.n),
+            input.counts.as_ptr(),
+            input.counts.len(),
+            input.weights.as_ptr(),
+            input.weights.len(),
+            &mut pairs,
+            &mut score,
+            &mut ground,
+            &mut runner,
+            &mut position,
+            &mut second,
+        )
+    };
+    let found = runner != 0 || position != 0 || second.to_bits() != 0;
+    trio::Answer {
+        number,
+        pairs: pairs.map(|number| number as u32),
+        score: score.to_bits(),
+        ground,
+        runner: found.then_some((position as u32, second.to_bits())),
+    }
 }

@@ -1,0 +1,155 @@
+//! Random histories of parts, through the program `vectors` and through the plain model of desks.rs, line by line.
+use crate::asked::Exchange;
+use crate::desks::{Desks, Register, Step};
+use crate::forged::forged;
+use crate::inputs::Random;
+use crate::trio::Input;
+use crate::trio_inputs::{allowed, disturbed, pick};
+use std::collections::BTreeMap;
+
+const HISTORIES: usize = 120_000;
+/// How many histories one run of the program has, in which registers are kept from one to the next.
+const TOGETHER: usize = 500;
+const SHOWN: usize = 5;
+
+/// The inputs of one history: few, small, and some of them alike but for a bit.
+fn inputs(random: &mut Random) -> Vec<Input> {
+    let n = pick(random, &[1, 1, 2, 2, 2, 2, 2, 2, 3, 3, 3, 4]);
+    let first = allowed(random, n);
+    let mut all = vec![first.clone()];
+    if random.below(2) == 0 {
+        let mut like = first;
+        match random.below(3) {
+            0 => like.weights[0] = -like.weights[0] + 0.0,
+            1 => like.counts[0] = (like.counts[0] + 1) % 1_000_001,
+            _ => like.weights[0] = if like.weights[0].to_bits() == 0 { -0.0 } else { 0.0 },
+        }
+        all.push(like);
+    }
+    all
+}
+
+fn register(random: &mut Random) -> usize {
+    pick(random, &[0, 0, 0, 1, 1, 2, 2, 3, 4, 5, 6, 7, 8, 9])
+}
+
+/// A row of the register, rarely one that is not there.
+fn row(random: &mut Random, desks: &Desks, r: usize) -> u32 {
+    let n = desks.registers[r].part().n.clamp(1, 8);
+    let rows = n * (n + 1) / 2;
+    match random.below(12) {
+        0 => pick(random, &[rows, rows + 1, 36, 63, 64, 65, u32::MAX]),
+        _ => random.below(u64::from(rows)) as u32,
+    }
+}
+
+/// A line that cannot be read, and would change registers if it were.
+fn unreadable(random: &mut Random) -> String {
+    let lines =
+        ["open 10 1 3 1 1 1 1 3ff0000000000000", "row 0", "row 0 ", "row 0 0 0", "row 10 0", "row 0 4294967296", "merge 0", "merge 0 10"];
+    let more = [
+        "copy 0 10",
+        "copy 10 0",
+        "copy 0",
+        "close",
+        "close 10",
+        "close 0 0",
+        "show 10",
+        "part 0 1",
+        "open 0 1 3 1 1 1 2 3ff0000000000000",
+    ];
+    let at = random.below((lines.len() + more.len()) as u64) as usize;
+    lines.iter().chain(&more).nth(at).expect("there is such a line").to_string()
+}
+
+fn step(random: &mut Random, desks: &Desks, inputs: &[Input]) -> Step {
+    let (r, s) = (register(random), register(random));
+    match random.below(32) {
+        0..=2 => Step::Open(r, inputs[random.below(inputs.len() as u64) as usize].clone()),
+        3 => Step::Open(r, disturbed(random)),
+        4..=5 => Step::Part(r, forged(random, &desks.registers[s].part())),
+        6..=7 => Step::Copy(r, s),
+        8..=17 => Step::Row(r, row(random, desks, r)),
+        18..=24 => Step::Merge(r, s),
+        25 => Step::Merge(r, r),
+        26..=27 => Step::Close(r),
+        28..=30 => Step::Show(r),
+        _ => Step::Unreadable(unreadable(random)),
+    }
+}
+
+/// The rows that a register lacks, in no order.
+fn missing(random: &mut Random, register: &Register) -> Vec<u32> {
+    let Register::Rows(trio, rows) = register else {
+        return vec![];
+    };
+    let mut missing: Vec<u32> = (0..trio.rows).filter(|row| !rows.contains(row)).collect();
+    for i in (1..missing.len()).rev() {
+        missing.swap(i, random.below(i as u64 + 1) as usize);
+    }
+    missing
+}
+
+/// One history: openings, a few dozen steps of any kind, and the rows that are left of one part, which is then closed and shown. Questions
+/// with the model's answers.
+pub fn history(random: &mut Random, desks: &mut Desks) -> Vec<(String, String)> {
+    let inputs = inputs(random);
+    let mut lines = Vec::new();
+    let mut take = |desks: &mut Desks, step: Step| lines.push((step.question(), desks.answer(&step)));
+    for r in 0..3 {
+        let input = inputs[random.below(inputs.len() as u64) as usize].clone();
+        take(desks, Step::Open(r, input));
+    }
+    for _ in 0..10 + random.below(20) {
+        let step = step(random, desks, &inputs);
+        take(desks, step);
+    }
+    let r = register(random);
+    for row in missing(random, &desks.registers[r]) {
+        take(desks, Step::Row(r, row));
+    }
+    take(desks, Step::Close(r));
+    take(desks, Step::Show(r));
+    lines
+}
+
+/// How often each kind of line had each answer, by the first words.
+#[derive(Default)]
+struct Tally(BTreeMap<(String, String), u64>);
+
+impl Tally {
+    fn count(&mut self, question: &str, answer: &str) {
+        let first = |text: &str| text.split(' ').next().unwrap_or_default().to_string();
+        let answer = if question.starts_with("show ") && answer != "?" { "a part".to_string() } else { first(answer) };
+        *self.0.entry((first(question), answer)).or_default() += 1;
+    }
+
+    fn print(&self) {
+        for ((kind, answer), times) in &self.0 {
+            println!("    {kind} answered {answer}: {times}");
+        }
+    }
+}
+
+/// Answers whether nothing differs anywhere.
+pub fn run() -> bool {
+    let random = &mut Random::new(50);
+    let (mut lines, mut differences, mut tally) = (0, Vec::new(), Tally::default());
+    for _ in 0..HISTORIES / TOGETHER {
+        let (mut desks, mut exchange) = (Desks::new(), Exchange::default());
+        for _ in 0..TOGETHER {
+            for (question, answer) in history(random, &mut desks) {
+                tally.count(&question, &answer);
+                exchange.add(question, answer);
+            }
+        }
+        lines += exchange.questions.len();
+        differences.extend(exchange.differences());
+    }
+    println!("{HISTORIES} histories, {lines} lines, {} differences", differences.len());
+    for (question, port, plain) in differences.iter().take(SHOWN) {
+        println!("    at `{question}` the port gives `{port}` and the model `{plain}`");
+    }
+    tally.print();
+    differences.is_empty()
+}

@@ -1,0 +1,44 @@
+//! The cases of the trio as text (docs/VECTORS.md): questions, and answers in the words that `vectors` writes.
+use crate::cases::word;
+use crate::trio::{Answer, Input, Pair};
+
+fn joined<T>(items: &[T], text: impl Fn(&T) -> String) -> String {
+    items.iter().map(text).collect::<Vec<_>>().join(" ")
+}
+
+pub fn floats(xs: &[f64]) -> String {
+    joined(xs, |&x| word(x))
+}
+
+pub fn numbers(xs: &[u32]) -> String {
+    joined(xs, u32::to_string)
+}
+
+/// Cluster number, counts and weights.
+pub fn input(input: &Input) -> String {
+    let counts = format!("{} {}", input.counts.len(), numbers(&input.counts));
+    let weights = format!("{} {}", input.weights.len(), floats(&input.weights));
+    format!("{} {} {}", input.n, counts.trim_end(), weights.trim_end())
+}
+
+pub fn call(trio: &Input) -> String {
+    format!("call {}", input(trio))
+}
+
+pub fn sample(trio: &Input, column: usize, (h1, h2): Pair) -> String {
+    format!("sample {} {column} {h1} {h2}", input(trio))
+}
+
+pub fn mendel(child: Pair, father: Pair, mother: Pair) -> String {
+    format!("mendel {} {} {} {} {} {}", child.0, child.1, father.0, father.1, mother.0, mother.1)
+}
+
+/// What `call` and `close` answer.
+pub fn answer(answer: &Answer) -> String {
+    let runner = match answer.runner {
+        Some((position, score)) => format!("1 {position} {}", word(f64::from_bits(score))),
+        None => "0".to_string(),
+    };
+    let score = word(f64::from_bits(answer.score));
+    format!("{} {} {score} {} {runner}", answer.number, numbers(&answer.pairs), answer.ground)
+}
