@@ -5,7 +5,7 @@ use mathlib.Core.List.{List, [], _∷_, map}
 use mathlib.Core.Path.{_≡_, refl, sym, ap, ap₂, subst, _∙_}
 use native.Mathlib.Nat.{mul-le-mul, le-trans, le-of-suc-le-suc, not-suc-le-zero}
 use native.Mathlib.Omega.{arith}
-use borrow.Author.Tests.{eqb-true}
+use borrow.Author.Tests.{eqb-true, eq-eqb}
 use lib.Dec.{eqb, lit≤, lit<}
 use lib.ListN.{length, getD}
 use lib.Ieee.{Float, inf}
@@ -109,6 +109,16 @@ unread-column n counts h = go (eqb (columnTotal n counts 0) 0) refl (eqb (column
     go true e b f h = (0, lit< tt, eqb-true (columnTotal n counts 0) 0 e)
     go false e true f h = (1, lit< tt, eqb-true (columnTotal n counts 1) 0 f)
     go false e false f h = (2, lit< tt, eqb-true (columnTotal n counts 2) 0 h)
+
+-- a mother without reads makes a trio unread
+pub unread-of : (n : ℕ) (counts : List ℕ) → columnTotal n counts 2 ≡ 0 → unread n counts ≡ true
+unfolding unread
+unread-of n counts e = rw (eq-eqb (columnTotal n counts 2) 0 e) (go (eqb (columnTotal n counts 0) 0) (eqb (columnTotal n counts 1) 0))
+  where
+    go : (a b : Bool) → (a || (b || true)) ≡ true
+    go true b = refl
+    go false true = refl
+    go false false = refl
 
 module _ (n : ℕ) (counts : List ℕ) (weights : List Float) (accepted : numberOf (openStep n counts weights .refusal) ≡ 0) (many : 2 ≤ n) where
   pub unread-call : unread n counts ≡ true → LastUnread n (callOf n counts weights)

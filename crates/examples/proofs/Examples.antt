@@ -1,6 +1,9 @@
--- The table of examples holds: antt computes each line from the definitions, but for X10, which is a law. Assumes nothing.
-use mathlib.Core.Path.{refl}
-use lib.Ieee.{size, isNan, neg, add, sub, mul, div, round, lt, le, ofInt, ofBits, toBits}
+-- The table of examples holds: antt computes X7 to X9 from the definitions, and the others are laws of the crates below. Assumes nothing.
+use Prim.Native.Nat.{ℕ}
+use mathlib.Core.List.{List}
+use mathlib.Core.Path.{_≡_, refl}
+use lib.Dec.{lit≤}
+use lib.Ieee.{Float, size, isNan, neg, add, sub, mul, div, round, lt, le, ofInt, ofBits, toBits}
 use Rattle.floats.specs.Apart.{exponent, significand}
 use Rattle.floats.specs.Key.{keyOf}
 use Rattle.kernels.specs.Ln.{lnNearOne, lnParts, lnReduced, lnPositive, lnOf}
@@ -9,8 +12,37 @@ use Rattle.diploid.specs.Allowed.{modelAllowed}
 use Rattle.tables.specs.Tables.{entries, neverFalling, tableAllowed}
 use Rattle.diploid.specs.Genotype.{genotypeBy}
 use Rattle.diploid_laws.proofs.WinnerLaws.{equal-scores}
-use Rattle.examples.specs.Examples.{Examples}
+use Rattle.refusals.specs.Refusals.{numberOf}
+use Rattle.trio.specs.Genotypes.{genotypeCount}
+use Rattle.trio.specs.Samples.{columnTotal}
+use Rattle.trio.specs.Steps.{openStep}
+use Rattle.desks.specs.Call.{callOf}
+use Rattle.desks.proofs.ChildPairLaws.{one-pair, three-pairs, two-pairs, four-pairs}
+use Rattle.desks.proofs.TripleLaws.{genotype-counts, triple-counts}
+use Rattle.desks.proofs.UnreadCalls.{unread-of, unread-call}
+use Rattle.examples.specs.Examples.{LastOfTwo, Examples}
+
+-- X2: the law of unread trios at two clusters, with its numbers worked out
+unread-mother : (counts : List ℕ) (weights : List Float) → numberOf (openStep 2 counts weights .refusal) ≡ 0 → columnTotal 2 counts 2 ≡ 0 → LastOfTwo (callOf 2 counts weights)
+unfolding genotypeCount
+unread-mother counts weights accepted none =
+    let l = unread-call 2 counts weights accepted (lit≤ tt) (unread-of 2 counts none) in
+    record { done = l .is-done; at = l .at; pairs = l .triple-is; ground-is = l .ground-is }
 
 pub examples : Examples
 unfolding keyOf lnOf lnPositive lnReduced lnParts lnNearOne exponent significand expOf expParts expSeries genotypeBy modelAllowed tableAllowed entries neverFalling size isNan neg add sub mul div round lt le ofInt ofBits toBits
-examples = record { zero-keys = refl; ln-of-one = refl; exp-of-zero = refl; no-reads = refl; equal-scores = equal-scores }
+examples =
+    record {
+      genotypes-number = genotype-counts;
+      triples-number = triple-counts;
+      unread-mother = unread-mother;
+      one-pair = one-pair;
+      three-pairs = three-pairs;
+      two-pairs = two-pairs;
+      four-pairs = four-pairs;
+      zero-keys = refl;
+      ln-of-one = refl;
+      exp-of-zero = refl;
+      no-reads = refl;
+      equal-scores = equal-scores;
+    }

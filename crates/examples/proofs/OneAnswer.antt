@@ -4,6 +4,7 @@ use mathlib.Core.Path.{_≡_, sym, _∙_}
 use Rattle.refusals.proofs.number.Reads as number
 use Rattle.refusals.proofs.name.Reads as name
 use Rattle.floats.proofs.key.key.Reads as key
+use Rattle.floats.proofs.bits.bits.Reads as bits
 use Rattle.kernels.proofs.ln.ln.Reads as ln
 use Rattle.kernels.proofs.exp.exp.Reads as exp
 use Rattle.kernels.proofs.log10.log10.Reads as log10
@@ -21,6 +22,27 @@ use Rattle.tables.proofs.calibration.calibrate_gq.Reads as calibrate-gq
 use Rattle.qualities.proofs.order.max.Reads as max
 use Rattle.qualities.proofs.quality.genotype_quals.Reads as genotype-quals
 use Rattle.diploid.proofs.genotype.genotype.Reads as genotype
+use Rattle.search.proofs.entry.beats.Reads as beats
+use Rattle.search.proofs.held.Held.nothing.Reads as held-nothing
+use Rattle.search.proofs.held.offer.Reads as offer
+use Rattle.search.proofs.held.merge_held.Reads as merge-held
+use Rattle.search.proofs.marks.row_marked.Reads as row-marked
+use Rattle.search.proofs.marks.all_marked.Reads as all-marked
+use Rattle.search.proofs.shape.work_right.Reads as work-right
+use Rattle.trio.proofs.mendel.distinct_pairs.Reads as distinct-pairs
+use Rattle.trio.proofs.mendel.mendelian_prior.Reads as mendelian-prior
+use Rattle.trio.proofs.samples.sample_number.Reads as sample-number
+use Rattle.trio.proofs.part.Part.empty.Reads as part-empty
+use Rattle.trio.proofs.shape.right_part.Reads as right-part
+use Rattle.trio.proofs.animal.sample_score.Reads as sample-score
+use Rattle.trio.proofs.opening.open_part.Reads as open-part
+use Rattle.trio.proofs.rows.row_count.Reads as row-count
+use Rattle.trio.proofs.rows.work_row.Reads as work-row
+use Rattle.trio.proofs.merging.merge.Reads as merge
+use Rattle.trio.proofs.closing.ground_number.Reads as ground-number
+use Rattle.trio.proofs.closing.refused_closing.Reads as refused-closing
+use Rattle.trio.proofs.closing.close.Reads as close
+use Rattle.desks.proofs.call.call.Reads as call
 use Rattle.exports.proofs.admulfas_ln.Reads as c-ln
 use Rattle.exports.proofs.admulfas_exp.Reads as c-exp
 use Rattle.exports.proofs.admulfas_log10.Reads as c-log10
@@ -29,6 +51,7 @@ use Rattle.exports.proofs.admulfas_ln_gamma.Reads as c-ln-gamma
 use Rattle.exports.proofs.admulfas_ln_pmf.Reads as c-ln-pmf
 use Rattle.exports.proofs.admulfas_key.Reads as c-key
 use Rattle.exports.proofs.diploid_call.admulfas_diploid.Reads as c-diploid
+use Rattle.exports.proofs.trio_call.admulfas_trio.Reads as c-trio
 
 -- Whatever the lifetimes and the arguments, and whatever these refer to at the end of either call, at most one result meets the contract.
 abbrev pub OneAnswer : {K : Type 0} {A R E : K → Type 0} → ((κ : K) → A κ → R κ → E κ → Type 0) → Type 0
@@ -50,6 +73,9 @@ name-once κ a v w e f = only
 
 pub key-once : OneAnswer key.Post
 key-once κ a v w e f = only
+
+pub bits-once : OneAnswer bits.Post
+bits-once κ a v w e f = only
 
 -- ---- kernels
 
@@ -114,6 +140,75 @@ genotype-quals-once κ a v w e f = only
 pub genotype-once : OneAnswer genotype.Post
 genotype-once κ a v w e f = only
 
+-- ---- search
+
+pub beats-once : OneAnswer beats.Post
+beats-once κ a v w e f = only
+
+pub held-nothing-once : OneAnswer held-nothing.Post
+held-nothing-once κ a v w e f = only
+
+pub offer-once : OneAnswer offer.Post
+offer-once κ a v w e f = only
+
+pub merge-held-once : OneAnswer merge-held.Post
+merge-held-once κ a v w e f = only
+
+pub row-marked-once : OneAnswer row-marked.Post
+row-marked-once κ a v w e f = only
+
+pub all-marked-once : OneAnswer all-marked.Post
+all-marked-once κ a v w e f = only
+
+pub work-right-once : OneAnswer work-right.Post
+work-right-once κ a v w e f = only
+
+-- ---- trio
+
+pub distinct-pairs-once : OneAnswer distinct-pairs.Post
+distinct-pairs-once κ a v w e f = only
+
+pub mendelian-prior-once : OneAnswer mendelian-prior.Post
+mendelian-prior-once κ a v w e f = only
+
+pub sample-number-once : OneAnswer sample-number.Post
+sample-number-once κ a v w e f = only
+
+pub part-empty-once : OneAnswer part-empty.Post
+part-empty-once κ a v w e f = only
+
+pub right-part-once : OneAnswer right-part.Post
+right-part-once κ a v w e f = only
+
+pub sample-score-once : OneAnswer sample-score.Post
+sample-score-once κ a v w e f = only
+
+pub open-part-once : OneAnswer open-part.Post
+open-part-once κ a v w e f = only
+
+pub row-count-once : OneAnswer row-count.Post
+row-count-once κ a v w e f = only
+
+pub work-row-once : OneAnswer work-row.Post
+work-row-once κ a v w e f = only
+
+pub merge-once : OneAnswer merge.Post
+merge-once κ a v w e f = only
+
+pub ground-number-once : OneAnswer ground-number.Post
+ground-number-once κ a v w e f = only
+
+pub refused-closing-once : OneAnswer refused-closing.Post
+refused-closing-once κ a v w e f = only
+
+pub close-once : OneAnswer close.Post
+close-once κ a v w e f = only
+
+-- ---- desks
+
+pub call-once : OneAnswer call.Post
+call-once κ a v w e f = only
+
 -- ---- exports
 
 pub c-ln-once : OneAnswer c-ln.Post
@@ -146,3 +241,16 @@ pub c-diploid-ends : (κ : _) (a : _) (v w : _) (e f : _) → c-diploid.Post κ 
     × (e .1 .1 .1 .1 .1 .1 .1 .1 .1 .0 .now ≡ f .1 .1 .1 .1 .1 .1 .1 .1 .1 .0 .now)
     × (e .1 .1 .1 .1 .1 .1 .1 .1 .1 .1 .0 .now ≡ f .1 .1 .1 .1 .1 .1 .1 .1 .1 .1 .0 .now)
 c-diploid-ends κ a v w e f p q = (only (p .1) (q .1), only (p .2) (q .2), only (p .3) (q .3))
+
+pub c-trio-once : OneAnswer c-trio.Post
+c-trio-once κ a v w e f p q = only (p .0) (q .0)
+
+-- and so is what it leaves behind its `&mut`, its fourth to ninth parameter: the pairs, the score, the ground, the flag, the position and the score of the runner-up
+pub c-trio-ends : (κ : _) (a : _) (v w : _) (e f : _) → c-trio.Post κ a v e → c-trio.Post κ a w f
+    → (e .1 .1 .1 .0 .now ≡ f .1 .1 .1 .0 .now)
+    × (e .1 .1 .1 .1 .0 .now ≡ f .1 .1 .1 .1 .0 .now)
+    × (e .1 .1 .1 .1 .1 .0 .now ≡ f .1 .1 .1 .1 .1 .0 .now)
+    × (e .1 .1 .1 .1 .1 .1 .0 .now ≡ f .1 .1 .1 .1 .1 .1 .0 .now)
+    × (e .1 .1 .1 .1 .1 .1 .1 .0 .now ≡ f .1 .1 .1 .1 .1 .1 .1 .0 .now)
+    × (e .1 .1 .1 .1 .1 .1 .1 .1 .0 .now ≡ f .1 .1 .1 .1 .1 .1 .1 .1 .0 .now)
+c-trio-ends κ a v w e f p q = (only (p .1) (q .1), only (p .2) (q .2), only (p .3) (q .3), only (p .4) (q .4), only (p .5) (q .5), only (p .6) (q .6))

@@ -1,18 +1,47 @@
 -- The worked examples that are proved, as one table (RULES.md, X). Equal floats here are equal in every bit. Definitions only.
+use Prim.Native.Nat.{ℕ}
 use mathlib.Core.Path.{_≡_}
-use mathlib.Core.List.{[]}
-use lib.Ieee.{neg}
+use mathlib.Core.List.{List, []}
+use lib.ListN.{length}
+use lib.Ieee.{Float, neg}
 use Rattle.floats.specs.F64.{nat}
 use Rattle.floats.specs.Key.{keyOf}
 use Rattle.kernels.specs.Ln.{lnOf}
 use Rattle.kernels.specs.Exp.{expOf}
 use Rattle.refusals.specs.declared.Refusal.the-variants.{Done}
+use Rattle.refusals.specs.Refusals.{numberOf}
+use Rattle.trio.specs.declared.closing.Closed.{Closed}
+use Rattle.trio.specs.declared.closing.Ground.the-variants.{Unread}
+use Rattle.trio.specs.declared.samples.Sample.the-variants.{Mother}
+use Rattle.trio.specs.Genotypes.{pair, genotypeCount, triples}
+use Rattle.trio.specs.Mendel.{childPairs}
+use Rattle.trio.specs.Samples.{sampleNumber, columnTotal}
+use Rattle.trio.specs.Steps.{openStep}
+use Rattle.desks.specs.Call.{callOf}
 use Rattle.models.specs.declared.state.State.the-variants.{Hom}
 use Rattle.qualities.specs.declared.scores.Scores.{Scores}
 use Rattle.models.specs.Models.{defaultModel}
 use Rattle.diploid.specs.Genotype.{winner, blank, genotypeOf}
 
+-- the call of two clusters whose mother was not read: at the last position, every pair (1,1), and Unread
+pub record LastOfTwo (c : Closed) : Type 0 where
+  pub done : c .refusal ≡ Done
+  pub at : c .part .held .first .position ≡ 26
+  pub pairs : c .triple ≡ record { child = pair 1 1; father = pair 1 1; mother = pair 1 1 }
+  pub ground-is : c .ground ≡ Unread
+
 pub record Examples : Type 0 where
+  -- X1: genotypes and triples of 1, 2, 3 and 8 clusters, counted from their lists
+  pub genotypes-number : (genotypeCount 1 ≡ 1) × (genotypeCount 2 ≡ 3) × (genotypeCount 3 ≡ 6) × (genotypeCount 8 ≡ 36)
+  pub triples-number : (length (triples 1) ≡ 1) × (length (triples 2) ≡ 27) × (length (triples 3) ≡ 216) × (length (triples 8) ≡ 46656)
+  -- X2: over all accepted counts and weights of two clusters whose mother has no reads
+  pub unread-mother : (counts : List ℕ) (weights : List Float) → numberOf (openStep 2 counts weights .refusal) ≡ 0 → columnTotal 2 counts (sampleNumber Mother) ≡ 0
+      → LastOfTwo (callOf 2 counts weights)
+  -- X3 to X6: how many different pairs the parents can make
+  pub one-pair : length (childPairs (pair 0 0) (pair 1 1)) ≡ 1
+  pub three-pairs : length (childPairs (pair 0 1) (pair 0 1)) ≡ 3
+  pub two-pairs : length (childPairs (pair 0 0) (pair 0 1)) ≡ 2
+  pub four-pairs : length (childPairs (pair 0 1) (pair 0 2)) ≡ 4
   -- X7: the keys of 0.0 and −0.0
   pub zero-keys : keyOf (nat 0) ≡ keyOf (neg (nat 0))
   -- X8: ln 1 = 0.0 and exp 0 = 1.0
