@@ -1,8 +1,8 @@
 -- `sameNumbers` on what is left of two lists from place i on: what a loop that compares them needs.
 use Prim.Native.Nat.{ℕ, _+_, _≤_, _<_}
 use mathlib.Core.Bool.{true, false}
-use mathlib.Core.List.{List, [], _∷_}
-use mathlib.Core.Path.{_≡_, refl}
+use mathlib.Core.List.{List}
+use mathlib.Core.Path.{_≡_}
 use native.Mathlib.Numerals.{add-one}
 use borrow.Author.Tests.{eq-eqb, ne-eqb}
 use lib.ListN.{length, getD, drop, drop-of-length-le}
@@ -19,7 +19,3 @@ module _ (a b : List ℕ) (d i : ℕ) where
 
   pub same-end : length a ≤ i → length b ≤ i → true ≡ sameNumbers (drop i a) (drop i b)
   same-end ha hb = rw (drop-of-length-le a ha, drop-of-length-le b hb)
-
-pub same-self : (a : List ℕ) → sameNumbers a a ≡ true
-same-self [] = refl
-same-self (x ∷ a) = rw (eq-eqb x x refl) (same-self a)

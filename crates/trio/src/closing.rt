@@ -1,7 +1,6 @@
 // Closing a part: the call, its score, the runner-up and the ground (docs/RULES.md, T9, T10).
 ghost use mathlib.Core.Path.{_≡_};
 ghost use Prim.Native.Nat.{_≤_};
-ghost use Rattle.floats.specs.Key.{keyOf};
 ghost use Rattle.trio.specs.Steps.{groundNumber, groundOf, unread, refusedClosing, closedAs, closeStep};
 use crate::genotypes::Pair;
 use crate::genotypes::Triple;

@@ -1,9 +1,9 @@
 // The trio genotyper: the best pairs of child, father and mother, searched in rows that desks may share.
+pub mod animal;
 pub mod closing;
 pub mod genotypes;
 pub mod mendel;
 pub mod merging;
-pub mod animal;
 pub mod opening;
 pub mod part;
 pub mod rows;

@@ -23,17 +23,21 @@ returns-2 c =
     let a = c .before .before .before .before .before .args in
     let o = c .before .before .before .before .tidy .result in
     let e = c .before .before .before .before .tidy .ensures in
-    rw (c .if2 .taken) (c .before .offer-fresh .ensures ∙ merge-one o (a .b .first) (a .b .second) (tidy-normal (a .a) o e) ∙ ap (λ (l : List Entry). heldOf (mergedHeld l (inUse 1 (a .b .first) (a .b .second)))) (tidy-list (a .a) o e))
+    rw (c .if2 .taken)
+    (c .before .offer-fresh .ensures ∙ merge-one o (a .b .first) (a .b .second) (tidy-normal (a .a) o e)
+    ∙ ap (λ (l : List Entry). heldOf (mergedHeld l (inUse 1 (a .b .first) (a .b .second)))) (tidy-list (a .a) o e))
 
 offer-fresh-requires-2 : tie.Need-offer-fresh-requires-2
 offer-fresh-requires-2 c κs = search needs
 
 returns-3 : tie.Need-returns-3
 returns-3 c =
-    let a = c .before .before .before .before .before .before .before .args in
-    let o = c .before .before .before .before .before .before .tidy .result in
-    let e = c .before .before .before .before .before .before .tidy .ensures in
-    c .offer-fresh2 .ensures ∙ merge-two o (a .b .first) (a .b .second) (tidy-normal (a .a) o e) (a .b .count) (c .before .before .before .offer-fresh .result) (c .before .before .before .before .before .if1 .left) (c .before .before .if2 .left) (c .before .before .before .offer-fresh .ensures)
+    let d = c .before .before .before in
+    let a = d .before .before .before .before .args in
+    let o = d .before .before .before .tidy .result in
+    let e = d .before .before .before .tidy .ensures in
+    c .offer-fresh2 .ensures
+    ∙ merge-two o (a .b .first) (a .b .second) (tidy-normal (a .a) o e) (a .b .count) (d .offer-fresh .result) (d .before .before .if1 .left) (c .before .before .if2 .left) (d .offer-fresh .ensures)
     ∙ ap (λ (l : List Entry). heldOf (mergedHeld l (inUse (a .b .count) (a .b .first) (a .b .second)))) (tidy-list (a .a) o e)
 
 pub merge-held-spec : {M : Type 1} → statement M

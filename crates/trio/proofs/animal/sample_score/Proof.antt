@@ -1,16 +1,21 @@
 -- `trio::animal::sample_score` meets its contract. By the shape of the part.
 use Prim.Native.Nat.{ℕ, _<_}
-use mathlib.Core.Path.{sym, subst, _∙_}
+use mathlib.Core.Bool.{true}
+use mathlib.Core.Path.{_≡_, sym, subst, _∙_}
+use borrow.Author.Needs.{needs}
 use lib.Dec.{lit<}
 use lib.Ieee.{round, ofInt, ofBits}
 use Rattle.trio.specs.declared.samples.Sample.{Sample}
 use Rattle.trio.specs.declared.samples.Sample.the-variants.{Child, Father, Mother}
+use Rattle.trio.specs.Part.{rightPart}
 use Rattle.trio.specs.Samples.{sampleNumber}
 use Rattle.trio.specs.Steps.{sampleStep}
 use Rattle.trio.proofs.ShapeCode.{few-clusters}
-use borrow.Author.Needs.{needs}
 use Rattle.trio.proofs.animal.sample_score.Statement.{statement}
 use Rattle.trio.proofs.animal.sample_score.Tie as tie
+
+right : (c : tie.Then1) → rightPart (c .before .before .args .p) ≡ true
+right c = sym (c .before .right-part .ensures) ∙ c .if1 .taken
 
 sample-below : (s : Sample) → sampleNumber s < 3
 sample-below Child = lit< tt
@@ -24,13 +29,13 @@ sample-number-requires : tie.Need-sample-number-requires
 sample-number-requires c κs = search needs
 
 compute-log-likelihood-requires : tie.Need-compute-log-likelihood-requires
-compute-log-likelihood-requires c κs = 
+compute-log-likelihood-requires c κs =
     let a = c .before .before .before .before .before .args in
-    (few-clusters (a .p) (sym (c .before .before .before .before .right-part .ensures) ∙ c .before .before .before .if1 .taken), subst (λ (n : ℕ). n < 3) (sym (c .sample-number .ensures)) (sample-below (a .s)))
+    (few-clusters (a .p) (right (c .before .before .before)), subst (λ (n : ℕ). n < 3) (sym (c .sample-number .ensures)) (sample-below (a .s)))
 
 returns : tie.Need-returns
 unfolding sampleStep
-returns c = rw (sym (c .before .before .before .before .before .right-part .ensures) ∙ c .before .before .before .before .if1 .taken, c .compute-log-likelihood .ensures, c .before .sample-number .ensures)
+returns c = rw (right (c .before .before .before .before), c .compute-log-likelihood .ensures, c .before .sample-number .ensures)
 
 returns-2 : tie.Need-returns-2
 unfolding sampleStep round ofInt ofBits

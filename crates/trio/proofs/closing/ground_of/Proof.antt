@@ -31,7 +31,7 @@ key-requires-2 c κs = search needs
 
 returns-3 : tie.Need-returns-3
 unfolding groundOf tied
-returns-3 c = 
+returns-3 c =
     let h = c .before .before .before .before .before .before .before .args .h in
     let u = sym (c .before .before .before .before .before .before .is-unread .ensures) ∙ c .before .before .before .before .before .if1 .left in
     let two = le-leb 2 (h .count) (c .before .before .before .if2 .left) in
@@ -42,7 +42,7 @@ returns-3 c =
 
 returns-4 : tie.Need-returns-4
 unfolding groundOf tied
-returns-4 c = 
+returns-4 c =
     let h = c .before .before .before .before .before .before .before .args .h in
     let u = sym (c .before .before .before .before .before .before .is-unread .ensures) ∙ c .before .before .before .before .before .if1 .left in
     let two = le-leb 2 (h .count) (c .before .before .before .if2 .left) in

@@ -21,7 +21,7 @@ column-total-requires-2 c κs = search needs
 
 returns-2 : tie.Need-returns-2
 unfolding unread
-returns-2 c = 
+returns-2 c =
     let a = c .before .before .before .before .args in
     rw (ne-eqb (columnTotal (a .n) (a .counts) 0) 0 (λ e. c .before .before .if1 .left (c .before .before .before .column-total .ensures .0 ∙ e)), eq-eqb (columnTotal (a .n) (a .counts) 1) 0 (sym (c .before .column-total2 .ensures .0) ∙ c .if2 .taken))
 
@@ -30,7 +30,7 @@ column-total-requires-3 c κs = search needs
 
 returns-3 : tie.Need-returns-3
 unfolding unread
-returns-3 c = 
+returns-3 c =
     let a = c .before .before .before .before .before .args in
     rw (ne-eqb (columnTotal (a .n) (a .counts) 0) 0 (λ e. c .before .before .before .if1 .left (c .before .before .before .before .column-total .ensures .0 ∙ e)), ne-eqb (columnTotal (a .n) (a .counts) 1) 0 (λ e. c .before .if2 .left (c .before .before .column-total2 .ensures .0 ∙ e)))
     (ap (λ (n : ℕ). eqb n 0) (c .column-total3 .ensures .0))

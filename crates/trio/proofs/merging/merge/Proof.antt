@@ -1,9 +1,17 @@
 -- `trio::merging::merge` meets its contract. By each test in turn.
-use mathlib.Core.Path.{sym, _∙_}
-use Rattle.trio.specs.Steps.{mergeStep}
+use mathlib.Core.Bool.{true}
+use mathlib.Core.Path.{_≡_, sym, _∙_}
 use borrow.Author.Needs.{needs}
+use Rattle.trio.specs.Part.{rightPart}
+use Rattle.trio.specs.Steps.{mergeStep}
 use Rattle.trio.proofs.merging.merge.Statement.{statement}
 use Rattle.trio.proofs.merging.merge.Tie as tie
+
+right : (c : tie.Then1) → rightPart (c .before .before .args .a) ≡ true
+right c = sym (c .before .right-part .ensures) ∙ c .if1 .taken
+
+right-2 : (c : tie.Then2) → rightPart (c .before .before .before .before .args .b) ≡ true
+right-2 c = sym (c .before .right-part2 .ensures) ∙ c .if2 .taken
 
 right-part-requires : tie.Need-right-part-requires
 right-part-requires c κs = search needs
@@ -19,15 +27,15 @@ joined-requires c κs = search needs
 
 returns : tie.Need-returns
 unfolding mergeStep
-returns c = rw (sym (c .before .before .before .before .before .before .right-part .ensures) ∙ c .before .before .before .before .before .if1 .taken, sym (c .before .before .before .before .right-part2 .ensures) ∙ c .before .before .before .if2 .taken, sym (c .before .before .same-input .ensures) ∙ c .before .if3 .taken, c .joined .ensures)
+returns c = rw (right (c .before .before .before .before .before), right-2 (c .before .before .before), sym (c .before .before .same-input .ensures) ∙ c .before .if3 .taken, c .joined .ensures)
 
 returns-2 : tie.Need-returns-2
 unfolding mergeStep
-returns-2 c = rw (sym (c .before .before .before .before .before .right-part .ensures) ∙ c .before .before .before .before .if1 .taken, sym (c .before .before .before .right-part2 .ensures) ∙ c .before .before .if2 .taken, sym (c .before .same-input .ensures) ∙ c .if3 .left)
+returns-2 c = rw (right (c .before .before .before .before), right-2 (c .before .before), sym (c .before .same-input .ensures) ∙ c .if3 .left)
 
 returns-3 : tie.Need-returns-3
 unfolding mergeStep
-returns-3 c = rw (sym (c .before .before .before .right-part .ensures) ∙ c .before .before .if1 .taken, sym (c .before .right-part2 .ensures) ∙ c .if2 .left)
+returns-3 c = rw (right (c .before .before), sym (c .before .right-part2 .ensures) ∙ c .if2 .left)
 
 returns-4 : tie.Need-returns-4
 unfolding mergeStep

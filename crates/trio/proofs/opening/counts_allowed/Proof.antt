@@ -1,6 +1,6 @@
 -- `trio::opening::counts_allowed` meets its contract. The loop's invariant: what is left of the slice decides.
 use Prim.Native.Nat.{_≤_, _-_}
-use mathlib.Core.Path.{_≡_, sym, _∙_}
+use mathlib.Core.Path.{_≡_, _∙_}
 use borrow.Author.Tests.{le-leb, lt-leb}
 use lib.ListN.{length, drop}
 use Rattle.trio.specs.Part.{countAllowed}
@@ -26,7 +26,7 @@ shared-slice-read-if1 : tie.Need-shared-slice-read-if1 Inv-loop μ-loop
 shared-slice-read-if1 c = search needs
 
 returns : tie.Need-returns Inv-loop μ-loop
-returns c = 
+returns c =
     let a = c .before .before .before .before .args in
     let s = c .before .before .before .loop in
     every-bad countAllowed 0 (a .counts .now) (s .i) (search needs) (lt-leb _ _ (c .if1 .taken)) ∙ s .inv .1
@@ -38,13 +38,13 @@ loop-less : tie.Need-loop-less Inv-loop μ-loop
 loop-less c = search needs
 
 loop-again : tie.Need-loop-again Inv-loop μ-loop
-loop-again c = 
+loop-again c =
     let a = c .before .before .before .before .args in
     let s = c .before .before .before .loop in
     (search needs, every-more countAllowed 0 (a .counts .now) (s .i) (search needs) (le-leb _ _ (c .if1 .left)) ∙ s .inv .1)
 
 returns-2 : tie.Need-returns-2 Inv-loop μ-loop
-returns-2 c = 
+returns-2 c =
     let a = c .before .before .args in
     let s = c .before .loop in
     every-end countAllowed 0 (a .counts .now) (s .i) (search needs) ∙ s .inv .1

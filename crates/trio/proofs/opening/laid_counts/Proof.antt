@@ -1,6 +1,6 @@
 -- `trio::opening::laid_counts` meets its contract. The loop's invariant: the first i numbers are laid.
 use Prim.Native.Nat.{_≤_, _-_}
-use mathlib.Core.Path.{_≡_, sym, ap, _∙_}
+use mathlib.Core.Path.{_≡_, ap, _∙_}
 use lib.ListN.{length, getD, take, set}
 use lib.Seq.{take-all}
 use Rattle.trio.specs.Part.{padded}
@@ -38,13 +38,13 @@ loop-less : tie.Need-loop-less Inv-loop μ-loop
 loop-less c = search needs
 
 loop-again : tie.Need-loop-again Inv-loop μ-loop
-loop-again c = 
+loop-again c =
     let a = c .before .before .before .args in
     let s = c .before .before .loop in
     (search needs, ap (λ l. set l (s .i) (getD (a .counts .now) (s .i) 0)) (s .inv .1) ∙ laid-more 0 0 24 (s .i) (a .counts .now) (omega arith) (search needs))
 
 returns : tie.Need-returns Inv-loop μ-loop
-returns c = 
+returns c =
     let a = c .before .before .args in
     let s = c .before .loop in
     s .inv .1 ∙ ap (padded 24 0) (take-all (s .i) (a .counts .now) (search needs))

@@ -1,6 +1,6 @@
 -- `trio::opening::laid_weights` meets its contract. The loop's invariant: the first i numbers are laid.
 use Prim.Native.Nat.{_≤_, _-_}
-use mathlib.Core.Path.{_≡_, sym, ap, _∙_}
+use mathlib.Core.Path.{_≡_, ap, _∙_}
 use lib.Ieee.{nan, round, ofInt, ofBits}
 use Rattle.floats.specs.F64.{nat}
 use lib.ListN.{length, getD, take, set}
@@ -41,13 +41,13 @@ loop-less : tie.Need-loop-less Inv-loop μ-loop
 loop-less c = search needs
 
 loop-again : tie.Need-loop-again Inv-loop μ-loop
-loop-again c = 
+loop-again c =
     let a = c .before .before .before .args in
     let s = c .before .before .loop in
     (search needs, ap (λ l. set l (s .i) (getD (a .weights .now) (s .i) nan)) (s .inv .1) ∙ laid-more (nat 0) nan 8 (s .i) (a .weights .now) (omega arith) (search needs))
 
 returns : tie.Need-returns Inv-loop μ-loop
-returns c = 
+returns c =
     let a = c .before .before .args in
     let s = c .before .loop in
     s .inv .1 ∙ ap (padded 8 (nat 0)) (take-all (s .i) (a .weights .now) (search needs))

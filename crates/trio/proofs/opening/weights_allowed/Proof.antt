@@ -35,19 +35,19 @@ loop-less : tie.Need-loop-less Inv-loop μ-loop
 loop-less c = search needs
 
 loop-again : tie.Need-loop-again Inv-loop μ-loop
-loop-again c = 
+loop-again c =
     let a = c .before .before .before .before .before .before .args in
     let s = c .before .before .before .before .loop in
     (search needs, every-more weightAllowed nan (a .weights .now) (s .i) (search needs) (sym (c .before .weight-allowed .ensures) ∙ c .if1 .taken) ∙ s .inv .1)
 
 returns : tie.Need-returns Inv-loop μ-loop
-returns c = 
+returns c =
     let a = c .before .before .before .before .before .before .args in
     let s = c .before .before .before .before .loop in
     every-bad weightAllowed nan (a .weights .now) (s .i) (search needs) (sym (c .before .weight-allowed .ensures) ∙ c .if1 .left) ∙ s .inv .1
 
 returns-2 : tie.Need-returns-2 Inv-loop μ-loop
-returns-2 c = 
+returns-2 c =
     let a = c .before .before .before .args in
     let s = c .before .loop in
     every-end weightAllowed nan (a .weights .now) (s .i) (search needs) ∙ s .inv .1

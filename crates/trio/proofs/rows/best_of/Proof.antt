@@ -34,13 +34,13 @@ loop-less : tie.Need-loop-less Inv-loop μ-loop
 loop-less c = search needs
 
 loop-again : tie.Need-loop-again Inv-loop μ-loop
-loop-again c = 
+loop-again c =
     let a = c .before .before .before .before .before .args in
     let s = c .before .before .before .loop in
     offering-more (scoreOf (a .clusters) (a .counts) (a .weights)) (a .from) (a .many) (s .h) (c .offer .result) (s .i) (search needs) (rw (c .before .score-at .ensures) at (c .offer .ensures)) (s .inv)
 
 returns : tie.Need-returns Inv-loop μ-loop
-returns c = 
+returns c =
     let a = c .before .before .before .args in
     let s = c .before .loop in
     offering-all (scoreOf (a .clusters) (a .counts) (a .weights)) (a .from) (a .many) (s .h) (s .i) (search needs) (s .inv)

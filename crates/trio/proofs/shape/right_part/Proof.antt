@@ -1,24 +1,35 @@
 -- `trio::shape::right_part` meets its contract. By each test in turn.
-use Prim.Native.Nat.{ℕ}
-use mathlib.Core.Path.{sym, ap, _∙_}
-use borrow.Author.Tests.{le-leb, lt-leb}
-use Rattle.search.specs.Shape.{workRight}
-use Rattle.trio.specs.Part.{inputRight, rightPart}
+use Prim.Native.Nat.{ℕ, _*_}
+use mathlib.Core.Bool.{true}
+use mathlib.Core.Path.{_≡_, sym, ap, _∙_}
 use borrow.Author.Needs.{needs}
+use borrow.Author.Tests.{le-leb, lt-leb}
+use lib.Dec.{leb}
+use Rattle.search.specs.Shape.{workRight}
+use Rattle.trio.specs.Part.{countAllowed, noCount, placesRight, inputRight, rightPart}
 use Rattle.trio.proofs.shape.right_part.Statement.{statement}
 use Rattle.trio.proofs.shape.right_part.Tie as tie
 
+-- ---- what is known past each test
+
+some : (c : tie.Else1) → leb 1 (c .before .before .before .before .args .p .clusters) ≡ true
+some c = le-leb 1 (c .before .before .before .before .args .p .clusters) (c .if1 .left)
+
+few : (c : tie.Else2) → leb (c .before .before .before .before .before .args .p .clusters) 8 ≡ true
+few c = le-leb (c .before .before .before .before .before .args .p .clusters) 8 (c .if2 .left)
+
+counts : (c : tie.Then3) → placesRight countAllowed noCount (3 * c .before .before .before .before .before .before .before .args .p .clusters) (c .before .before .before .before .before .before .before .args .p .counts) ≡ true
+counts c = sym (c .before .counts-right .ensures) ∙ c .if3 .taken
+
+-- ---- the needs
+
 returns : tie.Need-returns
 unfolding rightPart inputRight
-returns c = 
-    let a = c .before .before .before .before .args in
-    rw (lt-leb 1 (a .p .clusters) (c .if1 .taken))
+returns c = rw (lt-leb 1 (c .before .before .before .before .args .p .clusters) (c .if1 .taken))
 
 returns-2 : tie.Need-returns-2
 unfolding rightPart inputRight
-returns-2 c = 
-    let a = c .before .before .before .before .before .args in
-    rw (le-leb 1 (a .p .clusters) (c .before .if1 .left), lt-leb (a .p .clusters) 8 (c .if2 .taken))
+returns-2 c = rw (some (c .before), lt-leb (c .before .before .before .before .before .args .p .clusters) 8 (c .if2 .taken))
 
 mul-counts-right : tie.Need-mul-counts-right
 mul-counts-right c = search needs
@@ -37,22 +48,19 @@ work-right-requires c κs = search needs
 
 returns-3 : tie.Need-returns-3
 unfolding rightPart inputRight
-returns-3 c = 
-    let a = c .before .before .before .before .before .before .before .before .before .before .before .args in
-    rw (le-leb 1 (a .p .clusters) (c .before .before .before .before .before .before .before .if1 .left), le-leb (a .p .clusters) 8 (c .before .before .before .before .before .before .if2 .left), sym (c .before .before .before .before .before .counts-right .ensures) ∙ c .before .before .before .before .if3 .taken, sym (c .before .before .before .weights-right .ensures) ∙ c .before .before .if4 .taken)
-    (c .work-right .ensures ∙ ap (λ (n : ℕ). workRight n (a .p .marks) (a .p .held)) (c .before .genotype-count .ensures .0))
+returns-3 c =
+    let p = c .before .before .before .before .before .before .before .before .before .before .before .args .p in
+    rw (some (c .before .before .before .before .before .before .before), few (c .before .before .before .before .before .before), counts (c .before .before .before .before), sym (c .before .before .before .weights-right .ensures) ∙ c .before .before .if4 .taken)
+    (c .work-right .ensures ∙ ap (λ (n : ℕ). workRight n (p .marks) (p .held)) (c .before .genotype-count .ensures .0))
 
 returns-4 : tie.Need-returns-4
 unfolding rightPart inputRight
-returns-4 c = 
-    let a = c .before .before .before .before .before .before .before .before .before .args in
-    rw (le-leb 1 (a .p .clusters) (c .before .before .before .before .before .if1 .left), le-leb (a .p .clusters) 8 (c .before .before .before .before .if2 .left), sym (c .before .before .before .counts-right .ensures) ∙ c .before .before .if3 .taken, sym (c .before .weights-right .ensures) ∙ c .if4 .left)
+returns-4 c =
+    rw (some (c .before .before .before .before .before), few (c .before .before .before .before), counts (c .before .before), sym (c .before .weights-right .ensures) ∙ c .if4 .left)
 
 returns-5 : tie.Need-returns-5
 unfolding rightPart inputRight
-returns-5 c = 
-    let a = c .before .before .before .before .before .before .before .args in
-    rw (le-leb 1 (a .p .clusters) (c .before .before .before .if1 .left), le-leb (a .p .clusters) 8 (c .before .before .if2 .left), sym (c .before .counts-right .ensures) ∙ c .if3 .left)
+returns-5 c = rw (some (c .before .before .before), few (c .before .before), sym (c .before .counts-right .ensures) ∙ c .if3 .left)
 
 pub right-part-spec : {M : Type 1} → statement M
 right-part-spec =

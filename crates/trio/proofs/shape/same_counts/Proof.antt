@@ -31,7 +31,7 @@ array-read-if1-2 : tie.Need-array-read-if1-2 Inv-loop μ-loop
 array-read-if1-2 c = search needs
 
 returns : tie.Need-returns Inv-loop μ-loop
-returns c = 
+returns c =
     let a = c .before .before .before .args in
     let s = c .before .before .loop in
     let la : length (a .t1) ≡ 24 = search needs in
@@ -45,7 +45,7 @@ loop-less : tie.Need-loop-less Inv-loop μ-loop
 loop-less c = search needs
 
 loop-again : tie.Need-loop-again Inv-loop μ-loop
-loop-again c = 
+loop-again c =
     let a = c .before .before .before .args in
     let s = c .before .before .loop in
     let la : length (a .t1) ≡ 24 = search needs in
@@ -53,7 +53,7 @@ loop-again c =
     (omega arith, same-more (a .t1) (a .t2) 0 (s .i) (omega arith) (omega arith) (c .if1 .left) ∙ s .inv .1)
 
 returns-2 : tie.Need-returns-2 Inv-loop μ-loop
-returns-2 c = 
+returns-2 c =
     let a = c .before .before .args in
     let s = c .before .loop in
     let la : length (a .t1) ≡ 24 = search needs in

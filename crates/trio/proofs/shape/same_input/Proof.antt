@@ -8,7 +8,7 @@ use Rattle.trio.proofs.shape.same_input.Tie as tie
 
 returns : tie.Need-returns
 unfolding sameInput
-returns c = 
+returns c =
     let a = c .before .before .before .args in
     rw (ne-eqb (a .a .clusters) (a .b .clusters) (c .if1 .taken))
 
@@ -20,13 +20,13 @@ same-weights-requires c κs = search needs
 
 returns-2 : tie.Need-returns-2
 unfolding sameInput
-returns-2 c = 
+returns-2 c =
     let a = c .before .before .before .before .before .before .before .before .before .before .args in
     rw (eq-eqb (a .a .clusters) (a .b .clusters) (c .before .before .before .before .before .before .before .if1 .left), sym (c .before .before .before .before .same-counts .ensures) ∙ c .before .before .before .if2 .taken) (c .same-weights .ensures)
 
 returns-3 : tie.Need-returns-3
 unfolding sameInput
-returns-3 c = 
+returns-3 c =
     let a = c .before .before .before .before .before .before .before .args in
     rw (eq-eqb (a .a .clusters) (a .b .clusters) (c .before .before .before .before .if1 .left), sym (c .before .same-counts .ensures) ∙ c .if2 .left)
 

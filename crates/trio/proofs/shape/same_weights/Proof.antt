@@ -42,7 +42,7 @@ bits-requires-2 : tie.Need-bits-requires-2 Inv-loop μ-loop
 bits-requires-2 c κs = search needs
 
 returns : tie.Need-returns Inv-loop μ-loop
-returns c = 
+returns c =
     let a = c .before .before .before .before .before .args in
     let s = c .before .before .before .before .loop in
     let la : length (bitsOf (a .t1)) ≡ 8 = length-map (a .t1) (toBits binary64) ∙ search needs in
@@ -58,7 +58,7 @@ loop-less : tie.Need-loop-less Inv-loop μ-loop
 loop-less c = search needs
 
 loop-again : tie.Need-loop-again Inv-loop μ-loop
-loop-again c = 
+loop-again c =
     let a = c .before .before .before .before .before .args in
     let s = c .before .before .before .before .loop in
     let la : length (bitsOf (a .t1)) ≡ 8 = length-map (a .t1) (toBits binary64) ∙ search needs in
@@ -68,7 +68,7 @@ loop-again c =
     (omega arith, same-more (bitsOf (a .t1)) (bitsOf (a .t2)) (toBits binary64 nan) (s .i) (omega arith) (omega arith) (x ∙ sym (c .before .before .bits .ensures) ∙ c .if1 .left ∙ c .before .bits2 .ensures ∙ sym y) ∙ s .inv .1)
 
 returns-2 : tie.Need-returns-2 Inv-loop μ-loop
-returns-2 c = 
+returns-2 c =
     let a = c .before .before .args in
     let s = c .before .loop in
     let la : length (bitsOf (a .t1)) ≡ 8 = length-map (a .t1) (toBits binary64) ∙ search needs in
