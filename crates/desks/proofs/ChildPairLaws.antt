@@ -6,10 +6,9 @@ use mathlib.Core.List.{List, [], _∷_}
 use native.Mathlib.Nat.{le-trans, le-step}
 use borrow.Author.Tests.{not-true}
 use lib.ListN.{length}
-use Rattle.trio.specs.declared.genotypes.Pair.{Pair}
-use Rattle.trio.specs.Genotypes.{pair}
-use Rattle.trio.specs.Mendel.{ordered, samePair, among, withoutPair, distinct, childPairs}
-use Rattle.trio.proofs.MendelLaws.{same-is, among-without}
+use Rattle.family.specs.declared.pair.Pair.{Pair}
+use Rattle.family.specs.Mendel.{pair, ordered, samePair, among, withoutPair, distinct, childPairs}
+use Rattle.family.proofs.MendelLaws.{same-is, among-without}
 use Rattle.desks.specs.ChildPairs.{noRepeat}
 
 -- ---- the same pairs are among them

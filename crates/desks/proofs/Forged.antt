@@ -29,7 +29,7 @@ use Rattle.search.proofs.ReworkLaws.{worked-last, reworked-rising}
 use Rattle.search.proofs.ShapeLaws.{and-true, and-both, Shaped, right-shaped, full-holds, held-back, work-right}
 use Rattle.search.proofs.WorkLaws.{row-sound}
 use Rattle.trio.specs.declared.closing.Closed.{Closed}
-use Rattle.trio.specs.declared.genotypes.Triple.{Triple}
+use Rattle.family.specs.declared.pair.Triple.{Triple}
 use Rattle.trio.specs.declared.part.Part.{Part}
 use Rattle.trio.specs.Genotypes.{genotypeCount, genotypeAt, rowWidth, tripleAt}
 use Rattle.trio.specs.Part.{weightAllowed, inputRight, sameInput, rowCount, workIn, rightPart, freshPart, withWork}

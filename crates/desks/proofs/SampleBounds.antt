@@ -23,8 +23,9 @@ use Rattle.floats.proofs.Ranges.{within-range, not-below-zero}
 use Rattle.kernels.specs.Ln.{lnOf}
 use Rattle.bounds.proofs.LnBounds.{within-ln}
 use Rattle.bounds.proofs.BinomialBounds.{term-within}
-use Rattle.trio.specs.declared.genotypes.Pair.{Pair}
-use Rattle.trio.specs.Genotypes.{pair, pairsWith, pairsFrom, genotypes, genotypeAt}
+use Rattle.family.specs.declared.pair.Pair.{Pair}
+use Rattle.trio.specs.Genotypes.{pairsWith, pairsFrom, genotypes, genotypeAt}
+use Rattle.family.specs.Mendel.{pair}
 use Rattle.trio.specs.Samples.{upFrom, clusters, reads, sum, columnTotal, sumFrom, logBinomial, expectation, expectationTotal, clusterTerm, sampleScore}
 use Rattle.trio.specs.Part.{weightAllowed}
 use Rattle.trio.proofs.SampleLaws.{count-at-most}

@@ -16,9 +16,9 @@ use Rattle.floats.specs.Within.{Within, Low, least, finite-low}
 use Rattle.floats.proofs.Bounds.{within-more, within-add, above-fraction, low-number, low-more, low-add, least-left, least-right}
 use Rattle.kernels.specs.Ln.{lnOf}
 use Rattle.bounds.proofs.LnBounds.{within-ln}
-use Rattle.trio.specs.declared.genotypes.Pair.{Pair}
+use Rattle.family.specs.declared.pair.Pair.{Pair}
 use Rattle.trio.specs.Genotypes.{rowWidth, genotypeCount, genotypeAt, tripleAt}
-use Rattle.trio.specs.Mendel.{ordered, among, childPairs, mendelTerm}
+use Rattle.family.specs.Mendel.{ordered, among, childPairs, mendelTerm}
 use Rattle.trio.specs.Samples.{upFrom, columnTotal, sampleScore}
 use Rattle.trio.specs.Score.{tripleScore, scoreOf}
 use Rattle.desks.specs.Accepted.{Accepted}

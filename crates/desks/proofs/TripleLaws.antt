@@ -7,9 +7,10 @@ use native.Mathlib.Omega.{arith}
 use lib.Arith.{digits-div, digits-mod, mod-mul}
 use lib.ListN.{length, getD, length-append, length-map, List·getD-append}
 use lib.Seq.{getD-append-add}
-use Rattle.trio.specs.declared.genotypes.Pair.{Pair}
-use Rattle.trio.specs.declared.genotypes.Triple.{Triple}
-use Rattle.trio.specs.Genotypes.{pair, genotypes, genotypeCount, genotypeAt, rowWidth, tripleAt, each, triples}
+use Rattle.family.specs.declared.pair.Pair.{Pair}
+use Rattle.family.specs.declared.pair.Triple.{Triple}
+use Rattle.trio.specs.Genotypes.{genotypes, genotypeCount, genotypeAt, rowWidth, tripleAt, each, triples}
+use Rattle.family.specs.Mendel.{pair}
 use Rattle.trio.proofs.GenotypesLaws.{genotype-count}
 
 -- ---- lists put one after the other, all of one length

@@ -1,8 +1,8 @@
 -- What it means that no pair stands twice in a list. Definitions only (RULES.md, T3).
 use mathlib.Core.Bool.{Bool, true, not, _&&_}
 use mathlib.Core.List.{List, [], _∷_}
-use Rattle.trio.specs.declared.genotypes.Pair.{Pair}
-use Rattle.trio.specs.Mendel.{among}
+use Rattle.family.specs.declared.pair.Pair.{Pair}
+use Rattle.family.specs.Mendel.{among}
 
 abbrev pub noRepeat : List Pair → Bool
 noRepeat [] = true

@@ -5,9 +5,10 @@ use lib.Ieee.{Float, inf}
 use mathlib.Core.Bool.{true}
 use Rattle.refusals.specs.declared.Refusal.the-variants.{Done}
 use Rattle.trio.specs.declared.closing.Closed.{Closed}
-use Rattle.trio.specs.declared.closing.Ground.the-variants.{Unread}
-use Rattle.trio.specs.declared.genotypes.Triple.{Triple}
-use Rattle.trio.specs.Genotypes.{pair, genotypeCount, rowWidth}
+use Rattle.family.specs.declared.ground.Ground.the-variants.{Unread}
+use Rattle.family.specs.declared.pair.Triple.{Triple}
+use Rattle.trio.specs.Genotypes.{genotypeCount, rowWidth}
+use Rattle.family.specs.Mendel.{pair}
 
 -- every animal with the last genotype: both alleles name the last cluster
 abbrev pub lastTriple : ℕ → Triple

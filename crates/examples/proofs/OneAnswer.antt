@@ -29,9 +29,9 @@ use Rattle.search.proofs.held.merge_held.Reads as merge-held
 use Rattle.search.proofs.marks.row_marked.Reads as row-marked
 use Rattle.search.proofs.marks.all_marked.Reads as all-marked
 use Rattle.search.proofs.shape.work_right.Reads as work-right
-use Rattle.trio.proofs.mendel.distinct_pairs.Reads as distinct-pairs
-use Rattle.trio.proofs.mendel.mendelian_prior.Reads as mendelian-prior
-use Rattle.trio.proofs.samples.sample_number.Reads as sample-number
+use Rattle.family.proofs.mendel.distinct_pairs.Reads as distinct-pairs
+use Rattle.family.proofs.mendel.mendelian_prior.Reads as mendelian-prior
+use Rattle.family.proofs.sample.sample_number.Reads as sample-number
 use Rattle.trio.proofs.part.Part.empty.Reads as part-empty
 use Rattle.trio.proofs.shape.right_part.Reads as right-part
 use Rattle.trio.proofs.animal.sample_score.Reads as sample-score
@@ -39,7 +39,7 @@ use Rattle.trio.proofs.opening.open_part.Reads as open-part
 use Rattle.trio.proofs.rows.row_count.Reads as row-count
 use Rattle.trio.proofs.rows.work_row.Reads as work-row
 use Rattle.trio.proofs.merging.merge.Reads as merge
-use Rattle.trio.proofs.closing.ground_number.Reads as ground-number
+use Rattle.family.proofs.ground.ground_number.Reads as ground-number
 use Rattle.trio.proofs.closing.refused_closing.Reads as refused-closing
 use Rattle.trio.proofs.closing.close.Reads as close
 use Rattle.desks.proofs.call.call.Reads as call

@@ -11,11 +11,12 @@ use Rattle.kernels.specs.Exp.{expOf}
 use Rattle.refusals.specs.declared.Refusal.the-variants.{Done}
 use Rattle.refusals.specs.Refusals.{numberOf}
 use Rattle.trio.specs.declared.closing.Closed.{Closed}
-use Rattle.trio.specs.declared.closing.Ground.the-variants.{Unread}
-use Rattle.trio.specs.declared.samples.Sample.the-variants.{Mother}
-use Rattle.trio.specs.Genotypes.{pair, genotypeCount, triples}
-use Rattle.trio.specs.Mendel.{childPairs}
-use Rattle.trio.specs.Samples.{sampleNumber, columnTotal}
+use Rattle.family.specs.declared.ground.Ground.the-variants.{Unread}
+use Rattle.family.specs.declared.sample.Sample.the-variants.{Mother}
+use Rattle.trio.specs.Genotypes.{genotypeCount, triples}
+use Rattle.family.specs.Mendel.{pair, childPairs}
+use Rattle.trio.specs.Samples.{columnTotal}
+use Rattle.family.specs.Numbers.{sampleNumber}
 use Rattle.trio.specs.Steps.{openStep}
 use Rattle.desks.specs.Call.{callOf}
 use Rattle.models.specs.declared.state.State.the-variants.{Hom}

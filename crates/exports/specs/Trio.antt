@@ -5,9 +5,9 @@ use mathlib.Core.Bool.{cond}
 use mathlib.Core.List.{List, [], _∷_}
 use lib.Ieee.{Float}
 use Rattle.refusals.specs.Refusals.{numberOf}
-use Rattle.trio.specs.declared.genotypes.Triple.{Triple}
+use Rattle.family.specs.declared.pair.Triple.{Triple}
 use Rattle.trio.specs.declared.closing.Closed.{Closed}
-use Rattle.trio.specs.Steps.{groundNumber}
+use Rattle.family.specs.Numbers.{groundNumber}
 
 -- the pairs of child, father and mother
 abbrev pub sixOf : Triple → List ℕ

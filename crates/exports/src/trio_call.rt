@@ -45,7 +45,7 @@ pub extern "C" fn admulfas_trio(
         mother.high,
     ];
     *score = answer.score;
-    *ground = closing::ground_number(rests_on);
+    *ground = ground::ground_number(rests_on);
     *runner = flag(answer.has_runner);
     let next = answer.runner;
     *position = next.position;

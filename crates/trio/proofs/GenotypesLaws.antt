@@ -7,8 +7,9 @@ use native.Mathlib.Numerals.{add-one}
 use native.Mathlib.Omega.{arith}
 use lib.ListN.{length, getD, length-append, List·getD-append}
 use lib.Seq.{getD-append-add}
-use Rattle.trio.specs.declared.genotypes.Pair.{Pair}
-use Rattle.trio.specs.Genotypes.{pair, pairsWith, pairsFrom, genotypeCount}
+use Rattle.family.specs.declared.pair.Pair.{Pair}
+use Rattle.trio.specs.Genotypes.{pairsWith, pairsFrom, genotypeCount}
+use Rattle.family.specs.Mendel.{pair}
 
 -- ---- how many
 

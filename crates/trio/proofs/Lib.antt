@@ -1,6 +1,5 @@
 -- What belongs to no one function of `trio`.
 pub mod GenotypesLaws
-pub mod MendelLaws
 pub mod SampleLaws
 pub mod PlacesLaws
 pub mod SameLaws

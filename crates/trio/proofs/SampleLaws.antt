@@ -10,7 +10,7 @@ use borrow.Author.Tests.{eq-eqb, ne-eqb, eqb-true, eqb-false}
 use lib.Dec.{eqb}
 use lib.Ieee.{Float}
 use Rattle.floats.specs.F64.{_⊘_, nat, decimal}
-use Rattle.trio.specs.declared.genotypes.Pair.{Pair}
+use Rattle.family.specs.declared.pair.Pair.{Pair}
 use Rattle.trio.specs.Samples.{upFrom, sum, reads, columnTotal, named, expectation, withLogs}
 
 pub up-next : (c n : ℕ) → c < n → upFrom c (n - c) ≡ c ∷ upFrom (c + 1) (n - (c + 1))

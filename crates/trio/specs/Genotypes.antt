@@ -2,11 +2,9 @@
 use Prim.Native.Nat.{ℕ, zero, suc, _*_, _/_, _%_}
 use mathlib.Core.List.{List, [], _∷_, _++_, map}
 use lib.ListN.{length, getD}
-use Rattle.trio.specs.declared.genotypes.Pair.{Pair}
-use Rattle.trio.specs.declared.genotypes.Triple.{Triple}
-
-abbrev pub pair : ℕ → ℕ → Pair
-pair i j = record { low = i; high = j }
+use Rattle.family.specs.declared.pair.Pair.{Pair}
+use Rattle.family.specs.declared.pair.Triple.{Triple}
+use Rattle.family.specs.Mendel.{pair}
 
 -- m pairs from (i, j) on, the second number rising
 abbrev pub pairsWith : ℕ → ℕ → ℕ → List Pair

@@ -1,6 +1,5 @@
--- The definitions of `trio`: genotypes and triples, the Mendelian term, an animal's score, a triple's score, a part and its right shape, the four steps.
+-- The definitions of `trio`: genotypes and triples, an animal's score, a triple's score, a part and its right shape, the four steps.
 pub mod Genotypes
-pub mod Mendel
 pub mod Samples
 pub mod Score
 pub mod Part

@@ -7,16 +7,8 @@ use lib.ListN.{getD}
 use lib.Ieee.{Float, nan, inf, le, eq}
 use Rattle.floats.specs.F64.{_⊕_, _⊖_, _⊗_, _⊘_, nat, decimal}
 use Rattle.kernels.specs.Ln.{lnOf}
-use Rattle.trio.specs.declared.genotypes.Pair.{Pair}
-use Rattle.trio.specs.declared.samples.Sample.{Sample}
+use Rattle.family.specs.declared.pair.Pair.{Pair}
 use Rattle.trio.specs.declared.samples.Share.{Share}
-use Rattle.trio.specs.declared.samples.Sample.the-variants.{Child, Father, Mother}
-
--- the column of an animal
-abbrev pub sampleNumber : Sample → ℕ
-sampleNumber Child = 0
-sampleNumber Father = 1
-sampleNumber Mother = 2
 
 -- n numbers from c on; the clusters are those from 0 on
 abbrev pub upFrom : ℕ → ℕ → List ℕ

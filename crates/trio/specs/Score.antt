@@ -3,11 +3,12 @@ use Prim.Native.Nat.{ℕ}
 use mathlib.Core.List.{List}
 use lib.Ieee.{Float}
 use Rattle.floats.specs.F64.{_⊕_}
-use Rattle.trio.specs.declared.genotypes.Triple.{Triple}
-use Rattle.trio.specs.declared.samples.Sample.the-variants.{Child, Father, Mother}
+use Rattle.family.specs.declared.pair.Triple.{Triple}
+use Rattle.family.specs.declared.sample.Sample.the-variants.{Child, Father, Mother}
 use Rattle.trio.specs.Genotypes.{tripleAt}
-use Rattle.trio.specs.Mendel.{mendelTerm}
-use Rattle.trio.specs.Samples.{sampleNumber, sampleScore}
+use Rattle.family.specs.Mendel.{mendelTerm}
+use Rattle.trio.specs.Samples.{sampleScore}
+use Rattle.family.specs.Numbers.{sampleNumber}
 
 -- ((father + mother) + child) + term
 unfoldable pub tripleScore : ℕ → List ℕ → List Float → Triple → Float

@@ -15,16 +15,18 @@ use Rattle.search.specs.Held.{noEntry}
 use Rattle.search.specs.Marks.{fullMarks}
 use Rattle.search.specs.Work.{joined, rowWork}
 use Rattle.trio.specs.declared.animal.AnimalScore.{AnimalScore}
-use Rattle.trio.specs.declared.genotypes.Pair.{Pair}
-use Rattle.trio.specs.declared.samples.Sample.{Sample}
-use Rattle.trio.specs.declared.closing.Ground.{Ground}
-use Rattle.trio.specs.declared.closing.Ground.the-variants.{NoGround, Won, Tied, Unread}
+use Rattle.family.specs.declared.pair.Pair.{Pair}
+use Rattle.family.specs.declared.sample.Sample.{Sample}
+use Rattle.family.specs.declared.ground.Ground.{Ground}
+use Rattle.family.specs.declared.ground.Ground.the-variants.{NoGround, Won, Tied, Unread}
 use Rattle.trio.specs.declared.closing.Closed.{Closed}
 use Rattle.trio.specs.declared.part.Part.{Part}
 use Rattle.trio.specs.declared.part.Stepped.{Stepped}
-use Rattle.trio.specs.declared.samples.Sample.the-variants.{Child, Father, Mother}
-use Rattle.trio.specs.Genotypes.{pair, rowWidth, tripleAt}
-use Rattle.trio.specs.Samples.{sampleNumber, columnTotal, sampleScore}
+use Rattle.family.specs.declared.sample.Sample.the-variants.{Child, Father, Mother}
+use Rattle.trio.specs.Genotypes.{rowWidth, tripleAt}
+use Rattle.family.specs.Mendel.{pair}
+use Rattle.trio.specs.Samples.{columnTotal, sampleScore}
+use Rattle.family.specs.Numbers.{sampleNumber}
 use Rattle.trio.specs.Score.{scoreOf}
 use Rattle.trio.specs.Part.{countAllowed, weightAllowed, sameInput, rowCount, workIn, withWork, rightPart, freshPart, emptyPart}
 
@@ -82,12 +84,6 @@ mergeStep a b =
     (gives BadPart a)
 
 -- ---- closing
-
-abbrev pub groundNumber : Ground → ℕ
-groundNumber NoGround = 0
-groundNumber Won = 1
-groundNumber Tied = 2
-groundNumber Unread = 3
 
 -- some column sums to 0
 unfoldable pub unread : ℕ → List ℕ → Bool

@@ -1,12 +1,12 @@
 // The score of one animal of a part, for whoever checks a call by hand.
 ghost use mathlib.Core.Path.{_≡_};
 ghost use Rattle.trio.specs.Steps.{sampleStep};
-use crate::genotypes::Pair;
 use crate::part::Part;
-use crate::samples::Sample;
 use crate::samples::compute_log_likelihood;
-use crate::samples::sample_number;
 use crate::shape::right_part;
+use family::pair::Pair;
+use family::sample::Sample;
+use family::sample::sample_number;
 use refusals::Refusal;
 
 // The log likelihood of an animal's reads under a genotype, or a refusal with zero.

@@ -1,27 +1,20 @@
 // Closing a part: the call, its score, the runner-up and the ground (docs/RULES.md, T9, T10).
 ghost use mathlib.Core.Path.{_≡_};
 ghost use Prim.Native.Nat.{_≤_};
-ghost use Rattle.trio.specs.Steps.{groundNumber, groundOf, unread, refusedClosing, closedAs, closeStep};
-use crate::genotypes::Pair;
-use crate::genotypes::Triple;
+ghost use Rattle.trio.specs.Steps.{groundOf, unread, refusedClosing, closedAs, closeStep};
 use crate::genotypes::genotype_count;
 use crate::genotypes::triple_at;
 use crate::part::Part;
 use crate::samples::column_total;
 use crate::shape::right_part;
+use family::ground::Ground;
+use family::pair::Pair;
+use family::pair::Triple;
 use floats::key::key;
 use refusals::Refusal;
 use search::entry::Entry;
 use search::held::Held;
 use search::marks::all_marked;
-
-// What a call rests on; a refusal has no ground.
-pub enum Ground {
-    NoGround,
-    Won,
-    Tied,
-    Unread,
-}
 
 // The call with its score, its ground and the runner-up, if there is one; or a refusal with zeros. The part is handed back in every case.
 pub struct Closed {
@@ -32,17 +25,6 @@ pub struct Closed {
     pub ground: Ground,
     pub has_runner: bool,
     pub runner: Entry,
-}
-
-pub fn ground_number(g: Ground) -> u32
-    ensures { λ n. ⌜ n ≡ groundNumber g ⌝ }
-{
-    match g {
-        Ground::NoGround => 0,
-        Ground::Won => 1,
-        Ground::Tied => 2,
-        Ground::Unread => 3,
-    }
 }
 
 // Has some animal no reads?

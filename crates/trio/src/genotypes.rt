@@ -2,19 +2,8 @@
 ghost use mathlib.Core.Path.{_≡_};
 ghost use Prim.Native.Nat.{_≤_};
 ghost use Rattle.trio.specs.Genotypes.{genotypeCount, genotypeAt, tripleAt};
-
-// A genotype: two cluster numbers.
-pub struct Pair {
-    pub low: u64,
-    pub high: u64,
-}
-
-// The genotypes of the three animals.
-pub struct Triple {
-    pub child: Pair,
-    pub father: Pair,
-    pub mother: Pair,
-}
+use family::pair::Pair;
+use family::pair::Triple;
 
 // How many genotypes n clusters have.
 pub(crate) fn genotype_count(n: u64) -> u64

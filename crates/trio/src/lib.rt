@@ -2,7 +2,6 @@
 pub mod animal;
 pub mod closing;
 pub mod genotypes;
-pub mod mendel;
 pub mod merging;
 pub mod opening;
 pub mod part;

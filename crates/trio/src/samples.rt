@@ -3,26 +3,9 @@ ghost use mathlib.Core.Path.{_≡_};
 ghost use mathlib.Core.Bool.{cond};
 ghost use Prim.Native.Nat.{_^_, _≤_, _<_};
 ghost use Rattle.floats.specs.F64.{_⊘_};
-ghost use Rattle.trio.specs.Samples.{sampleNumber, columnTotal, impossibleAt, logBinomial, named, expectation, expectationTotal, sampleScore, withLogs};
-use crate::genotypes::Pair;
+ghost use Rattle.trio.specs.Samples.{columnTotal, impossibleAt, logBinomial, named, expectation, expectationTotal, sampleScore, withLogs};
+use family::pair::Pair;
 use kernels::ln::ln;
-
-// The animals, in the order of their columns.
-pub enum Sample {
-    Child,
-    Father,
-    Mother,
-}
-
-pub fn sample_number(s: Sample) -> u64
-    ensures { λ r. ⌜ r ≡ sampleNumber s ⌝ }
-{
-    match s {
-        Sample::Child => 0,
-        Sample::Father => 1,
-        Sample::Mother => 2,
-    }
-}
 
 // The reads of an animal, column s, over n clusters.
 pub(crate) fn column_total(n: u64, counts: [u32; 24], s: u64) -> u64

@@ -3,8 +3,8 @@ ghost use mathlib.Core.Path.{_≡_};
 ghost use Prim.Native.Nat.{_≤_};
 ghost use Rattle.trio.specs.Score.{scoreOf};
 use crate::genotypes::triple_at;
-use crate::mendel::mendelian_prior;
 use crate::samples::compute_log_likelihood;
+use family::mendel::mendelian_prior;
 
 // The score of the triple at a position.
 pub(crate) fn score_at(n: u64, counts: [u32; 24], weights: [f64; 8], position: u64) -> f64

@@ -12,12 +12,12 @@ use crate::write::Text;
 use trio::animal;
 use trio::closing;
 use trio::closing::Closed;
-use trio::genotypes::Pair;
-use trio::mendel;
+use family::pair::Pair;
+use family::mendel;
 use trio::opening;
 use trio::part::Part;
 use trio::part::Stepped;
-use trio::samples::Sample;
+use family::sample::Sample;
 
 // A pair, with the cursor behind it.
 enum ReadPair {
@@ -211,7 +211,7 @@ pub fn closed(text: &mut Text, out: Out, closed: Closed) -> Out {
     let to_score = pair(text, to_mother, mother);
     let score = write::float(text, to_score, closed.score);
     let to_ground = write::space(text, score);
-    let ground = write::number(text, to_ground, closing::ground_number(ground));
+    let ground = write::number(text, to_ground, ground::ground_number(ground));
     let to_runner = write::space(text, ground);
     runner(text, to_runner, closed)
 }

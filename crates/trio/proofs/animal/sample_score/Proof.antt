@@ -5,10 +5,10 @@ use mathlib.Core.Path.{_≡_, sym, subst, _∙_}
 use borrow.Author.Needs.{needs}
 use lib.Dec.{lit<}
 use lib.Ieee.{round, ofInt, ofBits}
-use Rattle.trio.specs.declared.samples.Sample.{Sample}
-use Rattle.trio.specs.declared.samples.Sample.the-variants.{Child, Father, Mother}
+use Rattle.family.specs.declared.sample.Sample.{Sample}
+use Rattle.family.specs.declared.sample.Sample.the-variants.{Child, Father, Mother}
 use Rattle.trio.specs.Part.{rightPart}
-use Rattle.trio.specs.Samples.{sampleNumber}
+use Rattle.family.specs.Numbers.{sampleNumber}
 use Rattle.trio.specs.Steps.{sampleStep}
 use Rattle.trio.proofs.ShapeCode.{few-clusters}
 use Rattle.trio.proofs.animal.sample_score.Statement.{statement}

@@ -7,9 +7,11 @@ use lib.ListN.{length, take}
 use lib.Ieee.{Float}
 use Rattle.floats.specs.F64.{_⊘_, nat, decimal}
 use Rattle.kernels.specs.Ln.{lnOf}
-use Rattle.trio.specs.declared.genotypes.Pair.{Pair}
-use Rattle.trio.specs.declared.mendel.Possible.{Possible}
-use Rattle.trio.specs.Genotypes.{pair}
+use Rattle.family.specs.declared.pair.Pair.{Pair}
+use Rattle.family.specs.declared.mendel.Possible.{Possible}
+
+abbrev pub pair : ℕ → ℕ → Pair
+pair i j = record { low = i; high = j }
 
 -- two cluster numbers as a pair, the lower first
 abbrev pub ordered : ℕ → ℕ → Pair

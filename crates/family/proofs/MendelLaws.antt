@@ -9,9 +9,9 @@ use borrow.Author.Tests.{eqb-true}
 use lib.Dec.{eqb}
 use lib.ListN.{length, take, drop, getD, drop-of-length-le}
 use lib.Seq.{length-take-le, drop-cons, getD-take}
-use Rattle.trio.specs.declared.genotypes.Pair.{Pair}
-use Rattle.trio.specs.Genotypes.{pair}
-use Rattle.trio.specs.Mendel.{samePair, among, withoutPair, distinct, pushed}
+use Rattle.family.specs.declared.pair.Pair.{Pair}
+use Rattle.family.specs.Mendel.{pair}
+use Rattle.family.specs.Mendel.{samePair, among, withoutPair, distinct, pushed}
 
 -- the test tells equal pairs
 pub same-is : (p q : Pair) → samePair p q ≡ true → p ≡ q
