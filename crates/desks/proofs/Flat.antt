@@ -25,7 +25,7 @@ module _ (score : ℕ → Float) (level : Float) (flat : (p : ℕ) → score p �
   -- q is the last of n + 1 positions from p on
   passed-flat : (n p q : ℕ) → n + p ≡ q → passed (entryAt score p) (entriesFrom score (suc p) n) ≡ entryAt score q
   passed-flat zero p q e = let h : p ≡ q = omega arith in ap (entryAt score) h
-  passed-flat (suc n) p q e = 
+  passed-flat (suc n) p q e =
       ap (λ (t : Bool). passed (cond t (entryAt score p) (entryAt score (suc p))) (entriesFrom score (suc (suc p)) n)) (alike p (suc p)) ∙ passed-flat n (suc p) q (omega arith)
 
   -- without it, those before it

@@ -3,7 +3,7 @@ ghost use mathlib.Core.Path.{_≡_};
 ghost use mathlib.Core.Bool.{cond};
 ghost use Rattle.desks.specs.Call.{callOf};
 ghost use Rattle.exports.specs.Trio.{IsCall};
-use trio::closing;
+use family::ground;
 
 // 1 for true.
 fn flag(b: bool) -> u32

@@ -9,15 +9,15 @@ use crate::words::U32;
 use crate::write;
 use crate::write::Out;
 use crate::write::Text;
-use trio::animal;
-use trio::closing;
-use trio::closing::Closed;
-use family::pair::Pair;
+use family::ground;
 use family::mendel;
+use family::pair::Pair;
+use family::sample::Sample;
+use trio::animal;
+use trio::closing::Closed;
 use trio::opening;
 use trio::part::Part;
 use trio::part::Stepped;
-use family::sample::Sample;
 
 // A pair, with the cursor behind it.
 enum ReadPair {

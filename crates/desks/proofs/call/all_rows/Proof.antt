@@ -36,11 +36,12 @@ loop-less c = search needs
 loop-again : tie.Need-loop-again Inv-loop μ-loop
 unfolding workedTo
 loop-again c =
-    let l = c .before .before .before .loop in
-    (search needs,
-    ap (λ (s : Stepped). s .part) (c .before .work-row .ensures)
-    ∙ ap (λ (p : Part). rowStep p (l .r) .part) (l .inv .1)
-    ∙ ap (workedTo (c .before .before .before .before .before .args .p)) (sym (add-one (l .r))))
+    let l = c .before .before .before .loop in (
+      search needs,
+      ap (λ (s : Stepped). s .part) (c .before .work-row .ensures)
+          ∙ ap (λ (p : Part). rowStep p (l .r) .part) (l .inv .1)
+          ∙ ap (workedTo (c .before .before .before .before .before .args .p)) (sym (add-one (l .r))),
+    )
 
 returns : tie.Need-returns Inv-loop μ-loop
 returns c =

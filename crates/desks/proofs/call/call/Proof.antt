@@ -38,7 +38,7 @@ returns-2 c =
     let o = c .before .before .before .before .open-part .ensures in
     c .refused-closing .ensures ∙ ap (λ (s : Stepped). refusedClosing (s .refusal) (s .part)) o
     ∙ refused-call (a .n) (a .counts .now) (a .weights .now)
-      (λ e. c .before .if1 .left (c .before .before .number .ensures ∙ ap (λ (s : Stepped). numberOf (s .refusal)) o ∙ e))
+    (λ e. c .before .if1 .left (c .before .before .number .ensures ∙ ap (λ (s : Stepped). numberOf (s .refusal)) o ∙ e))
 
 pub call-spec : {M : Type 1} → statement M
 call-spec =
