@@ -2,7 +2,6 @@
 use Prim.Native.Nat.{ℕ, _<_}
 use mathlib.Core.Bool.{Bool, true, false, not, cond, _&&_, _||_}
 use mathlib.Core.List.{List, [], _∷_, map}
-use mathlib.Core.Logic.{_⊎_, inl}
 use mathlib.Core.Path.{_≡_, refl, sym, ap, subst, _∙_}
 use native.Mathlib.Nat.{mul-pos}
 use borrow.Author.Tests.{ltb-true, eq-eqb, ne-eqb}
@@ -19,7 +18,7 @@ use Rattle.search.specs.Shape.{workRight}
 use Rattle.search.specs.Work.{Work, joined, noWork, rowWork, Within, wholeWork, Sound}
 use Rattle.search.proofs.JoinLaws.{sound-unique}
 use Rattle.search.proofs.ShapeLaws.{and-true, and-both, Shaped, right-shaped, held-back, work-right}
-use Rattle.search.proofs.WorkLaws.{or-either, none-sound, row-sound, joined-sound, sound-full, sound-not-full, sound-all}
+use Rattle.search.proofs.WorkLaws.{none-sound, row-sound, joined-sound, sound-full, sound-not-full, sound-all}
 use Rattle.trio.specs.declared.closing.Closed.{Closed}
 use Rattle.trio.specs.declared.part.Part.{Part}
 use Rattle.trio.specs.declared.part.Stepped.{Stepped}
@@ -27,7 +26,7 @@ use Rattle.trio.specs.Genotypes.{rowWidth}
 use Rattle.trio.specs.Part.{sameNumbers, inputRight, sameInput, rowCount, workIn, withWork, rightPart}
 use Rattle.trio.specs.Steps.{gives, scoreIn, rowStep, mergeStep, closedAs, refusedClosing, closeStep}
 use Rattle.desks.specs.Call.{onePassCall}
-use Rattle.desks.specs.History.{History, opened, worked, merged, mergedOther, closed, partOf, rowsOf, AllWorked, Promised}
+use Rattle.desks.specs.History.{History, opened, worked, merged, mergedOther, closed, partOf, rowsOf, Later, itself, then-worked, then-merged, merged-into, then-refused, then-closed, Promised}
 
 same-self : (a : List ℕ) → sameNumbers a a ≡ true
 same-self [] = refl
@@ -42,6 +41,30 @@ close-back a = go (rightPart a) (eqb (a .marks) (fullMarks (rowCount a)))
     go true true = refl
     go true false = refl
     go false t = refl
+
+-- ---- a row once worked stays worked, whatever follows
+
+module _ (start : Part) where
+  worked-keeps : (h : History start) (s r : ℕ) → rowsOf start h r ≡ true → rowsOf start (worked h s) r ≡ true
+  unfolding rowsOf
+  worked-keeps h s r e = go (ltb s (rowCount start))
+    where
+      go : (b : Bool) → cond b (rowsOf start h r || eqb s r) (rowsOf start h r) ≡ true
+      go true = ap (λ (t : Bool). t || eqb s r) e
+      go false = e
+
+  or-true : (t : Bool) → (t || true) ≡ true
+  or-true true = refl
+  or-true false = refl
+
+  later-keeps : {h k : History start} (r : ℕ) → Later start h k → rowsOf start h r ≡ true → rowsOf start k r ≡ true
+  unfolding rowsOf
+  later-keeps r itself e = e
+  later-keeps r (then-worked {k = j} l s) e = worked-keeps j s r (later-keeps r l e)
+  later-keeps r (then-merged l m) e = ap (λ (t : Bool). t || rowsOf start m r) (later-keeps r l e)
+  later-keeps r (merged-into l m) e = ap (λ (t : Bool). rowsOf start m r || t) (later-keeps r l e) ∙ or-true (rowsOf start m r)
+  later-keeps r (then-refused l q o) e = later-keeps r l e
+  later-keeps r (then-closed l) e = later-keeps r l e
 
 -- start is an opened part: of the right shape, with no work in it, and its scores are numbers
 module _ (start : Part) (right-start : rightPart start ≡ true) (none : start ≡ withWork start noWork) (solid : (p : ℕ) → isNan (scoreIn start p) ≡ false) where
@@ -176,24 +199,12 @@ module _ (start : Part) (right-start : rightPart start ≡ true) (none : start �
         incomplete = λ r k f.
             subst (λ (p : Part). closeStep p ≡ refusedClosing NotComplete p) (sym (c .1)) (incomplete-on (rowsOf start h) (c .0) (c .2) r k f);
         complete = λ all. ap closeStep (c .1) ∙ complete-on (rowsOf start h) (c .0) (c .2) all;
+        for-ever = λ all k l.
+            let d = came k in
+            ap closeStep (d .1) ∙ complete-on (rowsOf start k) (d .0) (d .2) (λ r m. later-keeps start r l (all r m));
         row-accepted = λ r. ap (λ (p : Part). rowStep p r .refusal) (c .1) ∙ accepted-on (rowsOf start h) (c .0) (c .2) r;
         merge-accepted = λ k.
             let d = came k in
             ap (λ (p : Part). mergeStep p (partOf start k) .refusal) (c .1) ∙ ap (λ (p : Part). mergeStep (withWork start (c .0)) p .refusal) (d .1)
             ∙ ap (λ (s : Stepped). s .refusal) (merge-on (rowsOf start h) (rowsOf start k) (c .0) (d .0) (c .2) (d .2));
       }
-
--- ---- a row once worked stays worked, whatever follows, so a search once complete stays complete
-
-module _ (start : Part) where
-  pub worked-keeps : (h : History start) (s r : ℕ) → T (rowsOf start h r) → T (rowsOf start (worked h s) r)
-  unfolding rowsOf
-  worked-keeps h s r t = go (ltb s (rowCount start))
-    where
-      go : (b : Bool) → T (cond b (rowsOf start h r || eqb s r) (rowsOf start h r))
-      go true = or-either (rowsOf start h r) (eqb s r) (inl t)
-      go false = t
-
-  pub merged-keeps : (h k : History start) (r : ℕ) → T (rowsOf start h r) ⊎ T (rowsOf start k r) → T (rowsOf start (merged h k) r)
-  unfolding rowsOf
-  merged-keeps h k r t = or-either (rowsOf start h r) (rowsOf start k r) t

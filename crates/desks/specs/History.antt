@@ -48,6 +48,15 @@ module _ (start : Part) where
   abbrev pub AllWorked : History start → Type 0
   AllWorked h = (r : ℕ) → r < rowCount start → rowsOf h r ≡ true
 
+  -- k goes on from h: by steps, and by merges on either side
+  pub data Later (h : History start) : History start → Type 0 where
+    itself : Later h h
+    then-worked : {k : History start} → Later h k → (r : ℕ) → Later h (worked k r)
+    then-merged : {k : History start} → Later h k → (l : History start) → Later h (merged k l)
+    merged-into : {k : History start} → Later h k → (l : History start) → Later h (merged l k)
+    then-refused : {k : History start} → Later h k → (q : Part) (o : T (not (rightPart q && sameInput start q))) → Later h (mergedOther k q o)
+    then-closed : {k : History start} → Later h k → Later h (closed k)
+
   pub record Promised (h : History start) : Type 0 where
     -- its shape is right, so that no step refuses it as a bad part
     pub right : rightPart (partOf h) ≡ true
@@ -61,6 +70,8 @@ module _ (start : Part) where
     pub incomplete : (r : ℕ) → r < rowCount start → rowsOf h r ≡ false → closeStep (partOf h) ≡ refusedClosing NotComplete (partOf h)
     -- once all have been, closing gives what one pass over all triples gives: triple, score, runner-up and ground
     pub complete : AllWorked h → closeStep (partOf h) ≡ onePassCall start
+    -- and so it does after whatever follows
+    pub for-ever : AllWorked h → (k : History start) → Later h k → closeStep (partOf k) ≡ onePassCall start
     -- a row is accepted exactly when there is such a row
     pub row-accepted : (r : ℕ) → rowStep (partOf h) r .refusal ≡ cond (ltb r (rowCount start)) Done Row
     -- and a merge with a part of the same input always is
