@@ -6,9 +6,9 @@ use mathlib.Core.Path.{_≡_, refl, sym, subst}
 use native.Mathlib.Nat.{le-of-suc-le-suc, not-suc-le-zero}
 use native.Mathlib.Omega.{arith}
 use borrow.Author.Tests.{leb-true, ltb-true, ltb-false}
-use lib.Dec.{eqb, ltb, leb, lit≤}
+use lib.Dec.{ltb, leb, lit≤}
 use lib.ListN.{length, getD, List·getD-eq-default}
-use lib.Ieee.{Float, nan, isNan}
+use lib.Ieee.{nan, isNan}
 use Rattle.search.proofs.ShapeLaws.{and-both}
 use Rattle.trio.specs.declared.part.Part.{Part}
 use Rattle.trio.specs.Part.{countAllowed, noCount, weightAllowed, noWeight, placesRight, inputRight}

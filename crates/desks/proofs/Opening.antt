@@ -2,13 +2,13 @@
 use Prim.Native.Nat.{ℕ, zero, suc, _*_, _≤_, suc-le-suc, zero-le}
 use mathlib.Core.Bool.{Bool, true, false, not, cond, _&&_}
 use mathlib.Core.List.{List, [], _∷_}
-use mathlib.Core.Path.{_≡_, refl, sym, ap, subst, _∙_}
-use native.Mathlib.Nat.{le-of-suc-le-suc, not-suc-le-zero, mul-pos}
+use mathlib.Core.Path.{_≡_, refl, sym, ap, _∙_}
+use native.Mathlib.Nat.{le-of-suc-le-suc, not-suc-le-zero}
 use native.Mathlib.Omega.{arith}
 use borrow.Author.Tests.{eqb-true, eqb-false, ltb-false, le-leb}
-use lib.Dec.{T, eqb, ltb, leb, lit≤}
+use lib.Dec.{eqb, ltb, lit≤}
 use lib.ListN.{length}
-use lib.Ieee.{Float, binary64, isNan, toBits, ofInt}
+use lib.Ieee.{Float, isNan, toBits, ofInt}
 use Rattle.floats.specs.F64.{nat}
 use Rattle.refusals.specs.declared.Refusal.the-variants.{Done, NoCluster, TooMany, Shape, Count, Weight}
 use Rattle.refusals.specs.Refusals.{numberOf}
@@ -18,7 +18,7 @@ use Rattle.search.specs.Work.{noWork}
 use Rattle.search.proofs.ShapeLaws.{and-true, and-both, work-right}
 use Rattle.search.proofs.WorkLaws.{none-sound}
 use Rattle.trio.specs.declared.part.Stepped.{Stepped}
-use Rattle.trio.specs.Genotypes.{genotypeCount, rowWidth}
+use Rattle.trio.specs.Genotypes.{genotypeCount}
 use Rattle.trio.specs.Part.{countAllowed, noCount, weightAllowed, noWeight, placesRight, inputRight, padded, freshPart, emptyPart, rightPart}
 use Rattle.trio.specs.Steps.{gives, every, openStep}
 

@@ -7,11 +7,9 @@ use native.Mathlib.Nat.{mul-pos}
 use borrow.Author.Tests.{ltb-true, eq-eqb, ne-eqb}
 use lib.Dec.{T, eqb, ltb}
 use lib.Ieee.{Float, binary64, isNan, toBits}
-use Rattle.refusals.specs.declared.Refusal.{Refusal}
 use Rattle.refusals.specs.declared.Refusal.the-variants.{Done, Row, OtherTrio, NotComplete, BadPart}
-use Rattle.search.specs.declared.entry.Entry.{Entry}
 use Rattle.search.specs.Best.{Best}
-use Rattle.search.specs.Held.{heldOf, heldList}
+use Rattle.search.specs.Held.{heldList}
 use Rattle.search.specs.Marks.{isMarked, fullMarks}
 use Rattle.search.specs.Rank.{beatsOf}
 use Rattle.search.specs.Shape.{workRight}
@@ -19,7 +17,6 @@ use Rattle.search.specs.Work.{Work, joined, noWork, rowWork, Within, wholeWork,
 use Rattle.search.proofs.JoinLaws.{sound-unique}
 use Rattle.search.proofs.ShapeLaws.{and-true, and-both, Shaped, right-shaped, held-back, work-right}
 use Rattle.search.proofs.WorkLaws.{none-sound, row-sound, joined-sound, sound-full, sound-not-full, sound-all}
-use Rattle.trio.specs.declared.closing.Closed.{Closed}
 use Rattle.trio.specs.declared.part.Part.{Part}
 use Rattle.trio.specs.declared.part.Stepped.{Stepped}
 use Rattle.trio.specs.Genotypes.{rowWidth}

@@ -1,7 +1,7 @@
 -- What the call of an unread trio is. Definitions only (RULES.md, T4, T10, X2).
 use Prim.Native.Nat.{ℕ, _-_, _*_}
 use mathlib.Core.Path.{_≡_}
-use lib.Ieee.{Float, inf}
+use lib.Ieee.{inf}
 use mathlib.Core.Bool.{true}
 use Rattle.refusals.specs.declared.Refusal.the-variants.{Done}
 use Rattle.trio.specs.declared.closing.Closed.{Closed}
