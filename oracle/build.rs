@@ -9,13 +9,13 @@ const DEFAULT_SOURCE: &str = "../shared/docs/src/src/kplib";
 /// A file of kanpig's.
 struct Source {
     name: &'static str,
-    /// The crates whose `use` is left out.
+    /// The `use`s that are left out.
     crates: &'static [&'static str],
-    /// Names and what they become; src/kanpig.rs and src/trio_kanpig.rs have what stands behind the new ones.
+    /// Names and what they become; src/kanpig.rs, src/trio_kanpig.rs and src/kanpig_mosaic.rs have what stands behind the new ones.
     renamed: &'static [(&'static str, &'static str)],
 }
 
-const SOURCES: [Source; 2] = [
+const SOURCES: [Source; 3] = [
     Source {
         name: "germ_genotyper.rs",
         crates: &["use ordered_float::", "use serde::", "use statrs::"],
@@ -28,6 +28,11 @@ const SOURCES: [Source; 2] = [
         ],
     },
     Source { name: "trio_genotyper.rs", crates: &["use ndarray::"], renamed: &[(".ln()", ".kernel_ln()")] },
+    Source {
+        name: "mosaic_genotyper.rs",
+        crates: &["use std::collections::"],
+        renamed: &[(".ln()", ".kernel_ln()"), (".log10()", ".kernel_log10()"), ("10.0_f64.powf(", "kernel_pow10(")],
+    },
 ];
 
 fn found(folder: &Path, name: &str) -> Option<PathBuf> {

@@ -1,5 +1,5 @@
 //! Times each kernel of the port, of kernels.rs and of the standard library on the same inputs, and one diploid call in each mode beside
-//! kanpig's own text over the same kernels and over the standard library's, and one call of a trio likewise, and prints a Markdown table.
+//! kanpig's own text over the same kernels and over the standard library's, and one call of a trio and of mosaic likewise, and prints a Markdown table.
 //! All kernels are called through a pointer to an `extern "C"` function, so that none is inlined where another cannot be.
 use crate::diploid::Input;
 use crate::inputs::{Random, Trial};
@@ -7,7 +7,7 @@ use crate::kanpig::{self, c_lgamma, with_ours, with_std};
 use crate::trio::Input as Trio;
 use crate::trio_inputs::usual_trio;
 use crate::trio_kanpig::{OURS, STD};
-use crate::{kernels, port};
+use crate::{kanpig_mosaic, kernels, mosaic, port};
 use std::hint::black_box;
 use std::time::Instant;
 
@@ -121,6 +121,22 @@ fn trio_row(n: u32, inputs: usize, repeats: usize) {
     row_of(&format!("trio, {n} clusters"), &format!("{inputs} trios"), &quickest(repeats, &timings));
 }
 
+/// Fewer, since a call takes longer and its branches are many.
+const MOSAIC_INPUTS: usize = 32;
+
+/// The default parameters, and counts of so many alleles, all of them seen.
+fn mosaic_row(alleles: usize, random: &mut Random) {
+    let mut draw = || mosaic::Input::default_params((0..alleles).map(|_| random.below(60) as u32 + 1).collect());
+    let inputs: Vec<_> = (0..MOSAIC_INPUTS).map(|_| draw()).collect();
+    let places: Vec<usize> = (0..inputs.len()).collect();
+    let timings = [
+        timing(&places, |i| port::mosaic(&inputs[i])),
+        timing(&places, |i| kanpig_mosaic::with_ours::call(&inputs[i])),
+        timing(&places, |i| kanpig_mosaic::with_std::call(&inputs[i])),
+    ];
+    row("mosaic", &format!("{alleles} seen alleles"), &timings);
+}
+
 fn many<T>(mut draw: impl FnMut() -> T) -> Vec<T> {
     (0..INPUTS).map(|_| draw()).collect()
 }
@@ -156,5 +172,8 @@ pub fn run() {
     }
     for (n, inputs, repeats) in [(2, INPUTS, 31), (4, 1024, 15), (8, 16, 9)] {
         trio_row(n, inputs, repeats);
+    }
+    for alleles in [1, 2, 4, 8] {
+        mosaic_row(alleles, random);
     }
 }

@@ -1,7 +1,7 @@
 //! Runs the port and the plain Rust on the same inputs and compares every bit; any NaN equals any NaN.
 use crate::diploid::{self, Input};
 use crate::inputs::{self, Random, Trial};
-use crate::{diploid_inputs, kanpig, kernels, port, trio_compare};
+use crate::{diploid_inputs, kanpig, kanpig_mosaic, kernels, mosaic, mosaic_inputs, port, trio_compare};
 use std::fmt::Debug;
 
 /// How many differences are shown.
@@ -75,6 +75,45 @@ fn trios() -> bool {
     trio_compare::run()
 }
 
+/// kanpig's own short log gamma above zero, and what was decided elsewhere (M2).
+fn short_log_gamma(x: f64) -> f64 {
+    if x > 0.0 {
+        kanpig_mosaic::with_ours::short_log_gamma(x)
+    } else if x == 0.0 {
+        f64::INFINITY
+    } else {
+        f64::NAN
+    }
+}
+
+fn mosaic(name: &str, inputs: impl Iterator<Item = mosaic::Input>) -> bool {
+    let mut asked = 0;
+    let mut differences = Vec::new();
+    for input in inputs {
+        asked += 1;
+        let (port, plain) = (port::mosaic(&input), mosaic::expected(&input));
+        if !port.same(&plain) {
+            differences.push((input, port, plain));
+        }
+    }
+    report(name, asked, &differences)
+}
+
+fn mosaics(xs: &[f64]) -> bool {
+    if !kanpig::FOUND {
+        println!("mosaic: not compared; {}", kanpig::NOT_FOUND);
+        return true;
+    }
+    let random = &mut Random::new(40);
+    let equal = [
+        float_kernel("stirling", xs, port::stirling, short_log_gamma),
+        mosaic("mosaic", (0..100_000).map(|_| mosaic_inputs::allowed(random, 5))),
+        mosaic("mosaic, up to 8 alleles", (0..20_000).map(|_| mosaic_inputs::allowed(random, 8))),
+        mosaic("mosaic, with refusals", (0..100_000).map(|_| mosaic_inputs::disturbed(random))),
+    ];
+    equal.iter().all(|&e| e)
+}
+
 /// Answers whether nothing differs anywhere.
 pub fn run() -> bool {
     let xs = inputs::floats(1, 150_000);
@@ -90,6 +129,7 @@ pub fn run() -> bool {
         key(&xs),
         diploids(),
         trios(),
+        mosaics(&xs),
     ];
     equal.iter().all(|&e| e)
 }

@@ -12,8 +12,12 @@ mod forged;
 mod histories;
 mod inputs;
 mod kanpig;
+mod kanpig_mosaic;
 mod kernels;
 mod limits;
+mod mosaic;
+mod mosaic_inputs;
+mod mosaic_walks;
 mod pairs;
 mod part;
 mod port;
@@ -30,7 +34,7 @@ use std::process::ExitCode;
 
 fn main() -> ExitCode {
     let task = std::env::args().nth(1).unwrap_or_default();
-    if !kanpig::FOUND && ["cases", "distances", "histories", "limits"].contains(&task.as_str()) {
+    if !kanpig::FOUND && ["cases", "distances", "histories", "limits", "walks"].contains(&task.as_str()) {
         eprintln!("{}", kanpig::NOT_FOUND);
         return ExitCode::FAILURE;
     }
@@ -52,8 +56,9 @@ fn main() -> ExitCode {
         }
         "limits" => limits::run(),
         "pairs" => pairs::run(),
+        "walks" => mosaic_walks::run(),
         _ => {
-            eprintln!("usage: oracle compare|histories|cases|bench|distances|limits|pairs");
+            eprintln!("usage: oracle compare|histories|cases|bench|distances|limits|pairs|walks");
             return ExitCode::from(2);
         }
     }

@@ -1,7 +1,7 @@
 //! The port's functions, as the crate `exports` names them. They are proved to answer every argument and to touch no memory but what is
 //! lent to them.
 use crate::diploid::{Answer, Input};
-use crate::trio;
+use crate::{mosaic, trio};
 
 #[rustfmt::skip]
 unsafe extern "C" {
@@ -12,6 +12,7 @@ unsafe extern "C" {
     #[link_name = "admulfas_ln_gamma"] pub safe fn ln_gamma(x: f64) -> f64;
     #[link_name = "admulfas_ln_pmf"] pub safe fn ln_pmf(k: u32, n: u32, p: f64) -> f64;
     #[link_name = "admulfas_key"] pub safe fn key(x: f64) -> i64;
+    #[link_name = "admulfas_stirling"] pub safe fn stirling(x: f64) -> f64;
 
     // a slice is a pointer and a length
     fn admulfas_diploid(
@@ -29,6 +30,14 @@ unsafe extern "C" {
         counts: *const u32, counts_length: usize,
         weights: *const f64, weights_length: usize,
         pairs: &mut [u64; 6], score: &mut f64, ground: &mut u32, runner: &mut u32, position: &mut u64, second: &mut f64,
+    ) -> u32;
+
+    fn admulfas_mosaic(
+        alpha: f64, beta: f64, highest: f64, depth: u32,
+        counts: *const u32, counts_length: usize,
+        ploidy: &mut u64, germline: &mut [u64; 2], somatic: &mut [bool; 8], vafs: &mut [f64; 8],
+        seen: &mut u64, observed: &mut [u64; 8], posterior: &mut f64, quality: &mut f64,
+        hypotheses: &mut u64, probabilities: &mut [f64; 36],
     ) -> u32;
 }
 
@@ -91,4 +100,30 @@ pub fn trio(input: &trio::Input) -> trio::Answer {
         ground,
         runner: found.then_some((position as u32, second.to_bits())),
     }
+}
+
+pub fn mosaic(input: &mosaic::Input) -> mosaic::Answer {
+    let mut a = mosaic::Answer::refused(0);
+    // SAFETY: the pointer comes with the length of its slice, which outlives the call, and the port only reads there.
+    a.number = unsafe {
+        admulfas_mosaic(
+            input.alpha,
+            input.beta,
+            input.highest,
+            input.depth,
+            input.counts.as_ptr(),
+            input.counts.len(),
+            &mut a.ploidy,
+            &mut a.germline,
+            &mut a.somatic,
+            &mut a.vafs,
+            &mut a.seen,
+            &mut a.observed,
+            &mut a.posterior,
+            &mut a.quality,
+            &mut a.hypotheses,
+            &mut a.probabilities,
+        )
+    };
+    a
 }

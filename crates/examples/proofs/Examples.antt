@@ -1,6 +1,7 @@
 -- The table of examples holds: antt computes X7 to X9 from the definitions, and the others are laws of the crates below. Assumes nothing.
 use Prim.Native.Nat.{ℕ}
-use mathlib.Core.List.{List}
+use mathlib.Core.Bool.{true}
+use mathlib.Core.List.{List, []}
 use mathlib.Core.Path.{_≡_, refl}
 use lib.Dec.{lit≤}
 use lib.Ieee.{Float, size, isNan, neg, add, sub, mul, div, round, lt, le, ofInt, ofBits, toBits}
@@ -17,6 +18,9 @@ use Rattle.trio.specs.Genotypes.{genotypeCount}
 use Rattle.trio.specs.Samples.{columnTotal}
 use Rattle.trio.specs.Steps.{openStep}
 use Rattle.desks.specs.Call.{callOf}
+use Rattle.mosaic.specs.declared.params.Params.{Params}
+use Rattle.mosaic.specs.Allowed.{paramsAllowed}
+use Rattle.mosaic.specs.Genotype.{genotypeBy as mosaicBy, genotypeOf as mosaicOf}
 use Rattle.desks.proofs.ChildPairLaws.{one-pair, three-pairs, two-pairs, four-pairs}
 use Rattle.desks.proofs.TripleLaws.{genotype-counts, triple-counts}
 use Rattle.desks.proofs.UnreadCalls.{unread-of, unread-call}
@@ -28,6 +32,11 @@ unfolding genotypeCount
 unread-mother counts weights accepted none =
     let l = unread-call 2 counts weights accepted (lit≤ tt) (unread-of 2 counts none) in
     record { done = l .is-done; at = l .at; pairs = l .triple-is; ground-is = l .ground-is }
+
+-- X11
+no-alleles : (p : Params) → paramsAllowed p ≡ true → p .depth ≡ 0 → numberOf (mosaicOf p [] .refusal) ≡ 11
+unfolding mosaicBy
+no-alleles p h d = rw (h, d)
 
 pub examples : Examples
 unfolding keyOf lnOf lnPositive lnReduced lnParts lnNearOne exponent significand expOf expParts expSeries genotypeBy modelAllowed tableAllowed entries neverFalling size isNan neg add sub mul div round lt le ofInt ofBits toBits
@@ -45,4 +54,5 @@ examples =
       exp-of-zero = refl;
       no-reads = refl;
       equal-scores = equal-scores;
+      no-alleles = no-alleles;
     }

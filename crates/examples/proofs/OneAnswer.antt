@@ -43,6 +43,9 @@ use Rattle.family.proofs.ground.ground_number.Reads as ground-number
 use Rattle.trio.proofs.closing.refused_closing.Reads as refused-closing
 use Rattle.trio.proofs.closing.close.Reads as close
 use Rattle.desks.proofs.call.call.Reads as call
+use Rattle.mosaic.proofs.params.Params.default.Reads as params-default
+use Rattle.mosaic.proofs.stirling.stirling.Reads as stirling
+use Rattle.mosaic.proofs.genotype.genotype.Reads as mosaic-genotype
 use Rattle.exports.proofs.admulfas_ln.Reads as c-ln
 use Rattle.exports.proofs.admulfas_exp.Reads as c-exp
 use Rattle.exports.proofs.admulfas_log10.Reads as c-log10
@@ -52,6 +55,8 @@ use Rattle.exports.proofs.admulfas_ln_pmf.Reads as c-ln-pmf
 use Rattle.exports.proofs.admulfas_key.Reads as c-key
 use Rattle.exports.proofs.diploid_call.admulfas_diploid.Reads as c-diploid
 use Rattle.exports.proofs.trio_call.admulfas_trio.Reads as c-trio
+use Rattle.exports.proofs.mosaic_call.admulfas_stirling.Reads as c-stirling
+use Rattle.exports.proofs.mosaic_call.admulfas_mosaic.Reads as c-mosaic
 
 -- Whatever the lifetimes and the arguments, and whatever these refer to at the end of either call, at most one result meets the contract.
 abbrev pub OneAnswer : {K : Type 0} {A R E : K → Type 0} → ((κ : K) → A κ → R κ → E κ → Type 0) → Type 0
@@ -208,6 +213,16 @@ close-once κ a v w e f = only
 
 pub call-once : OneAnswer call.Post
 call-once κ a v w e f = only
+-- ---- mosaic
+
+pub params-default-once : OneAnswer params-default.Post
+params-default-once κ a v w e f = only
+
+pub stirling-once : OneAnswer stirling.Post
+stirling-once κ a v w e f = only
+
+pub mosaic-genotype-once : OneAnswer mosaic-genotype.Post
+mosaic-genotype-once κ a v w e f = only
 
 -- ---- exports
 
@@ -254,3 +269,22 @@ pub c-trio-ends : (κ : _) (a : _) (v w : _) (e f : _) → c-trio.Post κ a v e 
     × (e .1 .1 .1 .1 .1 .1 .1 .0 .now ≡ f .1 .1 .1 .1 .1 .1 .1 .0 .now)
     × (e .1 .1 .1 .1 .1 .1 .1 .1 .0 .now ≡ f .1 .1 .1 .1 .1 .1 .1 .1 .0 .now)
 c-trio-ends κ a v w e f p q = (only (p .1) (q .1), only (p .2) (q .2), only (p .3) (q .3), only (p .4) (q .4), only (p .5) (q .5), only (p .6) (q .6))
+pub c-stirling-once : OneAnswer c-stirling.Post
+c-stirling-once κ a v w e f = only
+
+pub c-mosaic-once : OneAnswer c-mosaic.Post
+c-mosaic-once κ a v w e f p q = only (p .refusal-is) (q .refusal-is)
+
+-- and so is what it leaves behind its ten `&mut`, its sixth to fifteenth parameter
+pub c-mosaic-ends : (κ : _) (a : _) (v w : _) (e f : _) → c-mosaic.Post κ a v e → c-mosaic.Post κ a w f
+    → (e .1 .1 .1 .1 .1 .0 .now ≡ f .1 .1 .1 .1 .1 .0 .now)
+    × (e .1 .1 .1 .1 .1 .1 .0 .now ≡ f .1 .1 .1 .1 .1 .1 .0 .now)
+    × (e .1 .1 .1 .1 .1 .1 .1 .0 .now ≡ f .1 .1 .1 .1 .1 .1 .1 .0 .now)
+    × (e .1 .1 .1 .1 .1 .1 .1 .1 .0 .now ≡ f .1 .1 .1 .1 .1 .1 .1 .1 .0 .now)
+    × (e .1 .1 .1 .1 .1 .1 .1 .1 .1 .0 .now ≡ f .1 .1 .1 .1 .1 .1 .1 .1 .1 .0 .now)
+    × (e .1 .1 .1 .1 .1 .1 .1 .1 .1 .1 .0 .now ≡ f .1 .1 .1 .1 .1 .1 .1 .1 .1 .1 .0 .now)
+    × (e .1 .1 .1 .1 .1 .1 .1 .1 .1 .1 .1 .0 .now ≡ f .1 .1 .1 .1 .1 .1 .1 .1 .1 .1 .1 .0 .now)
+    × (e .1 .1 .1 .1 .1 .1 .1 .1 .1 .1 .1 .1 .0 .now ≡ f .1 .1 .1 .1 .1 .1 .1 .1 .1 .1 .1 .1 .0 .now)
+    × (e .1 .1 .1 .1 .1 .1 .1 .1 .1 .1 .1 .1 .1 .0 .now ≡ f .1 .1 .1 .1 .1 .1 .1 .1 .1 .1 .1 .1 .1 .0 .now)
+    × (e .1 .1 .1 .1 .1 .1 .1 .1 .1 .1 .1 .1 .1 .1 .0 .now ≡ f .1 .1 .1 .1 .1 .1 .1 .1 .1 .1 .1 .1 .1 .1 .0 .now)
+c-mosaic-ends κ a v w e f p q = (only (p .ploidy-is) (q .ploidy-is), only (p .germline-is) (q .germline-is), only (p .somatic-is) (q .somatic-is), only (p .vafs-is) (q .vafs-is), only (p .seen-is) (q .seen-is), only (p .observed-is) (q .observed-is), only (p .posterior-is) (q .posterior-is), only (p .quality-is) (q .quality-is), only (p .hypotheses-is) (q .hypotheses-is), only (p .probabilities-is) (q .probabilities-is))

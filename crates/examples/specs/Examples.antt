@@ -1,6 +1,7 @@
 -- The worked examples that are proved, as one table (RULES.md, X). Equal floats here are equal in every bit. Definitions only.
 use Prim.Native.Nat.{ℕ}
 use mathlib.Core.Path.{_≡_}
+use mathlib.Core.Bool.{true}
 use mathlib.Core.List.{List, []}
 use lib.ListN.{length}
 use lib.Ieee.{Float, neg}
@@ -19,6 +20,9 @@ use Rattle.trio.specs.Samples.{columnTotal}
 use Rattle.family.specs.Numbers.{sampleNumber}
 use Rattle.trio.specs.Steps.{openStep}
 use Rattle.desks.specs.Call.{callOf}
+use Rattle.mosaic.specs.declared.params.Params.{Params}
+use Rattle.mosaic.specs.Allowed.{paramsAllowed}
+use Rattle.mosaic.specs.Genotype.{genotypeOf as mosaicOf}
 use Rattle.models.specs.declared.state.State.the-variants.{Hom}
 use Rattle.qualities.specs.declared.scores.Scores.{Scores}
 use Rattle.models.specs.Models.{defaultModel}
@@ -52,3 +56,5 @@ pub record Examples : Type 0 where
   pub no-reads : genotypeOf defaultModel [] 0 0 0 ≡ blank Done
   -- X10: three scores of equal keys make Hom
   pub equal-scores : (s : Scores) → keyOf (s .homref) ≡ keyOf (s .homalt) → keyOf (s .het) ≡ keyOf (s .homalt) → winner s ≡ Hom
+  -- X11: mosaic without alleles, at a least depth of 0, has refusal 11
+  pub no-alleles : (p : Params) → paramsAllowed p ≡ true → p .depth ≡ 0 → numberOf (mosaicOf p [] .refusal) ≡ 11

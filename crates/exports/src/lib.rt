@@ -3,6 +3,7 @@
 // written to lies apart from all else that is passed, is the foreign caller's to see to.
 pub mod diploid_call;
 pub mod trio_call;
+pub mod mosaic_call;
 
 ghost use mathlib.Core.Path.{_≡_};
 ghost use Rattle.floats.specs.Key.{keyOf};

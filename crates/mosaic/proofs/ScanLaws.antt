@@ -1,0 +1,27 @@
+-- A scan has no more hypotheses than pairs were looked at. Assumes nothing.
+use mathlib.Core.Bool.{Bool, true, false, cond}
+use mathlib.Core.List.{List}
+use Prim.Native.Nat.{ℕ, zero, suc, _≤_}
+use native.Mathlib.Omega.{arith}
+use lib.ListN.{getD}
+use Rattle.mosaic.specs.Hypotheses.{pair, allPairs}
+use Rattle.mosaic.specs.Inner.{bothSeen, foundBy, pushed, scanStep, scanOver, scannedBy}
+use Rattle.mosaic.specs.declared.site.Site.{Site}
+use Rattle.mosaic.specs.declared.scan.Scan.{Scan}
+
+either : (t : Bool) (a b : Scan) (k : ℕ) → a .count ≤ k → b .count ≤ k → cond t a b .count ≤ k
+either true a b k p q = p
+either false a b k p q = q
+
+pub scanned-low : (counts : List ℕ) (site : Site) (k : ℕ) → scanOver counts site k .count ≤ k
+unfolding scanStep pushed
+scanned-low counts site zero = omega arith
+scanned-low counts site (suc k) =
+    let s = scanOver counts site k in
+    let h = scanned-low counts site k in
+    let g = getD allPairs k (pair 0 0) in
+    either (bothSeen counts g) (pushed s g (foundBy counts g site .posterior)) s (suc k) (omega arith) (omega arith)
+
+pub scanned-at-most : (counts : List ℕ) (site : Site) → scannedBy counts site .count ≤ 36
+unfolding scannedBy
+scanned-at-most counts site = scanned-low counts site 36

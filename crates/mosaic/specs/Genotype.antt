@@ -1,0 +1,87 @@
+-- The answer at every input. Definitions only (RULES.md, M8, O1, O2, R2, R4, R6, R11).
+use Prim.Native.Nat.{ℕ}
+use mathlib.Core.Bool.{Bool, false, cond, _||_}
+use mathlib.Core.List.{List, [], _∷_}
+use lib.Dec.{leb, ltb, eqb}
+use lib.ListN.{length, getD, replicate}
+use Rattle.floats.specs.F64.{nat}
+use Rattle.refusals.specs.declared.Refusal.{Refusal}
+use Rattle.refusals.specs.declared.Refusal.the-variants.{Done, TooMany, Count, Model, NoCall}
+use Rattle.mosaic.specs.Over.{placed, padded}
+use Rattle.mosaic.specs.Edition.{Edition, first}
+use Rattle.mosaic.specs.Allowed.{paramsAllowed, countsAllowed}
+use Rattle.mosaic.specs.Hypotheses.{totalOf, seenAlleles, somaticIn, pair, alone, hypotheses}
+use Rattle.mosaic.specs.Search.{foundOf}
+use Rattle.mosaic.specs.Choice.{posteriors, winner}
+use Rattle.mosaic.specs.Quality.{probabilities, wrongOf, qualityOf}
+use Rattle.mosaic.specs.declared.params.Params.{Params}
+use Rattle.mosaic.specs.declared.hypotheses.Pair.{Pair}
+use Rattle.mosaic.specs.declared.genotype.MosaicResult.{MosaicResult}
+
+-- a refusal carries zeros
+abbrev pub blank : Refusal → MosaicResult
+blank r = record {
+  refusal = r;
+  ploidy = 0;
+  germline = replicate 2 0;
+  somatic = replicate 8 false;
+  vafs = replicate 8 (nat 0);
+  seen = 0;
+  observed = replicate 8 0;
+  posterior = nat 0;
+  quality = nat 0;
+  hypotheses = 0;
+  probabilities = replicate 36 (nat 0);
+}
+
+-- the germline alleles of a pair: how many, and which
+abbrev pub ploidyOf : Pair → ℕ
+ploidyOf g = cond (alone g) 1 2
+
+abbrev pub germlineOf : Pair → List ℕ
+germlineOf g = cond (alone g) (g .first ∷ 0 ∷ []) (g .first ∷ g .second ∷ [])
+
+-- which alleles are somatic
+abbrev pub flagsOver : List ℕ → Pair → ℕ → List Bool
+flagsOver counts g = placed (replicate 8 false) (somaticIn counts g)
+
+unfoldable pub flagsOf : List ℕ → Pair → List Bool
+flagsOf counts g = flagsOver counts g (length counts)
+
+-- what the hypotheses make
+unfoldable pub calledOf : Edition → Params → List ℕ → MosaicResult
+calledOf e p counts =
+    let n = length (hypotheses counts) in
+    let posts = posteriors e p counts in
+    let best = winner posts n in
+    let g = getD (hypotheses counts) best (pair 0 0) in
+    let found = foundOf e p counts g in
+    let probs = probabilities posts n in
+    record {
+      refusal = Done;
+      ploidy = ploidyOf g;
+      germline = germlineOf g;
+      somatic = flagsOf counts g;
+      vafs = found .vafs;
+      seen = length (seenAlleles counts);
+      observed = padded 8 0 (seenAlleles counts);
+      posterior = found .posterior;
+      quality = qualityOf (wrongOf probs best n);
+      hypotheses = n;
+      probabilities = probs;
+    }
+
+-- O1: too many alleles, then the parameters, then the counts, then R11: a total below the least depth, or no allele seen, so that the total is 0
+unfoldable pub genotypeBy : Edition → Params → List ℕ → MosaicResult
+genotypeBy e p counts =
+    cond (leb (length counts) 8)
+    (cond (paramsAllowed p)
+    (cond (countsAllowed counts)
+    (cond (ltb (totalOf counts) (p .depth) || eqb (totalOf counts) 0) (blank NoCall) (calledOf e p counts))
+    (blank Count))
+    (blank Model))
+    (blank TooMany)
+
+-- the first edition's
+abbrev pub genotypeOf : Params → List ℕ → MosaicResult
+genotypeOf = genotypeBy first

@@ -1,0 +1,183 @@
+// The mosaic genotype at every input.
+ghost use mathlib.Core.Path.{_≡_};
+ghost use Prim.Native.Nat.{_≤_, _<_};
+ghost use lib.ListN.{length};
+ghost use Rattle.mosaic.specs.Hypotheses.{totalOf};
+ghost use Rattle.mosaic.specs.Edition.{first};
+ghost use Rattle.mosaic.specs.Genotype.{blank, ploidyOf, germlineOf, flagsOf, calledOf, genotypeOf};
+ghost use Rattle.mosaic.specs.Inner.{listStep, listedBy};
+use crate::allowed::counts_allowed;
+use crate::allowed::params_allowed;
+use crate::counts::seen;
+use crate::counts::somatic;
+use crate::counts::total;
+use crate::hypotheses::Pair;
+use crate::params::Params;
+use crate::quality::all_probabilities;
+use crate::quality::quality;
+use crate::scan::best_place;
+use crate::scan::scan_all;
+use crate::search::find;
+use crate::site::site_of;
+use refusals::Refusal;
+
+// The alleles that are seen, in rising order, zeros after them.
+pub struct Alleles {
+    pub count: usize,
+    pub alleles: [usize; 8],
+}
+
+// The call, or a refusal with zeros. The germline alleles: `ploidy` of them, 1 or 2. A VAF and a flag for each somatic allele. The alleles that are
+// seen: `seen` of them. The log posterior, the quality, and the probability of each of the hypotheses, in their order.
+pub struct MosaicResult {
+    pub refusal: Refusal,
+    pub ploidy: usize,
+    pub germline: [usize; 2],
+    pub somatic: [bool; 8],
+    pub vafs: [f64; 8],
+    pub seen: usize,
+    pub observed: [usize; 8],
+    pub posterior: f64,
+    pub quality: f64,
+    pub hypotheses: usize,
+    pub probabilities: [f64; 36],
+}
+
+fn blank_answer(refusal: Refusal) -> MosaicResult
+    ensures { λ r. ⌜ r ≡ blank refusal ⌝ }
+{
+    MosaicResult {
+        refusal,
+        ploidy: 0,
+        germline: [0; 2],
+        somatic: [false; 8],
+        vafs: [0.0; 8],
+        seen: 0,
+        observed: [0; 8],
+        posterior: 0.0,
+        quality: 0.0,
+        hypotheses: 0,
+        probabilities: [0.0; 36],
+    }
+}
+
+// How many germline alleles a pair has, and which.
+fn ploidy(g: Pair) -> usize
+    ensures { λ r. ⌜ r ≡ ploidyOf g ⌝ }
+{
+    if g.first == g.second {
+        return 1;
+    }
+    2
+}
+
+fn germline_alleles(g: Pair) -> [usize; 2]
+    ensures { λ r. ⌜ r ≡ germlineOf g ⌝ }
+{
+    if g.first == g.second {
+        return [g.first, 0];
+    }
+    [g.first, g.second]
+}
+
+fn flags(counts: &[u32], g: Pair) -> [bool; 8]
+    requires { ⌜ length (now counts) ≤ 8 ⌝ }
+    ensures { λ r. ⌜ r ≡ flagsOf (now (counts .entry)) g ⌝ }
+{
+    let mut all = [false; 8];
+    let mut i = 0;
+    while i < counts.len() {
+        all[i] = somatic(counts, g, i);
+        i += 1;
+    }
+    all
+}
+
+// An allele that is seen joins the list.
+fn list_allele(counts: &[u32], list: Alleles, i: usize) -> Alleles
+    requires { ⌜ (i < 8) × (list .count ≤ i) ⌝ }
+    ensures { λ r. ⌜ r ≡ listStep (now (counts .entry)) i list ⌝ }
+{
+    if !seen(counts, i) {
+        return list;
+    }
+    let count = list.count;
+    let mut alleles = list.alleles;
+    alleles[count] = i;
+    Alleles {
+        count: count + 1,
+        alleles,
+    }
+}
+
+fn list_alleles(counts: &[u32]) -> Alleles
+    ensures { λ r. ⌜ r ≡ listedBy (now (counts .entry)) ⌝ }
+{
+    let mut list = Alleles {
+        count: 0,
+        alleles: [0; 8],
+    };
+    let mut i = 0;
+    while i < 8 {
+        list = list_allele(counts, list, i);
+        i += 1;
+    }
+    list
+}
+
+// What the hypotheses make. The search of the winner is made once more, for its VAFs.
+fn answer(params: Params, counts: &[u32], total: u32) -> MosaicResult
+    requires { ⌜ (length (now counts) ≤ 8) × (total ≡ totalOf (now counts)) ⌝ }
+    ensures { λ r. ⌜ r ≡ calledOf first params (now (counts .entry)) ⌝ }
+{
+    let site = site_of(params, counts, total);
+    let scan = scan_all(counts, site);
+    let n = scan.count;
+    let pairs = scan.pairs;
+    let posteriors = scan.posteriors;
+    let best = best_place(posteriors, n);
+    let g = pairs[best];
+    let found = find(counts, g, site);
+    let vafs = found.vafs;
+    let list = list_alleles(counts);
+    let observed = list.alleles;
+    let germline = germline_alleles(g);
+    let somatic = flags(counts, g);
+    let probabilities = all_probabilities(posteriors, n);
+    MosaicResult {
+        refusal: Refusal::Done,
+        ploidy: ploidy(g),
+        germline,
+        somatic,
+        vafs,
+        seen: list.count,
+        observed,
+        posterior: found.posterior,
+        quality: quality(probabilities, n, best),
+        hypotheses: n,
+        probabilities,
+    }
+}
+
+// The germline alleles, somatic VAFs and quality of up to eight counts, or the first refusal that holds.
+pub fn genotype(params: Params, counts: &[u32]) -> MosaicResult
+    ensures { λ r. ⌜ r ≡ genotypeOf params (now (counts .entry)) ⌝ }
+{
+    if counts.len() > 8 {
+        return blank_answer(Refusal::TooMany);
+    }
+    if !params_allowed(params) {
+        return blank_answer(Refusal::Model);
+    }
+    if !counts_allowed(counts) {
+        return blank_answer(Refusal::Count);
+    }
+    let depth = total(counts);
+    if depth < params.depth {
+        return blank_answer(Refusal::NoCall);
+    }
+    if depth == 0 {
+        return blank_answer(Refusal::NoCall);
+    }
+    answer(params, counts, depth)
+}

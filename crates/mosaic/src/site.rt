@@ -1,0 +1,73 @@
+// What is the same for every hypothesis and every candidate of a call, worked out once.
+ghost use mathlib.Core.Path.{_≡_};
+ghost use Prim.Native.Nat.{_≤_};
+ghost use lib.ListN.{length};
+ghost use Rattle.mosaic.specs.Hypotheses.{totalOf};
+ghost use Rattle.mosaic.specs.Inner.{factorialsOf, startsOf, siteOf};
+use crate::params::Params;
+use crate::prior::Density;
+use crate::prior::density_of;
+use crate::prior::for_one;
+use crate::prior::for_two;
+use crate::stirling::ln_factorial;
+use kernels::ln::ln;
+
+// The total, its log factorial, each count's log factorial, each count's term at the start, the density's numbers, the highest VAF, and what one
+// and what two germline alleles add to the prior.
+pub struct Site {
+    pub total: f64,
+    pub whole: f64,
+    pub factorials: [f64; 8],
+    pub starts: [f64; 8],
+    pub density: Density,
+    pub highest: f64,
+    pub one: f64,
+    pub two: f64,
+}
+
+fn all_factorials(counts: &[u32]) -> [f64; 8]
+    requires { ⌜ length (now counts) ≤ 8 ⌝ }
+    ensures { λ r. ⌜ r ≡ factorialsOf (now (counts .entry)) ⌝ }
+{
+    let mut all = [0.0; 8];
+    let mut i = 0;
+    while i < counts.len() {
+        all[i] = ln_factorial(counts[i]);
+        i += 1;
+    }
+    all
+}
+
+fn all_starts(counts: &[u32]) -> [f64; 8]
+    requires { ⌜ length (now counts) ≤ 8 ⌝ }
+    ensures { λ r. ⌜ r ≡ startsOf (now (counts .entry)) ⌝ }
+{
+    let mut all = [0.0; 8];
+    let ln_vaf = ln(0.05);
+    let mut i = 0;
+    while i < counts.len() {
+        all[i] = counts[i] as f64 * ln_vaf;
+        i += 1;
+    }
+    all
+}
+
+pub(crate) fn site_of(params: Params, counts: &[u32], total: u32) -> Site
+    requires { ⌜ (length (now counts) ≤ 8) × (total ≡ totalOf (now counts)) ⌝ }
+    ensures { λ r. ⌜ r ≡ siteOf params (now (counts .entry)) ⌝ }
+{
+    let n = counts.len() as u32;
+    let factorials = all_factorials(counts);
+    let starts = all_starts(counts);
+    let density = density_of(params);
+    Site {
+        total: total as f64,
+        whole: ln_factorial(total),
+        factorials,
+        starts,
+        density,
+        highest: params.highest,
+        one: for_one(n),
+        two: for_two(n),
+    }
+}

@@ -1,0 +1,447 @@
+-- On accepted inputs every value of the search but minus infinity, and every posterior, is finite: `posterior-within`. A candidate VAF of 1 or more has the
+-- value minus infinity and is never kept. Assumes nothing.
+use mathlib.Core.Path.{_≡_, refl, sym, ap, _∙_, subst}
+use mathlib.Core.Bool.{Bool, true, false, not, _&&_, _||_, cond, true≢false}
+use mathlib.Core.List.{List}
+use Prim.Native.Nat.{ℕ, zero, suc, _+_, _*_, _^_, _≤_, _<_}
+use native.Mathlib.Nat.{mul-le-mul}
+use native.Mathlib.Omega.{arith}
+use borrow.Author.Tests.{eqb-true, eqb-false, eq-eqb}
+use lib.IntN.{pos}
+use lib.Dec.{T, eqb, lit≤, lit<}
+use lib.ListN.{length, set, replicate, length-set}
+use lib.Signed.{ltZ}
+use lib.Ieee.{Float, nan, inf, fin, binary64, round, add, lt, le, isNan, ofInt, fits}
+use lib.Ieee.Scale.{finite}
+use lib.Ieee.Fits.{add-fits, mul-fits, round-fits}
+use lib.Ieee.Positive.{above-of-le}
+use Rattle.floats.specs.F64.{_⊕_, _⊖_, _⊗_, _⊘_, nat, decimal}
+use Rattle.floats.specs.Key.{keyOf}
+use Rattle.floats.specs.Within.{Within, Low, least, finite-low}
+use Rattle.floats.proofs.Bounds.{within-number, within-more, within-whole, within-fraction, within-add, within-sub, within-mul, within-div, above-whole, above-fraction, positive-not-below, low-add, low-more}
+use Rattle.floats.proofs.KeyOrder.{key-order}
+use Rattle.floats.proofs.Whole.{below-is-most}
+use Rattle.floats.proofs.Fractions.{above-by-test}
+use Rattle.kernels.specs.Ln.{lnOf}
+use Rattle.mosaic.specs.Over.{over}
+use Rattle.mosaic.specs.Edition.{first, lnFactorial}
+use Rattle.mosaic.specs.Hypotheses.{countAt, seenIn, germlineIn, somaticIn, anyOver, anySomatic, alone, totalOf}
+use Rattle.mosaic.specs.Likelihood.{vafAt, massOf, germlineShare, shareOf, likelihoodOf}
+use Rattle.mosaic.specs.Prior.{densityOf, gainOf, forOne, forTwo, priorOf}
+use Rattle.mosaic.specs.Search.{Best, startVafs, valueOf, tried, triedStep, stepOf, observedShare, searchedAllele, searchedAll, foundOf}
+use Rattle.mosaic.specs.Inner.{bothSeen}
+use Rattle.mosaic.specs.declared.params.Params.{Params}
+use Rattle.mosaic.specs.declared.hypotheses.Pair.{Pair}
+use Rattle.mosaic.proofs.CountLaws.{count-bound, total-bound}
+use Rattle.mosaic.proofs.OverLaws.{length-placed, at-set, placed-at}
+use Rattle.mosaic_laws.specs.Accepted.{Accepted}
+use Rattle.mosaic_laws.proofs.Quotients.{observed-share}
+use Rattle.mosaic_laws.proofs.Terms.{either, within-factorial, highest-within, Dense, dense, Vaf, ln-within, one-at, gain-within, gain-least, above-finite, share-ln-within, one-within, two-within}
+use Rattle.mosaic_laws.proofs.Sums.{over-keeps, grows}
+use Rattle.mosaic_laws.proofs.Seen.{seen-some, seen-in, counts-in}
+
+left-true : (a b : Bool) → (a && b) ≡ true → a ≡ true
+left-true true b h = refl
+left-true false b h = h
+
+right-true : (a b : Bool) → (a && b) ≡ true → b ≡ true
+right-true true b h = h
+right-true false b h = absurd (true≢false (sym h))
+
+module _ (p : Params) (counts : List ℕ) (ok : Accepted p counts) (g : Pair) (both : bothSeen counts g ≡ true) where
+  abbrev n : ℕ
+  n = length counts
+
+  first-in : g .first < n
+  first-in = seen-in counts (g .first) (left-true (seenIn counts (g .first)) (seenIn counts (g .second)) both)
+
+  second-in : g .second < n
+  second-in = seen-in counts (g .second) (right-true (seenIn counts (g .first)) (seenIn counts (g .second)) both)
+
+  total-small : totalOf counts ≤ 8000000
+  total-small = omega (arith, total-bound counts (ok .counts-are) n, ok .few)
+
+  -- a bound of n steps
+  eight : (B : ℕ) → n * B ≤ 8 * B
+  eight B = mul-le-mul {n₁ = n} {m₁ = B} {n₂ = 8} {m₂ = B} (ok .few) (omega arith)
+
+  steps : (i B : ℕ) → i < n → i * B ≤ 8 * B
+  steps i B l = mul-le-mul {n₁ = i} {m₁ = B} {n₂ = 8} {m₂ = B} (omega (arith, ok .few)) (omega arith)
+
+  -- every somatic VAF may be tried; and all are below 1
+  abbrev Tryable : List Float → Type 0
+  Tryable l = (i : ℕ) → i < n → somaticIn counts g i ≡ true → Vaf (vafAt l i)
+
+  abbrev Low1 : List Float → Type 0
+  Low1 l = (i : ℕ) → i < n → somaticIn counts g i ≡ true → lt (vafAt l i) (nat 1) ≡ true
+
+  mass-within : (l : List Float) → Tryable l → Within 160 (massOf counts g l)
+  mass-within l h =
+      within-more
+      (grows Within 0 20 (λ i s. cond (somaticIn counts g i) (s ⊕ vafAt l i) s) (nat 0) n
+      (λ i m x w.
+      either (Within (0 + i * 20 + 20)) (somaticIn counts g i) (x ⊕ vafAt l i) x
+      (λ e. within-add w (h i m e .within) (omega (arith, steps i 20 m)))
+      (λ e. within-more w (omega arith)))
+      (within-whole (pos 0) 0 (lit≤ tt) (lit≤ tt)))
+      (omega (arith, eight 20))
+
+  -- the term of an allele that is seen
+  term-within : (l : List Float) → Tryable l → (i : ℕ) → i < n → seenIn counts i ≡ true → Within (1000000 * 2 ^ 12) (nat (countAt counts i) ⊗ lnOf (shareOf counts g l i))
+  term-within l h i m s =
+      within-mul (within-whole (pos (countAt counts i)) 1000000 (count-bound counts (ok .counts-are) i) (lit≤ tt))
+      (either (λ v. Within (2 ^ 12) (lnOf v)) (germlineIn g i) (germlineShare g (massOf counts g l)) (vafAt l i)
+      (λ e. share-ln-within g (massOf counts g l) (mass-within l h))
+      (λ e. ln-within (vafAt l i) (h i m (rw (s, e)))))
+      (lit≤ tt)
+
+  likelihood-within : (l : List Float) → Tryable l → Within (2 ^ 43) (likelihoodOf first counts g l)
+  unfolding likelihoodOf
+  likelihood-within l h =
+      within-more
+      (grows Within (2 ^ 38) (2 ^ 39)
+      (λ i s. cond (seenIn counts i) (s ⊖ lnFactorial first (countAt counts i) ⊕ nat (countAt counts i) ⊗ lnOf (shareOf counts g l i)) (s ⊖ lnFactorial first (countAt counts i)))
+      (lnFactorial first (totalOf counts)) n
+      (λ i m x w.
+      let b = count-bound counts (ok .counts-are) i in
+      let less = within-sub w (within-factorial (countAt counts i) (omega arith)) (omega (arith, steps i (2 ^ 39) m)) in
+      either (Within (2 ^ 38 + i * 2 ^ 39 + 2 ^ 39)) (seenIn counts i) (x ⊖ lnFactorial first (countAt counts i) ⊕ nat (countAt counts i) ⊗ lnOf (shareOf counts g l i)) (x ⊖ lnFactorial first (countAt counts i))
+      (λ e. within-more (within-add less (term-within l h i m e) (omega (arith, steps i (2 ^ 39) m))) (omega arith))
+      (λ e. within-more less (omega arith)))
+      (within-factorial (totalOf counts) total-small))
+      (omega (arith, eight (2 ^ 39)))
+
+  -- ---- the prior
+
+  density : Dense (densityOf first p)
+  density = dense p (ok .params-are) (ok .alpha-is-f64) (ok .beta-is-f64)
+
+  germline-within : Within (2 ^ 12) (cond (alone g) (forOne n) (forTwo n))
+  germline-within =
+      either (Within (2 ^ 12)) (alone g) (forOne n) (forTwo n)
+      (λ e. one-within n (omega (arith, first-in)) (ok .few))
+      (λ e. two-within n (two (g .first) (g .second) n first-in second-in (eqb-false (g .first) (g .second) e)) (ok .few))
+    where
+      two : (i j n : ℕ) → i < n → j < n → (i ≡ j → ⊥) → 1 < n
+      two i j n h k d = omega arith
+
+  prior-within : (l : List Float) → Tryable l → Low1 l → Within (2 ^ 45) (priorOf first p counts g l)
+  unfolding priorOf
+  prior-within l h k =
+      within-more
+      (within-add
+      (grows Within 0 (2 ^ 41) (λ i s. cond (somaticIn counts g i) (s ⊕ gainOf (densityOf first p) (vafAt l i)) s) (nat 0) n
+      (λ i m x w.
+      either (Within (0 + i * 2 ^ 41 + 2 ^ 41)) (somaticIn counts g i) (x ⊕ gainOf (densityOf first p) (vafAt l i)) x
+      (λ e. within-add w (gain-within (densityOf first p) density (vafAt l i) (h i m e) (k i m e)) (omega (arith, steps i (2 ^ 41) m)))
+      (λ e. within-more w (omega arith)))
+      (within-whole (pos 0) 0 (lit≤ tt) (lit≤ tt)))
+      germline-within (omega (arith, eight (2 ^ 41))))
+      (omega (arith, eight (2 ^ 41)))
+
+  -- ---- a VAF of 1 or more
+
+  gain-low : (v : Float) → Vaf v → Low (2 ^ 41) (gainOf (densityOf first p) v)
+  gain-low v h = go (le (nat 1) v) refl
+    where
+      go : (b : Bool) → le (nat 1) v ≡ b → Low (2 ^ 41) (gainOf (densityOf first p) v)
+      go true e = subst (Low (2 ^ 41)) (sym (gain-least (densityOf first p) v e)) least
+      go false e = finite-low (gain-within (densityOf first p) density v h (above-by-test (nat 1) v one-at (positive-not-below v (h .above-zero)) e))
+
+  abbrev gainStep : List Float → ℕ → Float → Float
+  gainStep l i s = cond (somaticIn counts g i) (s ⊕ gainOf (densityOf first p) (vafAt l i)) s
+
+  gains-low : (l : List Float) → Tryable l → (k : ℕ) → k ≤ n → Low (0 + k * 2 ^ 41) (over (gainStep l) (nat 0) k)
+  gains-low l h k q =
+      grows Low 0 (2 ^ 41) (gainStep l) (nat 0) k
+      (λ i m x w.
+      either (Low (0 + i * 2 ^ 41 + 2 ^ 41)) (somaticIn counts g i) (x ⊕ gainOf (densityOf first p) (vafAt l i)) x
+      (λ e. low-add w (gain-low (vafAt l i) (h i (omega arith) e)) (omega (arith, steps i (2 ^ 41) (omega arith))))
+      (λ e. low-more w (omega arith)))
+      (finite-low (within-whole (pos 0) 0 (lit≤ tt) (lit≤ tt)))
+
+  finite-least : (x : Float) → T (finite x) → x ⊕ inf true ≡ inf true
+  unfolding add
+  finite-least nan f = absurd f
+  finite-least (inf s) f = absurd f
+  finite-least (fin s m e) f = refl
+
+  low-least : {a : ℕ} {x : Float} → Low a x → x ⊕ inf true ≡ inf true
+  low-least least = unfold add in refl
+  low-least (finite-low {x = x} w) = finite-least x (w .is-finite)
+
+  least-finite : (x : Float) → T (finite x) → inf true ⊕ x ≡ inf true
+  unfolding add
+  least-finite nan f = absurd f
+  least-finite (inf s) f = absurd f
+  least-finite (fin s m e) f = refl
+
+  least-low : {a : ℕ} {x : Float} → Low a x → inf true ⊕ x ≡ inf true
+  least-low least = unfold add in refl
+  least-low (finite-low {x = x} w) = least-finite x (w .is-finite)
+
+  -- the sum is minus infinity from such an allele on
+  sunk : (l : List Float) → Tryable l → (j : ℕ) → somaticIn counts g j ≡ true → le (nat 1) (vafAt l j) ≡ true → (k : ℕ) → k ≤ n → j < k → over (gainStep l) (nat 0) k ≡ inf true
+  sunk l h j s e zero q m = absurd (none j m)
+    where
+      none : (j : ℕ) → j < 0 → ⊥
+      none j m = omega arith
+  sunk l h j s e (suc k) q m =
+      go (eqb j k) refl (λ r. sunk l h j s e k (less k n q) r)
+    where
+      less : (k n : ℕ) → suc k ≤ n → k ≤ n
+      less k n q = omega arith
+
+      stays : (b : Bool) → somaticIn counts g k ≡ b → cond b (inf true ⊕ gainOf (densityOf first p) (vafAt l k)) (inf true) ≡ inf true
+      stays true t = least-low (gain-low (vafAt l k) (h k q t))
+      stays false t = refl
+
+      go : (b : Bool) → eqb j k ≡ b → (j < k → over (gainStep l) (nat 0) k ≡ inf true) → gainStep l k (over (gainStep l) (nat 0) k) ≡ inf true
+      go true t r =
+          let d = eqb-true j k t in
+          let s' : somaticIn counts g k ≡ true = subst (λ (i : ℕ). somaticIn counts g i ≡ true) d s in
+          let e' : le (nat 1) (vafAt l k) ≡ true = subst (λ (i : ℕ). le (nat 1) (vafAt l i) ≡ true) d e in
+          rw (s', gain-least (densityOf first p) (vafAt l k) e') (low-least (gains-low l h k (less k n q)))
+      go false t r = let d = eqb-false j k t in rw (r (omega arith)) (stays (somaticIn counts g k) refl)
+
+  prior-least : (l : List Float) → Tryable l → (j : ℕ) → j < n → somaticIn counts g j ≡ true → le (nat 1) (vafAt l j) ≡ true → priorOf first p counts g l ≡ inf true
+  unfolding priorOf
+  prior-least l h j m s e =
+      ap (λ (x : Float). x ⊕ cond (alone g) (forOne n) (forTwo n)) (sunk l h j s e n (omega arith) m) ∙ least-finite (cond (alone g) (forOne n) (forTwo n)) (germline-within .is-finite)
+
+  -- ---- what is kept
+
+  -- minus infinity, or finite
+  data Value : Float → Type 0 where
+    none : Value (inf true)
+    some : {v : Float} → Within (2 ^ 46) v → T (fits binary64 v) → Value v
+
+  record Kept (b : Best) : Type 0 where
+    pub eight-vafs : length (b .vafs) ≡ 8
+    pub tryable : Tryable (b .vafs)
+    pub low : Low1 (b .vafs)
+    pub value-is : Value (b .value)
+
+  -- a value that is finite
+  record Some (b : Best) : Type 0 where
+    pub kept : Kept b
+    pub within : Within (2 ^ 46) (b .value)
+
+  value-within : (l : List Float) → Tryable l → Low1 l → Within (2 ^ 46) (valueOf first p counts g l)
+  value-within l h k = within-more (within-add (likelihood-within l h) (prior-within l h k) (lit≤ tt)) (lit≤ tt)
+
+  set-vafs : (l : List Float) → length l ≡ 8 → (P : Float → Type 0) → (i : ℕ) → i < n → (x : Float) → P x → ((j : ℕ) → j < n → somaticIn counts g j ≡ true → P (vafAt l j)) → (j : ℕ) → j < n → somaticIn counts g j ≡ true → P (vafAt (set l i x) j)
+  set-vafs l e P i m x h k j q s = at-set l i j x nan (omega (arith, ok .few)) (eqb j i) refl P (λ r. h) (λ r. k j q s)
+
+  set-tryable : (b : Best) → Kept b → (i : ℕ) → i < n → (x : Float) → Vaf x → Tryable (set (b .vafs) i x)
+  set-tryable b h i m x v = set-vafs (b .vafs) (h .eight-vafs) Vaf i m x v (h .tryable)
+
+  made : (b : Best) → Kept b → (i : ℕ) → i < n → (x : Float) → Vaf x → lt x (nat 1) ≡ true → let l = set (b .vafs) i x in Some (record { vafs = l; value = valueOf first p counts g l })
+  made b h i m x v e =
+      let l = set (b .vafs) i x in
+      let t = set-tryable b h i m x v in
+      let low = set-vafs (b .vafs) (h .eight-vafs) (λ y. lt y (nat 1) ≡ true) i m x e (h .low) in
+      let w = value-within l t low in
+      record {
+        kept = record {
+          eight-vafs = length-set (b .vafs) i x ∙ h .eight-vafs;
+          tryable = t;
+          low = low;
+          value-is = some w (add-fits binary64 (likelihoodOf first counts g l) (priorOf first p counts g l));
+        };
+        within = w;
+      }
+
+  number : {v : Float} → Value v → isNan v ≡ false
+  number none = unfold isNan in refl
+  number (some w f) = within-number w
+
+  fit : {v : Float} → Value v → T (fits binary64 v)
+  fit none = unfold fits in tt
+  fit (some w f) = f
+
+  -- nothing is below minus infinity, and it is below every finite number
+  finite-not-under : (v : Float) → T (finite v) → lt v (inf true) ≡ false
+  unfolding lt
+  finite-not-under nan f = absurd f
+  finite-not-under (inf s) f = absurd f
+  finite-not-under (fin s m e) f = refl
+
+  not-under : {v : Float} → Value v → lt v (inf true) ≡ false
+  not-under none = unfold lt in refl
+  not-under (some {v = v} w f) = finite-not-under v (w .is-finite)
+
+  under-finite : (v : Float) → T (finite v) → lt (inf true) v ≡ true
+  unfolding lt
+  under-finite nan f = absurd f
+  under-finite (inf s) f = absurd f
+  under-finite (fin s m e) f = refl
+
+  either-best : (P : Best → Type 0) (t : Bool) (a b : Best) → P a → P b → P (cond t a b)
+  either-best P true a b h k = h
+  either-best P false a b h k = k
+
+  -- a candidate from 1 on is not kept
+  beyond : (b : Best) → Kept b → (i : ℕ) → i < n → somaticIn counts g i ≡ true → (x : Float) → Vaf x → le (nat 1) x ≡ true → tried first p counts g i x b ≡ b
+  unfolding tried
+  beyond b h i m s x v e =
+      let l = set (b .vafs) i x in
+      let t = set-tryable b h i m x v in
+      let here : vafAt l i ≡ x = at-set (b .vafs) i i x nan (omega (arith, h .eight-vafs, ok .few)) (eqb i i) refl (λ y. y ≡ x) (λ r. refl) (λ r. absurd (r refl)) in
+      let value : valueOf first p counts g l ≡ inf true = rw (prior-least l t i m s (rw here e)) (finite-least (likelihoodOf first counts g l) (likelihood-within l t .is-finite)) in
+      let test : ltZ (keyOf (b .value)) (keyOf (inf true)) ≡ false = key-order (b .value) (inf true) (fit (h .value-is)) (fit none) (number (h .value-is)) (number none) ∙ not-under (h .value-is) in
+      rw (value, test)
+
+  not-one : (x : Float) → Vaf x → le (nat 1) x ≡ false → lt x (nat 1) ≡ true
+  not-one x v e = above-by-test (nat 1) x one-at (positive-not-below x (v .above-zero)) e
+
+  -- what a candidate makes, and whether it is larger
+  abbrev better : ℕ → Float → Best → Best
+  better i x b = let l = set (b .vafs) i x in record { vafs = l; value = valueOf first p counts g l }
+
+  abbrev larger : ℕ → Float → Best → Bool
+  larger i x b = ltZ (keyOf (b .value)) (keyOf (better i x b .value))
+
+  tried-is : (i : ℕ) (x : Float) (b : Best) → cond (larger i x b) (better i x b) b ≡ tried first p counts g i x b
+  unfolding tried
+  tried-is i x b = refl
+
+  tried-some : (i : ℕ) → i < n → somaticIn counts g i ≡ true → (x : Float) → Vaf x → (b : Best) → Some b → Some (tried first p counts g i x b)
+  tried-some i m s x v b h = go (le (nat 1) x) refl
+    where
+      go : (t : Bool) → le (nat 1) x ≡ t → Some (tried first p counts g i x b)
+      go true e = subst Some (sym (beyond b (h .kept) i m s x v e)) h
+      go false e = subst Some (tried-is i x b) (either-best Some (larger i x b) (better i x b) b (made b (h .kept) i m x v (not-one x v e)) h)
+
+  -- a candidate below 1 leaves a finite value, whatever stood before
+  first-some : (i : ℕ) → i < n → somaticIn counts g i ≡ true → (x : Float) → Vaf x → lt x (nat 1) ≡ true → (b : Best) → Kept b → Some (tried first p counts g i x b)
+  first-some i m s x v e b h = go (b .value) refl (h .value-is)
+    where
+      go : (w : Float) → w ≡ b .value → Value w → Some (tried first p counts g i x b)
+      go w q (some k f) = tried-some i m s x v b (record { kept = h; within = subst (Within (2 ^ 46)) q k })
+      go w q none =
+          let a = made b h i m x v e in
+          let y = better i x b .value in
+          let test : larger i x b ≡ true =
+          ap (λ (z : Float). ltZ (keyOf z) (keyOf y)) (sym q) ∙ key-order (inf true) y (fit none) (fit (a .kept .value-is)) (number none) (number (a .kept .value-is)) ∙ under-finite y (a .within .is-finite) in
+          subst Some (tried-is i x b) (subst (λ (t : Bool). Some (cond t (better i x b) b)) (sym test) a)
+
+  -- ---- the candidates
+
+  other-seen : (i : ℕ) → i < n → somaticIn counts g i ≡ true → countAt counts i < totalOf counts
+  other-seen i m s =
+      let one = seen-some counts (g .first) (left-true (seenIn counts (g .first)) (seenIn counts (g .second)) both) in
+      let unlike : i ≡ g .first → ⊥ = (λ q. clash (seenIn counts i) (eqb i (g .first)) (eqb i (g .second)) (same i (g .first) q) s) in
+      omega (arith, counts-in counts i (g .first) n m first-in unlike)
+    where
+      same : (i j : ℕ) → i ≡ j → eqb i j ≡ true
+      same i j q = eq-eqb i j q
+
+      clash : (a b c : Bool) → b ≡ true → (a && not (b || c)) ≡ true → ⊥
+      clash true b c q h = true≢false (sym (sym (ap (λ (b : Bool). not (b || c)) q) ∙ h))
+      clash false b c q h = true≢false (sym h)
+
+  observed : (i : ℕ) → i < n → somaticIn counts g i ≡ true → Vaf (observedShare first p counts g i) × (lt (observedShare first p counts g i) (nat 1) ≡ true)
+  observed i m s =
+      let v = observed-share (countAt counts i) (totalOf counts) (seen-some counts i (left-true (seenIn counts i) (not (germlineIn g i)) s)) (other-seen i m s) (omega (arith, total-small)) in
+      (record { above-zero = v .above-zero; is-f64 = v .is-f64; within = within-more (v .within) (lit≤ tt) }, v .below-one)
+
+  step-vaf : (s : ℕ) → s ≤ 20 → lt (decimal 1 3) (stepOf first p counts g s) ≡ true → Vaf (stepOf first p counts g s)
+  step-vaf s h e =
+      let x = stepOf first p counts g s in
+      let w = within-mul (highest-within p (ok .params-are)) (within-div (within-whole (pos s) 20 h (lit≤ tt)) (above-whole 20 (lit< tt) (lit≤ tt)) (lit≤ tt)) (lit≤ tt) in
+      let low = above-fraction 1 1000 1 10 (lit< tt) (lit≤ tt) (lit≤ tt) (lit≤ tt) (lit≤ tt) in
+      record {
+        above-zero = above-finite x (above-of-le (decimal 1 3) x (low .is-positive) (below-is-most (decimal 1 3) x e)) (w .is-finite);
+        is-f64 = mul-fits binary64 (p .highest) (nat s ⊘ nat 20);
+        within = w;
+      }
+
+  step-some : (i : ℕ) → i < n → somaticIn counts g i ≡ true → (s : ℕ) → s < 21 → (b : Best) → Some b → Some (triedStep first p counts g i s b)
+  step-some i m t s l b h = go (lt (decimal 1 3) (stepOf first p counts g s)) refl
+    where
+      go : (c : Bool) → lt (decimal 1 3) (stepOf first p counts g s) ≡ c → Some (cond c (tried first p counts g i (stepOf first p counts g s) b) b)
+      go true e = tried-some i m t (stepOf first p counts g s) (step-vaf s (omega arith) e) b h
+      go false e = h
+
+  allele-some : (i : ℕ) → i < n → somaticIn counts g i ≡ true → (b : Best) → Kept b → Some (searchedAllele first p counts g i b)
+  unfolding searchedAllele
+  allele-some i m s b h =
+      let o = observed i m s in
+      over-keeps Some (triedStep first p counts g i) (tried first p counts g i (observedShare first p counts g i) b) 21 (step-some i m s) (first-some i m s (observedShare first p counts g i) (o .0) (o .1) b h)
+
+  -- ---- the search, and the posterior
+
+  start-at : (i : ℕ) → i < n → somaticIn counts g i ≡ true → vafAt (startVafs counts g) i ≡ decimal 5 2
+  unfolding startVafs
+  start-at i l s = placed-at (replicate 8 (nat 0)) (λ i. cond (somaticIn counts g i) (decimal 5 2) (nat 0)) nan n (ok .few) i l ∙ rw s
+
+  start-vaf : Vaf (decimal 5 2)
+  start-vaf = record {
+    above-zero = above-fraction 5 100 1 5 (lit< tt) (lit≤ tt) (lit≤ tt) (lit≤ tt) (lit≤ tt) .is-positive;
+    is-f64 = round-fits binary64 false 5 100;
+    within = within-fraction 5 100 20 (lit< tt) (lit≤ tt) (lit≤ tt);
+  }
+
+  start-tryable : Tryable (startVafs counts g)
+  start-tryable i l s = subst Vaf (sym (start-at i l s)) start-vaf
+
+  start-low : Low1 (startVafs counts g)
+  start-low i l s = subst (λ (v : Float). lt v (nat 1) ≡ true) (sym (start-at i l s)) (unfold round lt ofInt in refl)
+
+  start-kept : Kept (record { vafs = startVafs counts g; value = inf true })
+  start-kept = record {
+    eight-vafs = unfold startVafs in (length-placed (replicate 8 (nat 0)) (λ i. cond (somaticIn counts g i) (decimal 5 2) (nat 0)) n);
+    tryable = start-tryable;
+    low = start-low;
+    value-is = none;
+  }
+
+  -- after a somatic allele the value is finite
+  record Gone (k : ℕ) (b : Best) : Type 0 where
+    pub kept : Kept b
+    pub then-some : anyOver counts g k ≡ true → Some b
+
+  abbrev searchStep : ℕ → Best → Best
+  searchStep i b = cond (somaticIn counts g i) (searchedAllele first p counts g i b) b
+
+  gone-step : (k : ℕ) → k < n → (b : Best) → Gone k b → Gone (suc k) (searchStep k b)
+  gone-step k l b h = go (somaticIn counts g k) refl
+    where
+      or-false : (a b : Bool) → (a || b) ≡ true → b ≡ false → a ≡ true
+      or-false true b h e = refl
+      or-false false b h e = absurd (true≢false (sym h ∙ e))
+
+      go : (c : Bool) → somaticIn counts g k ≡ c → Gone (suc k) (cond c (searchedAllele first p counts g k b) b)
+      go true e = let a = allele-some k l e b (h .kept) in record { kept = a .kept; then-some = λ q. a }
+      go false e = record { kept = h .kept; then-some = λ q. h .then-some (or-false (anyOver counts g k) (somaticIn counts g k) q e) }
+
+  gone : (k : ℕ) → k ≤ n → Gone k (over searchStep (record { vafs = startVafs counts g; value = inf true }) k)
+  gone zero q = record { kept = start-kept; then-some = λ e. absurd (true≢false (sym e)) }
+  gone (suc k) q = gone-step k q (over searchStep (record { vafs = startVafs counts g; value = inf true }) k) (gone k (omega arith))
+
+  pub posterior-within : Within (2 ^ 47) (foundOf first p counts g .posterior)
+  unfolding foundOf
+  posterior-within = go (anySomatic counts g) refl
+    where
+      go : (t : Bool) → anySomatic counts g ≡ t
+          → let b = cond t (searchedAll first p counts g) (record { vafs = startVafs counts g; value = likelihoodOf first counts g (startVafs counts g) }) in
+          Within (2 ^ 47) (cond (t && not true) (b .value) (b .value ⊕ priorOf first p counts g (b .vafs)))
+      go true e =
+          let s : Some (searchedAll first p counts g) = unfold searchedAll in (gone n (omega arith) .then-some e) in
+          within-more (within-add (s .within) (prior-within (searchedAll first p counts g .vafs) (s .kept .tryable) (s .kept .low)) (lit≤ tt)) (lit≤ tt)
+      go false e =
+          within-more (within-add (likelihood-within (startVafs counts g) start-tryable) (prior-within (startVafs counts g) start-tryable start-low) (lit≤ tt)) (lit≤ tt)
+
+  -- every somatic VAF that was found is above zero and below 1
+  pub found-vafs : (i : ℕ) → i < n → somaticIn counts g i ≡ true → Vaf (vafAt (foundOf first p counts g .vafs) i) × (lt (vafAt (foundOf first p counts g .vafs) i) (nat 1) ≡ true)
+  unfolding foundOf
+  found-vafs i l s = go (anySomatic counts g) refl
+    where
+      go : (t : Bool) → anySomatic counts g ≡ t
+          → let b = cond t (searchedAll first p counts g) (record { vafs = startVafs counts g; value = likelihoodOf first counts g (startVafs counts g) }) in
+          Vaf (vafAt (b .vafs) i) × (lt (vafAt (b .vafs) i) (nat 1) ≡ true)
+      go true e =
+          let k : Kept (searchedAll first p counts g) = unfold searchedAll in (gone n (omega arith) .kept) in
+          (k .tryable i l s, k .low i l s)
+      go false e = (start-tryable i l s, start-low i l s)

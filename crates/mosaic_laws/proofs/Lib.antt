@@ -1,0 +1,8 @@
+-- What the answers of `mosaic` obey.
+pub mod Quotients
+pub mod Terms
+pub mod Sums
+pub mod Seen
+pub mod Finite
+pub mod Chances
+pub mod Answers

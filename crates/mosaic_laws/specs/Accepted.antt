@@ -1,0 +1,18 @@
+-- What the laws of mosaic speak of. Definitions only (RULES.md, L1, L2, L6).
+use Prim.Native.Nat.{ℕ, _≤_}
+use mathlib.Core.Path.{_≡_}
+use mathlib.Core.Bool.{true}
+use mathlib.Core.List.{List}
+use lib.Dec.{T}
+use lib.ListN.{length}
+use lib.Ieee.{binary64, fits}
+use Rattle.mosaic.specs.Allowed.{paramsAllowed, countsAllowed}
+use Rattle.mosaic.specs.declared.params.Params.{Params}
+
+-- parameters and counts that no refusal of R2, R6 and R4 turns away; parameters are f64, as the struct's fields are
+pub record Accepted (p : Params) (counts : List ℕ) : Type 0 where
+  pub params-are : paramsAllowed p ≡ true
+  pub alpha-is-f64 : T (fits binary64 (p .alpha))
+  pub beta-is-f64 : T (fits binary64 (p .beta))
+  pub counts-are : countsAllowed counts ≡ true
+  pub few : length counts ≤ 8

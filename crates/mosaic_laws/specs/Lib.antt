@@ -1,0 +1,2 @@
+-- The definitions that the laws of `mosaic_laws` cite.
+pub mod Accepted

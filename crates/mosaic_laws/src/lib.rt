@@ -1,0 +1,1 @@
+// No code: what the answers of `mosaic` obey is in proofs/.
