@@ -1,7 +1,7 @@
 //! What kanpig does outside the limits, and what the port refuses with: a Markdown table, worked out by running both.
 use crate::diploid::{Answer, Input};
 use crate::kanpig::with_ours;
-use crate::port;
+use crate::{port, trio_limits};
 use std::panic::{self, UnwindSafe};
 
 fn default_with(mode: u32, change: impl FnOnce(&mut Input)) -> Input {
@@ -15,10 +15,10 @@ fn said(answer: &Answer) -> String {
     format!("{state}, gq {:?}, sq {:?}", answer.gq, answer.sq)
 }
 
-/// kanpig's answer, or what its panic says.
-fn kanpig_says(call: impl FnOnce() -> Answer + UnwindSafe) -> String {
-    match panic::catch_unwind(call) {
-        Ok(answer) => said(&answer),
+/// What kanpig says, or its panic does.
+pub fn or_panic(says: impl FnOnce() -> String + UnwindSafe) -> String {
+    match panic::catch_unwind(says) {
+        Ok(words) => words,
         Err(cause) => {
             let words = cause.downcast_ref::<String>().map(String::as_str).or(cause.downcast_ref::<&str>().copied());
             format!("panics: {}", words.unwrap_or("without words").replace('|', "\\|"))
@@ -32,15 +32,15 @@ fn print(name: &str, kanpig: &str, port: &Answer) {
 }
 
 fn row(name: &str, input: &Input) {
-    print(name, &kanpig_says(|| with_ours::call(input)), &port::diploid(input));
+    print(name, &or_panic(|| said(&with_ours::call(input))), &port::diploid(input));
 }
 
 fn two_fractions() {
     let input = default_with(0, |_| {});
-    let kanpig = kanpig_says(|| {
+    let kanpig = or_panic(|| {
         let mut genotyper = with_ours::genotyper(&input);
         genotyper.config.mixture_fractions.pop();
-        with_ours::answer(&genotyper, input.counts)
+        said(&with_ours::answer(&genotyper, input.counts))
     });
     print("two fractions", &kanpig, &port::diploid_of(0, &input.fractions[..2], &input.means, &input.precisions, &[], input.counts));
 }
@@ -86,11 +86,13 @@ pub fn run() {
     two_fractions();
     tables();
     counts();
-    panic::set_hook(hook);
     println!();
     println!("With the functions of statrs kanpig may answer otherwise where it does not panic. No sort ever panics: the smaller of a NaN and 0.0");
     println!(
         "is 0.0. A JSON file whose lists are not of three numbers is not read, and the default model is used. kanpig's counts are u64, and"
     );
     println!("their sum is not checked.");
+    println!();
+    trio_limits::run();
+    panic::set_hook(hook);
 }

@@ -28,6 +28,7 @@ mod trio_compare;
 mod trio_distances;
 mod trio_inputs;
 mod trio_kanpig;
+mod trio_limits;
 mod trio_words;
 
 use std::process::ExitCode;

@@ -5,7 +5,7 @@ use crate::compare::report;
 use crate::inputs::Random;
 use crate::port;
 use crate::trio::{expected, genotypes, Input, Pair};
-use crate::trio_inputs::{allowed, any_pair, disturbed, few, many};
+use crate::trio_inputs::{allowed, any_pair, disturbed, few, many, small};
 use crate::trio_kanpig::{matrix, OURS};
 use crate::trio_words as words;
 use std::collections::BTreeSet;
@@ -75,11 +75,12 @@ fn samples() -> bool {
 
 /// Answers whether nothing differs anywhere.
 pub fn run() -> bool {
+    let every = calls("trio, every small input", true, small());
     let random = &mut Random::new(40);
     let small = calls("trio, 1 to 5 clusters", true, (0..200_000).map(|_| few(random)));
     let random = &mut Random::new(41);
     let odd = calls("trio, with refusals", true, (0..50_000).map(|_| disturbed(random)));
     let random = &mut Random::new(42);
     let large = calls("trio, 6 to 8 clusters", false, (0..2_000).map(|_| many(random)));
-    small & odd & large & mendel() & samples()
+    every & small & odd & large & mendel() & samples()
 }

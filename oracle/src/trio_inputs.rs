@@ -84,6 +84,17 @@ pub fn many(random: &mut Random) -> Input {
     allowed(random, n)
 }
 
+/// Every input of n clusters with counts below `end`, all weights alike.
+fn every(n: u32, end: u32, weight: f64) -> impl Iterator<Item = Input> {
+    let counts = move |code: u32| (0..3 * n).map(|at| code / end.pow(at) % end).collect();
+    (0..end.pow(3 * n)).map(move |code| Input { n, counts: counts(code), weights: vec![weight; n as usize] })
+}
+
+/// Every small input, with no weight, with 1 and with the largest.
+pub fn small() -> impl Iterator<Item = Input> {
+    [0.0, 1.0, 1000.0].into_iter().flat_map(|weight| every(1, 12, weight).chain(every(2, 4, weight)).chain(every(3, 2, weight)))
+}
+
 /// An input with one to three numbers put in that are mostly not allowed.
 pub fn disturbed(random: &mut Random) -> Input {
     let mut input = few(random);
