@@ -213,6 +213,7 @@ close-once κ a v w e f = only
 
 pub call-once : OneAnswer call.Post
 call-once κ a v w e f = only
+
 -- ---- mosaic
 
 pub params-default-once : OneAnswer params-default.Post
@@ -269,6 +270,7 @@ pub c-trio-ends : (κ : _) (a : _) (v w : _) (e f : _) → c-trio.Post κ a v e 
     × (e .1 .1 .1 .1 .1 .1 .1 .0 .now ≡ f .1 .1 .1 .1 .1 .1 .1 .0 .now)
     × (e .1 .1 .1 .1 .1 .1 .1 .1 .0 .now ≡ f .1 .1 .1 .1 .1 .1 .1 .1 .0 .now)
 c-trio-ends κ a v w e f p q = (only (p .1) (q .1), only (p .2) (q .2), only (p .3) (q .3), only (p .4) (q .4), only (p .5) (q .5), only (p .6) (q .6))
+
 pub c-stirling-once : OneAnswer c-stirling.Post
 c-stirling-once κ a v w e f = only
 

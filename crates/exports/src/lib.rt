@@ -2,8 +2,8 @@
 // argument. Numbers pass as themselves, a slice as a pointer and then its length, a `&mut` as a pointer; that pointers are valid, and that what is
 // written to lies apart from all else that is passed, is the foreign caller's to see to.
 pub mod diploid_call;
-pub mod trio_call;
 pub mod mosaic_call;
+pub mod trio_call;
 
 ghost use mathlib.Core.Path.{_≡_};
 ghost use Rattle.floats.specs.Key.{keyOf};
