@@ -1,11 +1,11 @@
 -- What holds of every part of the right shape, whoever made it. No row and no merge spoils its shape; it closes with what it holds, and that is a triple at least; working all its rows again gives the one pass where the scores that it holds are true.
 -- Where they are not, nothing shows it: here is a part that calls a triple which one pass does not.
-use Prim.Native.Nat.{ℕ, zero, suc, _-_, _≤_, _<_}
-use mathlib.Core.Bool.{Bool, true, false, cond}
+use Prim.Native.Nat.{ℕ, zero, suc, _-_, _*_, _/_, _≤_, _<_}
+use mathlib.Core.Bool.{Bool, true, false, not, cond, _&&_}
 use mathlib.Core.List.{List, [], _∷_}
-use mathlib.Core.Logic.{_≢_}
+use mathlib.Core.Logic.{inl, _≢_}
 use mathlib.Core.Path.{_≡_, refl, sym, ap, subst, _∙_}
-use native.Mathlib.Nat.{zero-add, mul-pos}
+use native.Mathlib.Nat.{zero-add, mul-pos, div-lt-iff-lt-mul, not-suc-le-zero}
 use native.Mathlib.Omega.{arith}
 use borrow.Author.Tests.{ltb-true, eqb-true, eq-eqb, lt-ltb}
 use lib.Bits.{bitOr}
@@ -18,13 +18,14 @@ use Rattle.refusals.specs.declared.Refusal.the-variants.{Done, Row, OtherTrio, 
 use Rattle.refusals.specs.Refusals.{numberOf}
 use Rattle.search.specs.declared.entry.Entry.{Entry}
 use Rattle.search.specs.Best.{In}
-use Rattle.search.specs.Held.{heldOf, heldList, fresh, mergedHeld}
+use Rattle.search.specs.Held.{inUse, heldOf, heldList, fresh, mergedHeld}
 use Rattle.search.specs.Marks.{isMarked, markCount, fullMarks}
 use Rattle.search.specs.Rank.{beatsOf}
-use Rattle.search.specs.Shape.{workRight}
+use Rattle.search.specs.Shape.{inMarked, workRight}
 use Rattle.search.specs.Work.{Work, IsEntry, joined, rowWork, rowsFrom, workedAll, wholeWork, Within}
 use Rattle.search.proofs.HeldLaws.{in-use-back, all-kept-whole}
 use Rattle.search.proofs.KeepLaws.{joined-right}
+use Rattle.search.proofs.MarksLaws.{unmarked-above}
 use Rattle.search.proofs.ReworkLaws.{worked-last, reworked-rising}
 use Rattle.search.proofs.ShapeLaws.{and-true, and-both, Shaped, right-shaped, full-holds, held-back, work-right}
 use Rattle.search.proofs.WorkLaws.{row-sound}
@@ -32,7 +33,7 @@ use Rattle.trio.specs.declared.closing.Closed.{Closed}
 use Rattle.family.specs.declared.pair.Triple.{Triple}
 use Rattle.trio.specs.declared.part.Part.{Part}
 use Rattle.trio.specs.Genotypes.{genotypeCount, genotypeAt, rowWidth, tripleAt}
-use Rattle.trio.specs.Part.{weightAllowed, inputRight, sameInput, rowCount, workIn, rightPart, freshPart, withWork}
+use Rattle.trio.specs.Part.{weightAllowed, inputRight, sameInput, rowCount, workIn, rightPart, freshPart, emptyPart, withWork}
 use Rattle.trio.specs.Samples.{columnTotal}
 use Rattle.trio.specs.Steps.{gives, scoreIn, unread, rowsIn, rowStep, mergeStep, closedAs, refusedClosing, closeStep}
 use Rattle.desks.specs.Call.{onePassCall, workedTo}
@@ -48,6 +49,12 @@ right-parts p r = and-both (inputRight p) (workRight (rowCount p) (p .marks) (p 
 right-with : (p : Part) (v : Work) → inputRight p ≡ true → workRight (rowCount p) (v .marks) (heldOf (v .held)) ≡ true → rightPart (withWork p v) ≡ true
 unfolding rightPart inputRight
 right-with p v i w = and-true i w
+
+-- the first place is in use where anything is held
+first-held : (n : ℕ) (f s : Entry) → 1 ≤ n → In (inUse n f s) f
+first-held zero f s h = absurd (not-suc-le-zero h)
+first-held (suc zero) f s h = inl refl
+first-held (suc (suc n)) f s h = inl refl
 
 -- ---- no merge and no row spoils it
 
@@ -122,6 +129,14 @@ module _ (p : Part) where
     -- and there is a triple to say
     pub closes-with-triple : p .marks ≡ fullMarks rows → 1 ≤ p .held .count
     closes-with-triple m = full-holds rows (p .held) (subst (λ (k : ℕ). workRight rows k (p .held) ≡ true) m (right-parts p right .1))
+
+    -- what is called is a triple of this search, whoever made the part
+    pub closes-in-search : p .marks ≡ fullMarks rows → p .held .first .position < rows * width
+    closes-in-search m =
+        let e = p .held .first in
+        let i = first-held (p .held .count) (p .held .first) (p .held .second) (closes-with-triple m) in
+        let k = and-both (not (isNan (e .score))) (inMarked rows (p .marks) e) (shaped .scored e i) .1 in
+        div-lt-iff-lt-mul (mul-pos (shaped .some) (shaped .some)) .0 (unmarked-above rows (p .marks) (e .position / width) (shaped .below) k)
 
 -- so whatever closes has a triple to give
 pub closed-has-triple : (p : Part) → closeStep p .refusal ≡ Done → 1 ≤ p .held .count
@@ -230,3 +245,30 @@ reworking-keeps-lies =
     rw forged-right
     (all-reached forged forged-right refl .0
     ∙ ap (λ (s : ℕ → Float). withWork forged (workedAll (rowWidth 2) s (rowsFrom 0 (genotypeCount 2)) (workIn forged))) (λ i q. forged-least q i))
+
+-- ---- the part of a refused opening, and where a forged call lies
+
+-- the part of all zeros has no right shape, so every step answers it with 12
+empty-bad : rightPart emptyPart ≡ false
+unfolding rightPart inputRight
+empty-bad = refl
+
+pub empty-row : (r : ℕ) → rowStep emptyPart r ≡ gives BadPart emptyPart
+unfolding rowStep
+empty-row r = rw empty-bad
+
+pub empty-merged : (b : Part) → mergeStep emptyPart b ≡ gives BadPart emptyPart
+unfolding mergeStep
+empty-merged b = rw empty-bad
+
+pub merged-with-empty : (a : Part) → mergeStep a emptyPart ≡ gives BadPart a
+unfolding mergeStep
+merged-with-empty a = rw empty-bad (go (rightPart a))
+  where
+    go : (t : Bool) → cond (t && false) (cond (sameInput a emptyPart) (gives Done (withWork a (joined (workIn a) (workIn emptyPart)))) (gives OtherTrio a)) (gives BadPart a) ≡ gives BadPart a
+    go true = refl
+    go false = refl
+
+pub empty-closed : closeStep emptyPart ≡ refusedClosing BadPart emptyPart
+unfolding closeStep
+empty-closed = rw empty-bad

@@ -101,11 +101,12 @@ module _ (start : Part) (right-start : rightPart start ≡ true) (none : start �
     unfolding rowStep
     row-on r = rw right-with (ap (λ (z : Work). cond (ltb r rows) (gives Done (withWork start (joined z (rowWork width score r)))) (gives Row (withWork start v))) work-back)
 
-    other-on : (q : Part) → T (not (rightPart q && sameInput start q)) → mergeStep (withWork start v) q .part ≡ withWork start v
+    other-on : (q : Part) → T (not (rightPart q && sameInput start q)) → mergeStep (withWork start v) q ≡ gives (cond (rightPart q) OtherTrio BadPart) (withWork start v)
     unfolding mergeStep sameInput
     other-on q o = rw right-with (go (rightPart q) (sameInput start q) o (withWork (withWork start v) (joined (workIn (withWork start v)) (workIn q))))
       where
-        go : (t u : Bool) → T (not (t && u)) → (p : Part) → cond t (cond u (gives Done p) (gives OtherTrio (withWork start v))) (gives BadPart (withWork start v)) .part ≡ withWork start v
+        go : (t u : Bool) → T (not (t && u)) → (p : Part)
+            → cond t (cond u (gives Done p) (gives OtherTrio (withWork start v))) (gives BadPart (withWork start v)) ≡ gives (cond t OtherTrio BadPart) (withWork start v)
         go true true n p = absurd n
         go true false n p = refl
         go false u n p = refl
@@ -152,7 +153,7 @@ module _ (start : Part) (right-start : rightPart start ≡ true) (none : start �
       )
   came (mergedOther h q o) =
       let c = came h in
-      (c .0, ap (λ (p : Part). mergeStep p q .part) (c .1) ∙ other-on (rowsOf start h) (c .0) (c .2) q o, c .2)
+      (c .0, ap (λ (p : Part). mergeStep p q .part) (c .1) ∙ ap (λ (s : Stepped). s .part) (other-on (rowsOf start h) (c .0) (c .2) q o), c .2)
   came (closed h) = let c = came h in (c .0, close-back (partOf start h) ∙ c .1, c .2)
 
   module _ (w : ℕ → Bool) (v : Work) (s : IsSound w v) where
@@ -200,6 +201,8 @@ module _ (start : Part) (right-start : rightPart start ≡ true) (none : start �
             let d = came k in
             ap closeStep (d .1) ∙ complete-on (rowsOf start k) (d .0) (d .2) (λ r m. later-keeps start r l (all r m));
         row-accepted = λ r. ap (λ (p : Part). rowStep p r .refusal) (c .1) ∙ accepted-on (rowsOf start h) (c .0) (c .2) r;
+        other-refused = λ q o.
+            subst (λ (p : Part). mergeStep p q ≡ gives (cond (rightPart q) OtherTrio BadPart) p) (sym (c .1)) (other-on (rowsOf start h) (c .0) (c .2) q o);
         merge-accepted = λ k.
             let d = came k in
             ap (λ (p : Part). mergeStep p (partOf start k) .refusal) (c .1) ∙ ap (λ (p : Part). mergeStep (withWork start (c .0)) p .refusal) (d .1)

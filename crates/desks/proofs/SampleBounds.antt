@@ -30,7 +30,8 @@ use Rattle.trio.specs.Samples.{upFrom, clusters, reads, sum, columnTotal, sumFr
 use Rattle.trio.specs.Part.{weightAllowed}
 use Rattle.trio.proofs.SampleLaws.{count-at-most}
 use Rattle.desks.specs.Accepted.{Accepted}
-use Rattle.desks.proofs.Every.{every, every-at, every-between}
+use Rattle.trio.specs.Steps.{every}
+use Rattle.desks.proofs.Every.{every-at, every-between}
 
 -- ---- the divided expectations: with two clusters or more each lies between 0 and 1
 

@@ -3,7 +3,7 @@ use Prim.Native.Nat.{ℕ, _<_}
 use mathlib.Core.Bool.{Bool, true, false, not, cond, _&&_, _||_}
 use mathlib.Core.Path.{_≡_}
 use lib.Dec.{T, eqb, ltb}
-use Rattle.refusals.specs.declared.Refusal.the-variants.{Done, Row, NotComplete}
+use Rattle.refusals.specs.declared.Refusal.the-variants.{Done, Row, OtherTrio, NotComplete, BadPart}
 use Rattle.search.specs.Best.{Best}
 use Rattle.search.specs.Held.{heldList}
 use Rattle.search.specs.Marks.{isMarked}
@@ -12,7 +12,7 @@ use Rattle.search.specs.Work.{Within}
 use Rattle.trio.specs.declared.part.Part.{Part}
 use Rattle.trio.specs.Genotypes.{rowWidth}
 use Rattle.trio.specs.Part.{rowCount, sameInput, rightPart}
-use Rattle.trio.specs.Steps.{scoreIn, rowStep, mergeStep, closeStep, refusedClosing}
+use Rattle.trio.specs.Steps.{gives, scoreIn, rowStep, mergeStep, closeStep, refusedClosing}
 use Rattle.desks.specs.Call.{onePassCall}
 
 -- what desks do with the parts of one input, `start` being the part that opening it gave
@@ -36,7 +36,7 @@ module _ (start : Part) where
   partOf (mergedOther h q o) = mergeStep (partOf h) q .part
   partOf (closed h) = closeStep (partOf h) .part
 
-  -- the rows worked into that part, by itself or through the parts merged into it; a refused step works none
+  -- the rows that went into that part, worked there or come with a merge; where a step is refused, none
   unfoldable pub rowsOf : History start → ℕ → Bool
   rowsOf opened r = false
   rowsOf (worked h s) r = cond (ltb s (rowCount start)) (rowsOf h r || eqb s r) (rowsOf h r)
@@ -62,9 +62,9 @@ module _ (start : Part) where
     pub right : rightPart (partOf h) ≡ true
     -- its input is the one that was opened
     pub input-kept : (partOf h .clusters ≡ start .clusters) × (partOf h .counts ≡ start .counts) × (partOf h .weights ≡ start .weights)
-    -- it is marked with exactly the rows worked into it
+    -- its marks are those rows and no others
     pub marks-are : (r : ℕ) → isMarked (partOf h .marks) r ≡ rowsOf h r
-    -- it holds the best two triples of exactly those rows, or as many as they have
+    -- what it holds are the two best of the triples of these rows, fewer only where there are no more
     pub held-best : Best beatsOf 2 (Within (rowWidth (start .clusters)) (scoreIn start) (rowsOf h)) (heldList (partOf h .held))
     -- while a row has not been worked, closing is refused
     pub incomplete : (r : ℕ) → r < rowCount start → rowsOf h r ≡ false → closeStep (partOf h) ≡ refusedClosing NotComplete (partOf h)
@@ -74,5 +74,7 @@ module _ (start : Part) where
     pub for-ever : AllWorked h → (k : History start) → Later h k → closeStep (partOf k) ≡ onePassCall start
     -- a row is accepted exactly when there is such a row
     pub row-accepted : (r : ℕ) → rowStep (partOf h) r .refusal ≡ cond (ltb r (rowCount start)) Done Row
-    -- and a merge with a part of the same input always is
+    -- a merge with a bad part is refused as such, one with a part of another input as that, and either hands the part back
+    pub other-refused : (q : Part) → T (not (rightPart q && sameInput start q)) → mergeStep (partOf h) q ≡ gives (cond (rightPart q) OtherTrio BadPart) (partOf h)
+    -- and a merge with a part of the same input is always accepted
     pub merge-accepted : (k : History start) → mergeStep (partOf h) (partOf k) .refusal ≡ Done
