@@ -1,4 +1,4 @@
--- Demand 3, for every trio that an opening accepts, and what follows from it for merging.
+-- D3, for every trio that an opening accepts, and what follows from it for merging.
 use Prim.Native.Nat.{ℕ}
 use mathlib.Core.Bool.{true, false, or-comm, or-assoc, or-self}
 use mathlib.Core.List.{List}

@@ -1,4 +1,4 @@
--- What holds of every part of the right shape, whoever made it. No row and no merge spoils its shape; it closes with what it holds, and that is a triple at least; working all its rows again gives the one pass where the scores that it holds are true.
+-- S2: what holds of every part of the right shape, whoever made it. No row and no merge spoils its shape; it closes with what it holds, and that is a triple at least; working all its rows again gives the one pass where the scores that it holds are true.
 -- Where they are not, nothing shows it: here is a part that calls a triple which one pass does not.
 use Prim.Native.Nat.{ℕ, zero, suc, _-_, _*_, _/_, _≤_, _<_}
 use mathlib.Core.Bool.{Bool, true, false, not, cond, _&&_}
@@ -238,7 +238,7 @@ forged-lies =
       λ e. omega (arith, forged-calls, one-pass-calls, ap allele (sym c), ap (λ (t : Triple). t .child .low) e),
     )
 
--- working all its rows again leaves it as it is, since at a shared position the first part's entry stays
+-- working all its rows again leaves it as it is, since where both sides of a merge hold a position its own entry counts
 pub reworking-keeps-lies : workedTo forged (rowsIn forged) ≡ forged
 unfolding rowsIn genotypeCount beatsOf keyOf toBits ofInt isNan forged
 reworking-keeps-lies =

@@ -1,4 +1,4 @@
--- Demand 3: every history of parts of one accepted input keeps its promises. Of a score nothing is used but that it is a number.
+-- D3: every history of parts of one accepted input keeps its promises. Of a score nothing is used but that it is a number.
 use Prim.Native.Nat.{ℕ, _<_}
 use mathlib.Core.Bool.{Bool, true, false, not, cond, _&&_, _||_}
 use mathlib.Core.List.{List, [], _∷_, map}

@@ -1,4 +1,4 @@
--- Within the limits no score is a NaN or plus infinity: it is finite where every animal has reads, and minus infinity where one has none.
+-- T4: within the limits no score is a NaN or plus infinity: it is finite where every animal has reads, and minus infinity where one has none.
 -- Assumes nothing.
 use Prim.Native.Nat.{ℕ, zero, suc, suc-le-suc, _/_, _%_, _^_, _<_}
 use native.Mathlib.Omega.{arith}

@@ -1,4 +1,4 @@
--- The call of an unread trio of two or more clusters is the last triple of all, however the other animals' counts and the weights are.
+-- T4, T10: the call of an unread trio of two or more clusters is the last triple of all, however the other animals' counts and the weights are.
 use Prim.Native.Nat.{ℕ, zero, suc, _+_, _*_, _-_, _≤_, _<_, zero-le}
 use mathlib.Core.Bool.{Bool, true, false, _||_}
 use mathlib.Core.List.{List, [], _∷_, map}

@@ -1,4 +1,4 @@
--- What every check of an opening has passed, for the laws. Definitions only (RULES.md, L1, L2, L3).
+-- What the laws on scores ask of an input. Definitions only (RULES.md, L1, L2, L3).
 use Prim.Native.Nat.{ℕ, _*_, _≤_, _<_}
 use mathlib.Core.Path.{_≡_}
 use mathlib.Core.Bool.{true}
@@ -7,7 +7,7 @@ use lib.ListN.{getD}
 use lib.Ieee.{Float, nan}
 use Rattle.trio.specs.Part.{weightAllowed}
 
--- 1 to 8 clusters, three counts and one weight for each, all within their limits
+-- 1 to 8 clusters; the counts and the weights of these are within their limits
 pub record Accepted (n : ℕ) (counts : List ℕ) (weights : List Float) : Type 0 where
   pub some : 1 ≤ n
   pub few : n ≤ 8

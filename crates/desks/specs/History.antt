@@ -1,4 +1,4 @@
--- Demand 3: what desks may do with the parts of one input, and what they are promised. Definitions only (RULES.md, D3).
+-- What desks may do with the parts of one input, and what they are promised. Definitions only (RULES.md, D3).
 use Prim.Native.Nat.{ℕ, _<_}
 use mathlib.Core.Bool.{Bool, true, false, not, cond, _&&_, _||_}
 use mathlib.Core.Path.{_≡_}

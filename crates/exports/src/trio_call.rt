@@ -1,4 +1,4 @@
-// The whole call of a trio for callers in other languages: a cluster number and slices in, numbers out.
+// The whole call of a trio for callers in other languages: a cluster number and slices in, numbers out (docs/RULES.md, T9, T10).
 ghost use mathlib.Core.Path.{_≡_};
 ghost use mathlib.Core.Bool.{cond};
 ghost use Rattle.desks.specs.Call.{callOf};
@@ -12,7 +12,7 @@ fn flag(b: bool) -> u32
     if b { 1 } else { 0 }
 }
 
-// Counts lie cluster by cluster: child, father, mother. The refusal's number is returned. Written through references: the pairs of child, father
+// Each cluster has three counts, of child, father and mother. The refusal's number is returned. Written through references: the pairs of child, father
 // and mother, the score, the ground's number, 1 if there is a runner-up and else 0, its position and its score.
 #[no_mangle]
 pub extern "C" fn admulfas_trio(

@@ -45,7 +45,7 @@ module _ {A : Type 0} (beats : A → A → Bool) where
   allOffered k h [] = h
   allOffered k h (a ∷ more) = allOffered k (offered k a h) more
 
--- beats is a strict order in which any two of the set differ
+-- beats is a strict order, and of any two of the set that are not equal one beats the other
 pub record Ranks {A : Type 0} (Good : A → Type 0) (beats : A → A → Bool) : Type 0 where
   pub irreflexive : (a : A) → T (beats a a) → ⊥
   pub transitive : (a b c : A) → T (beats a b) → T (beats b c) → T (beats a c)

@@ -32,7 +32,7 @@ heldCount rows marks = cond (leb 2 (markedPositions rows marks)) 2 (markedPositi
 abbrev pub inMarked : ℕ → ℕ → Entry → Bool
 inMarked rows marks e = isMarked marks (e .position / (rows * rows))
 
--- and its score is a number
+-- e lies in a marked row, and its score is a number
 abbrev pub scoredInMarked : ℕ → ℕ → Entry → Bool
 scoredInMarked rows marks e = not (isNan (e .score)) && inMarked rows marks e
 

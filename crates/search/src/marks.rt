@@ -1,4 +1,4 @@
-// Row marks: each row that has been worked is one bit of a 64-bit word (docs/RULES.md, F4).
+// Row marks: bit r of a word says whether row r has been worked (docs/RULES.md, F4).
 ghost use mathlib.Core.Path.{_≡_};
 ghost use Prim.Native.Nat.{_<_};
 ghost use lib.Dec.{eqb};

@@ -18,7 +18,7 @@ upFrom c (suc n) = c ∷ upFrom (suc c) n
 abbrev pub clusters : ℕ → List ℕ
 clusters n = upFrom 0 n
 
--- counts lie cluster by cluster: child, father, mother
+-- the reads of animal s in cluster c: each cluster has three counts, by column
 abbrev pub reads : List ℕ → ℕ → ℕ → ℕ
 reads counts s c = getD counts (3 * c + s) 0
 

@@ -1,4 +1,4 @@
-// The score of one animal of a part, for whoever checks a call by hand.
+// The score of one animal of a part, for whoever checks a call by hand (docs/RULES.md, T2).
 ghost use mathlib.Core.Path.{_≡_};
 ghost use Rattle.trio.specs.Steps.{sampleStep};
 use crate::part::Part;

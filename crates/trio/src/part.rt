@@ -4,7 +4,7 @@ ghost use Rattle.trio.specs.Part.{emptyPart};
 use refusals::Refusal;
 use search::held::Held;
 
-// Counts lie cluster by cluster: child, father, mother. Places beyond the clusters are zero.
+// Each cluster has three counts, of child, father and mother, and one weight. Places beyond the clusters are zero.
 pub struct Part {
     pub clusters: u64,
     pub counts: [u32; 24],

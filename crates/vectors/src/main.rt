@@ -1,4 +1,4 @@
-// Reads cases from standard input, one a line, and writes one answer line for each (docs/VECTORS.md).
+// Answers the cases of standard input, line for line (docs/VECTORS.md).
 mod diploid_cases;
 mod kernel_cases;
 mod kinds;

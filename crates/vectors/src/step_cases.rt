@@ -49,7 +49,7 @@ fn read_two(line: &[u8], c: Cursor) -> Two {
     Two::Are(r, s)
 }
 
-// The number of the refusal; register r holds the part that the step gave.
+// The number of the refusal; what came back from the step goes into register r.
 fn stepped(text: &mut Text, out: Out, registers: Registers, r: usize, step: Stepped) -> Answered {
     let refusal = step.refusal;
     let part = step.part;
