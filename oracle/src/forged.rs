@@ -1,6 +1,6 @@
 //! Parts that no opening gave: sound ones with something put in that mostly does not belong there (docs/RULES.md, S1).
 use crate::inputs::{moved, Random};
-use crate::part::Part;
+use crate::part::{rank, Entry, Part};
 use crate::trio::genotypes;
 use crate::trio_inputs::pick;
 
@@ -59,9 +59,26 @@ fn change(random: &mut Random, part: &mut Part) {
     }
 }
 
-/// A part made of a sound one by a few changes. A good many keep the right shape, with entries that are not the best.
-pub fn forged(random: &mut Random, sound: &Part) -> Part {
-    let mut part = *sound;
+/// Other entries in the marked rows of a sound part, half of them next to its own or at their places, with scores around theirs.
+fn poor(random: &mut Random, sound: &Part) -> Part {
+    let end = genotypes(sound.n).len().pow(3) as u32;
+    let mut draw = || {
+        let (near, any) = (sound.positions[random.below(2) as usize], random.below(u64::from(end)) as u32);
+        let position = pick(random, &[near, near.saturating_sub(1), (near + 1).min(end - 1), any]);
+        let score = sound.scores[random.below(2) as usize] + pick(random, &[-2.0, -1.0, 0.0, 0.0, 1.0, 2.0]);
+        (position, score)
+    };
+    let mut entries: Vec<Entry> = (0..sound.held).map(|_| draw()).collect();
+    entries.sort_by_key(rank);
+    Part::of(&sound.input(), sound.marks, &entries)
+}
+
+/// A part made of a given one by a few changes. A good many keep the right shape, with entries that are not the best.
+pub fn forged(random: &mut Random, given: &Part) -> Part {
+    if given.is_right() && random.below(3) == 0 {
+        return poor(random, given);
+    }
+    let mut part = *given;
     for _ in 0..pick(random, &[0, 1, 1, 1, 1, 2, 2, 3]) {
         change(random, &mut part);
     }

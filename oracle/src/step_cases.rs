@@ -167,6 +167,10 @@ fn poor_triples(session: &mut Session) {
         ]);
         session.all([Step::Show(1), Step::Close(1)]);
     }
+    // the first part's entry at position 1 goes out, and the second's does not come in for it
+    let first = with(&sound, |part| (part.positions, part.scores) = ([3, 1], [-1.0, -2.0]));
+    let second = with(&sound, |part| (part.positions, part.scores) = ([5, 1], [-0.5, -0.7]));
+    session.all([Step::Part(1, first), Step::Part(2, second), Step::Merge(1, 2), Step::Show(1), Step::Merge(2, 1), Step::Show(2)]);
 }
 
 /// Each good line with one word wrong, left out or put in: no register changes.

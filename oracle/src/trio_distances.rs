@@ -52,14 +52,15 @@ pub fn run() {
     let random = &mut Random::new(44);
     changed.extend(row("2 to 4 clusters, usual reads", (0..60_000).map(|i| both(usual_trio(random, 2 + i % 3))).collect()));
     println!();
-    match changed.iter().map(|(_, ours, std)| lead(ours).max(lead(std))).max_by(f64::total_cmp) {
-        Some(far) => {
-            changed.sort_by_key(|(input, ..)| (input.n, input.counts.iter().sum::<u32>()));
-            println!(
-                "Where a call or a ground changed, the larger lead of the two over the runner-up was at most {far:.1e}. The smallest such input: {:?}",
-                changed[0]
+    let leads = |pick: fn(f64, f64) -> f64| changed.iter().map(move |(_, ours, std)| pick(lead(ours), lead(std))).max_by(f64::total_cmp);
+    match (leads(f64::min), leads(f64::max)) {
+        (Some(smaller), Some(larger)) => {
+            print!(
+                "Where a call or a ground changed, the smaller lead of the two over the runner-up was at most {smaller:.1e}, the larger"
             );
+            let smallest = changed.iter().min_by_key(|(input, ..)| (input.n, input.counts.iter().sum::<u32>()));
+            println!(" at most {larger:.1e}. The smallest such input: {smallest:?}");
         }
-        None => println!("No call and no ground changed."),
+        _ => println!("No call and no ground changed."),
     }
 }
