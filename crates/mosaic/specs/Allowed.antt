@@ -3,13 +3,9 @@ use Prim.Native.Nat.{ℕ}
 use mathlib.Core.Bool.{Bool, true, _&&_}
 use mathlib.Core.List.{List, [], _∷_}
 use lib.Dec.{leb}
-use lib.Ieee.{Float, le}
 use Rattle.floats.specs.F64.{nat, decimal}
+use Rattle.tables.specs.Ranges.{inRange}
 use Rattle.mosaic.specs.declared.params.Params.{Params}
-
--- from lo to hi, both ends included; a NaN is in no range
-abbrev pub inRange : Float → Float → Float → Bool
-inRange lo hi x = le lo x && le x hi
 
 -- L6: alpha and beta from 0.001 to 1000, the highest VAF from 0 to 1, any least depth
 unfoldable pub paramsAllowed : Params → Bool

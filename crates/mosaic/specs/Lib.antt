@@ -1,6 +1,5 @@
 -- The definitions that the contracts of `mosaic` cite. `Inner` is for private functions alone.
 pub mod Over
-pub mod Order
 pub mod Stirling
 pub mod Edition
 pub mod Allowed

@@ -7,7 +7,7 @@ use lib.Ieee.{Float, nan}
 use Rattle.floats.specs.F64.{_⊕_, _⊖_, _⊗_, _⊘_, nat, decimal}
 use Rattle.kernels.specs.Ln.{lnOf}
 use Rattle.mosaic.specs.Over.{over}
-use Rattle.mosaic.specs.Order.{larger}
+use Rattle.qualities.specs.Order.{larger}
 use Rattle.mosaic.specs.Edition.{Edition, lnFactorial}
 use Rattle.mosaic.specs.Hypotheses.{countAt, seenIn, germlineIn, somaticIn, alone, totalOf}
 use Rattle.mosaic.specs.declared.hypotheses.Pair.{Pair}

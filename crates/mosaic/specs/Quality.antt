@@ -10,7 +10,7 @@ use Rattle.floats.specs.F64.{_⊕_, _⊖_, _⊗_, _⊘_, nat, whole}
 use Rattle.kernels.specs.Ln.{lnOf}
 use Rattle.kernels.specs.Log10.{log10Of, pow10Of}
 use Rattle.mosaic.specs.Over.{over, placed}
-use Rattle.mosaic.specs.Order.{larger, smaller}
+use Rattle.qualities.specs.Order.{larger, smaller}
 
 -- as a decimal logarithm
 abbrev pub inTens : Float → Float

@@ -1,6 +1,7 @@
 // Whether the parameters and the counts are allowed. A NaN is in no range.
 ghost use mathlib.Core.Path.{_≡_};
-ghost use Rattle.mosaic.specs.Allowed.{inRange, paramsAllowed, countsAllowed};
+ghost use Rattle.tables.specs.Ranges.{inRange};
+ghost use Rattle.mosaic.specs.Allowed.{paramsAllowed, countsAllowed};
 use crate::params::Params;
 
 fn in_range(low: f64, high: f64, x: f64) -> bool

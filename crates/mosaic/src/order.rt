@@ -4,7 +4,7 @@ ghost use mathlib.Core.Bool.{cond};
 ghost use lib.Signed.{leZ, ltZ};
 ghost use Rattle.floats.specs.F64.{_⊕_};
 ghost use Rattle.floats.specs.Key.{keyOf};
-ghost use Rattle.mosaic.specs.Order.{larger, smaller};
+ghost use Rattle.qualities.specs.Order.{larger, smaller};
 use floats::key::key;
 
 pub(crate) fn max(a: f64, b: f64) -> f64

@@ -22,7 +22,7 @@ use Rattle.kernels.proofs.Log10Laws.{ln-ten}
 use Rattle.bounds.proofs.Log10Bounds.{within-log10}
 use Rattle.diploid_laws.proofs.Signs.{NotAbove, lt-itself, lt-not-back, not-below-trans, difference-not-above, not-below-add}
 use Rattle.diploid_laws.proofs.QualityBounds.{one, pow10-within, pow10-zero}
-use Rattle.mosaic.specs.Order.{larger, smaller}
+use Rattle.qualities.specs.Order.{larger, smaller}
 use Rattle.mosaic.specs.Quality.{inTens, topOf, sumOf, wholeOf, probabilityOf, wrongOf, qualityOf}
 use Rattle.mosaic_laws.proofs.Terms.{either}
 use Rattle.mosaic_laws.proofs.Sums.{grows}

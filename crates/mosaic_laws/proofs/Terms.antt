@@ -22,9 +22,10 @@ use Rattle.kernels.specs.Ln.{lnOf}
 use Rattle.bounds.proofs.LnBounds.{within-ln}
 use Rattle.mosaic.specs.Stirling.{pi, stirlingFromOne, stirlingOf}
 use Rattle.mosaic.specs.Edition.{first, lnFactorial}
-use Rattle.mosaic.specs.Allowed.{inRange, paramsAllowed}
+use Rattle.mosaic.specs.Allowed.{paramsAllowed}
+use Rattle.tables.specs.Ranges.{inRange}
 use Rattle.mosaic.specs.Hypotheses.{alone}
-use Rattle.mosaic.specs.Order.{larger}
+use Rattle.qualities.specs.Order.{larger}
 use Rattle.mosaic.specs.Likelihood.{germlineShare}
 use Rattle.mosaic.specs.Prior.{densityOf, gainOf, forOne, forTwo}
 use Rattle.mosaic.specs.declared.params.Params.{Params}
