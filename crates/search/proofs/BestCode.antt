@@ -1,17 +1,21 @@
 -- The best two of a run of positions, as a loop finds them.
 use Prim.Native.Nat.{ℕ, suc, _+_, _-_, _≤_, _<_}
-use mathlib.Core.List.{List, [], _∷_}
+use mathlib.Core.List.{[]}
+use mathlib.Core.Logic.{inr, ⊎-elim}
 use mathlib.Core.Path.{_≡_, refl, sym, ap, _∙_}
 use native.Mathlib.Nat.{add-zero, sub-zero}
 use native.Mathlib.Omega.{arith}
 use lib.Ieee.{Float}
-use Rattle.search.specs.declared.entry.Entry.{Entry}
 use Rattle.search.specs.declared.held.Held.{Held}
-use Rattle.search.specs.Best.{offered, allOffered}
+use Rattle.search.specs.Best.{In, Or, offered, allOffered}
 use Rattle.search.specs.Held.{heldOf, heldList}
 use Rattle.search.specs.Rank.{beatsOf}
-use Rattle.search.specs.Work.{entryAt, entriesFrom}
+use Rattle.search.specs.Work.{onePass, entryAt, IsEntry, entriesFrom}
+use Rattle.search.proofs.BestLaws.{best-ext, best-unique, all-offered-best}
 use Rattle.search.proofs.HeldLaws.{kept-whole}
+use Rattle.search.proofs.PassLaws.{entries-lie, entries-fresh, entries-rise, one-pass-best}
+use Rattle.search.proofs.RankLaws.{ranks}
+use Rattle.search.proofs.ShapeLaws.{held-back}
 
 module _ (score : ℕ → Float) (from n : ℕ) where
   -- h once i of the n positions have been offered: offering the others gives the best two of all
@@ -31,12 +35,22 @@ module _ (score : ℕ → Float) (from n : ℕ) where
       let r = rw (a, b) at (s .others) in
       record { within = omega arith; normal = e ∙ ap heldOf (sym l); others = rw l r }
 
-  pub offering-all : (h : Held) (i : ℕ) → n ≤ i → Offering h i → h ≡ heldOf (allOffered beatsOf 2 [] (entriesFrom score from n))
+  -- offering them one after the other keeps what one pass keeps
+  offered-pass : allOffered beatsOf 2 [] (entriesFrom score from n) ≡ onePass 2 (entriesFrom score from n)
+  offered-pass =
+      best-unique beatsOf (IsEntry score) (ranks score) 2 (In (entriesFrom score from n)) (allOffered beatsOf 2 [] (entriesFrom score from n)) (onePass 2 (entriesFrom score from n))
+      (best-ext beatsOf 2 (Or (λ x. ⊥) (In (entriesFrom score from n))) (In (entriesFrom score from n))
+      (λ x. ⊎-elim absurd (λ i. i)) (λ x i. inr i) (allOffered beatsOf 2 [] (entriesFrom score from n))
+      (all-offered-best beatsOf (IsEntry score) (ranks score) 2 (entriesFrom score from n) (λ x. ⊥) [] (λ x i. absurd i) (λ x i. entries-lie score from n x i .is) (λ x i. i)
+      (entries-fresh score from n [] (λ x i. absurd i))))
+      (one-pass-best 2 from (entriesFrom score from n) (entries-rise score from n))
+
+  pub offering-all : (h : Held) (i : ℕ) → n ≤ i → Offering h i → h ≡ heldOf (onePass 2 (entriesFrom score from n))
   offering-all h i k s =
       let a : n - i ≡ 0 = omega arith in
-      s .normal ∙ ap heldOf (rw a at (s .others))
+      s .normal ∙ ap heldOf ((rw a at (s .others)) ∙ offered-pass)
 
--- the best two fit a `Held`
-pub best-back : (l h : List Entry) → heldList (heldOf h) ≡ h → heldList (heldOf (allOffered beatsOf 2 h l)) ≡ allOffered beatsOf 2 h l
-best-back [] h e = e
-best-back (a ∷ l) h e = best-back l (offered beatsOf 2 a h) (kept-whole a h)
+  -- what it keeps fits a `Held`
+  pub pass-back : heldList (heldOf (onePass 2 (entriesFrom score from n))) ≡ onePass 2 (entriesFrom score from n)
+  pass-back =
+      held-back (In (entriesFrom score from n)) (onePass 2 (entriesFrom score from n)) (one-pass-best 2 from (entriesFrom score from n) (entries-rise score from n))

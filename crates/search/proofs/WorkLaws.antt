@@ -1,7 +1,7 @@
 -- Partial results hold the best two of exactly the rows worked, however they came to be.
 use Prim.Native.Nat.{ℕ, suc, _*_, _/_, _≤_, _<_}
 use mathlib.Core.Bool.{Bool, true, false, _||_, true≢false}
-use mathlib.Core.List.{List, []}
+use mathlib.Core.List.{List}
 use mathlib.Core.Logic.{_⊎_, inl, inr, ⊎-elim, _≢_}
 use mathlib.Core.Path.{_≡_, sym, ap, ap₂, subst, _∙_}
 use native.Mathlib.Nat.{div-eq-of-lt-le, div-lt-iff-lt-mul, le-div-iff-mul-le, suc-mul}
@@ -18,10 +18,10 @@ use Rattle.search.specs.Held.{mergedHeld}
 use Rattle.search.specs.Marks.{isMarked, fullMarks}
 use Rattle.search.specs.Rank.{beatsOf}
 use Rattle.search.specs.Work.{onePass, IsEntry, Work, joined, noWork, rowEntries, allEntries, rowWork, Within, Sound}
-use Rattle.search.proofs.BestLaws.{best-ext, best-unique, all-offered-best}
+use Rattle.search.proofs.BestLaws.{best-ext, best-unique}
 use Rattle.search.proofs.MarksLaws.{marked-none, marked-one, marked-or, full-marked, marked-full, unmarked-above}
 use Rattle.search.proofs.MergeLaws.{merged-best}
-use Rattle.search.proofs.PassLaws.{entries-lie, lie-entries, entries-fresh, entries-rise, one-pass-best}
+use Rattle.search.proofs.PassLaws.{entries-lie, lie-entries, entries-rise, one-pass-best}
 use Rattle.search.proofs.RankLaws.{ranks}
 
 -- ---- rows
@@ -51,10 +51,8 @@ module _ (width : ℕ) (score : ℕ → Float) (some : 0 < width) where
 
   pub row-best : (r : ℕ) → Best beatsOf 2 (Within width score (eqb r)) (rowWork width score r .held)
   row-best r =
-      best-ext beatsOf 2 (Or (λ x. ⊥) (In (rowEntries width score r))) (Within width score (eqb r))
-      (λ x. ⊎-elim absurd (row-within r x)) (λ x w. inr (within-row r x w)) (rowWork width score r .held)
-      (all-offered-best beatsOf (IsEntry score) (ranks score) 2 (rowEntries width score r) (λ x. ⊥) [] (λ x i. absurd i) (λ x i. row-within r x i .0) (λ x i. i)
-      (entries-fresh score (r * width) width [] (λ x i. absurd i)))
+      best-ext beatsOf 2 (In (rowEntries width score r)) (Within width score (eqb r)) (row-within r) (within-row r) (rowWork width score r .held)
+      (one-pass-best 2 (r * width) (rowEntries width score r) (entries-rise score (r * width) width))
 
 -- ---- the best two of all rows are what one pass keeps
 

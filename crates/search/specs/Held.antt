@@ -39,7 +39,7 @@ abbrev pub fresh : List Entry → List Entry → List Entry
 fresh own [] = []
 fresh own (b ∷ bs) = cond (holdsAt own (b .position)) (fresh own bs) (b ∷ fresh own bs)
 
--- the best two by distinct position; at a shared position the first list's entry stays
+-- the best two by distinct position; at a shared position the first list's entry stays. That this is the best of `Both`, then the best of the rest: `merged-two-best`
 abbrev pub mergedHeld : List Entry → List Entry → List Entry
 mergedHeld own given = allOffered beatsOf 2 own (fresh own given)
 

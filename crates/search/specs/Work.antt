@@ -8,7 +8,7 @@ use lib.Dec.{T, eqb}
 use lib.Ieee.{Float}
 use lib.Signed.{ltZ}
 use Rattle.search.specs.declared.entry.Entry.{Entry}
-use Rattle.search.specs.Best.{In, Best, allOffered}
+use Rattle.search.specs.Best.{In, Best}
 use Rattle.search.specs.Held.{mergedHeld}
 use Rattle.search.specs.Marks.{isMarked, fullMarks}
 use Rattle.floats.specs.Key.{keyOf}
@@ -74,9 +74,9 @@ module _ (width : ℕ) (score : ℕ → Float) where
   abbrev pub rowEntries : ℕ → List Entry
   rowEntries r = entriesFrom score (r * width) width
 
-  -- marked with row r alone, and holding its best two
+  -- marked with row r alone, and holding its best two: what one pass over it keeps
   abbrev pub rowWork : ℕ → Work
-  rowWork r = record { marks = 2 ^ r; held = allOffered beatsOf 2 [] (rowEntries r) }
+  rowWork r = record { marks = 2 ^ r; held = onePass 2 (rowEntries r) }
 
   -- v once the rows of the list have been worked into it, one after the other
   abbrev pub workedAll : List ℕ → Work → Work

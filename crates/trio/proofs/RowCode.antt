@@ -1,16 +1,15 @@
 -- A row's positions, its mark, and that working a row merges the part that has that row alone.
 use Prim.Native.Nat.{ℕ, suc, _+_, _*_, _^_, _≤_, _<_}
 use mathlib.Core.Bool.{true}
-use mathlib.Core.List.{[]}
-use mathlib.Core.Path.{_≡_, refl, ap, subst, _∙_}
+use mathlib.Core.Path.{_≡_, ap, subst, _∙_}
 use native.Mathlib.Nat.{le-trans, mul-le-mul, suc-mul}
 use native.Mathlib.Omega.{arith}
 use borrow.Author.Tests.{lt-ltb}
 use lib.Bits.{or-zero-l}
 use Rattle.refusals.specs.declared.Refusal.the-variants.{Done}
 use Rattle.search.specs.Marks.{marked}
-use Rattle.search.specs.Work.{Work, joined, rowEntries, rowWork}
-use Rattle.search.proofs.BestCode.{best-back}
+use Rattle.search.specs.Work.{Work, joined, rowWork}
+use Rattle.search.proofs.BestCode.{pass-back}
 use Rattle.trio.specs.declared.part.Part.{Part}
 use Rattle.trio.specs.Genotypes.{rowWidth}
 use Rattle.trio.specs.Part.{rowCount, workIn, withWork, rightPart}
@@ -31,7 +30,7 @@ unfolding rowStep
 row-done p q s r g t k e hq hs = rw (t, lt-ltb r (rowCount p) (subst (λ (n : ℕ). r < n) e k)) (ap (gives Done) (hs ∙ ap (λ (v : Work). withWork p (joined (workIn p) v)) work))
   where
     back : workIn (withWork p (rowWork (g * g) (scoreIn p) r)) ≡ rowWork (g * g) (scoreIn p) r
-    back = λ i. record { marks = 2 ^ r; held = best-back (rowEntries (g * g) (scoreIn p) r) [] refl i }
+    back = λ i. record { marks = 2 ^ r; held = pass-back (scoreIn p) (r * (g * g)) (g * g) i }
 
     work : workIn q ≡ rowWork (rowWidth (p .clusters)) (scoreIn p) r
     work = ap workIn hq ∙ back ∙ ap (λ (n : ℕ). rowWork (n * n) (scoreIn p) r) e

@@ -1,11 +1,8 @@
 // Working a row: all triples of one father's genotype (docs/RULES.md, T6).
 ghost use mathlib.Core.Path.{_≡_};
-ghost use mathlib.Core.List.{[]};
 ghost use Prim.Native.Nat.{_+_, _*_, _≤_, _<_, _^_};
-ghost use Rattle.search.specs.Rank.{beatsOf};
-ghost use Rattle.search.specs.Best.{allOffered};
 ghost use Rattle.search.specs.Held.{heldOf};
-ghost use Rattle.search.specs.Work.{entriesFrom, rowWork};
+ghost use Rattle.search.specs.Work.{onePass, entriesFrom, rowWork};
 ghost use Rattle.trio.specs.Score.{scoreOf};
 ghost use Rattle.trio.specs.Part.{withWork};
 ghost use Rattle.trio.specs.Steps.{rowsIn, rowStep};
@@ -24,7 +21,7 @@ use search::marks::row_marked;
 // The best two of `many` positions from `from` on.
 fn best_of(clusters: u64, counts: [u32; 24], weights: [f64; 8], from: u64, many: u64) -> Held
     requires { ⌜ ((1 ≤ clusters) × (clusters ≤ 8)) × (from + many < 2 ^ 64) ⌝ }
-    ensures { λ r. ⌜ r ≡ heldOf (allOffered beatsOf 2 [] (entriesFrom (scoreOf clusters counts weights) from many)) ⌝ }
+    ensures { λ r. ⌜ r ≡ heldOf (onePass 2 (entriesFrom (scoreOf clusters counts weights) from many)) ⌝ }
 {
     let mut h = Held::nothing();
     let mut i: u64 = 0;
