@@ -112,13 +112,18 @@ fn diploid_row(name: &str, mode: u32, counts: &[[u32; 3]]) {
     row(&format!("diploid, {name}"), "counts to 60", &timings);
 }
 
+/// Clusters, trios and repeats: fewer of them as a search grows.
+const TRIOS: [(u32, usize, usize); 8] =
+    [(1, INPUTS, 31), (2, INPUTS, 15), (3, 4096, 15), (4, 1024, 11), (5, 256, 11), (6, 64, 11), (7, 32, 9), (8, 16, 9)];
+
 /// The whole call of n clusters, on so many inputs, so many times.
 fn trio_row(n: u32, inputs: usize, repeats: usize) {
     let random = &mut Random::new(70 + u64::from(n));
     let trios: Vec<Trio> = (0..inputs).map(|_| usual_trio(random, n)).collect();
     let trios: Vec<&Trio> = trios.iter().collect();
     let timings = [timing(&trios, |trio| port::trio(trio).pairs), timing(&trios, OURS.call), timing(&trios, STD.call)];
-    row_of(&format!("trio, {n} clusters"), &format!("{inputs} trios"), &quickest(repeats, &timings));
+    let genotypes = n * (n + 1) / 2;
+    row_of(&format!("trio, {n} clusters"), &format!("{} triples; {inputs} trios", genotypes.pow(3)), &quickest(repeats, &timings));
 }
 
 /// Fewer, since a call takes longer and its branches are many.
@@ -170,7 +175,7 @@ pub fn run() {
     for (mode, name) in [(0, "Beta"), (1, "Bino"), (2, "Phased")] {
         diploid_row(name, mode, &counts);
     }
-    for (n, inputs, repeats) in [(2, INPUTS, 31), (4, 1024, 15), (8, 16, 9)] {
+    for (n, inputs, repeats) in TRIOS {
         trio_row(n, inputs, repeats);
     }
     for alleles in [1, 2, 4, 8] {

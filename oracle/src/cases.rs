@@ -20,6 +20,10 @@ impl Cases {
         self.answers.push(answer.into());
     }
 
+    pub fn add_case(&mut self, (question, answer): (String, String)) {
+        self.add(question, answer);
+    }
+
     pub fn unreadable(&mut self, question: impl Into<String>) {
         self.add(question, "?");
     }
@@ -60,21 +64,31 @@ fn exact_ties() -> Vec<f64> {
     inputs::ties().into_iter().filter(|&x| half(x)).step_by(12).collect()
 }
 
+/// A trial's question and answer.
+pub fn binomial_case((k, n, p): inputs::Trial) -> (String, String) {
+    (format!("binomial {k} {n} {}", word(p)), word(kernels::ln_pmf(k, n, p)))
+}
+
 fn binomial(cases: &mut Cases) {
     let probabilities = [0.0, 1e-6, 0.03, 0.999999, 1.0];
     let mut trials: Vec<_> = inputs::special_trials(&probabilities).into_iter().step_by(3).collect();
     trials.extend(inputs::with_neighbours(&inputs::PROBABILITIES).into_iter().map(|p| (3, 10, p)));
     trials.extend(inputs::random_trials(4, 20));
     trials.push((1, 2, f64::NAN));
-    for (k, n, p) in trials {
-        cases.add(format!("binomial {k} {n} {}", word(p)), word(kernels::ln_pmf(k, n, p)));
+    for trial in trials {
+        cases.add_case(binomial_case(trial));
     }
+}
+
+/// A float's question and answer.
+pub fn key_case(x: f64) -> (String, String) {
+    let answer = if x.is_nan() { "nan".to_string() } else { kernels::key(x).to_string() };
+    (format!("key {}", word(x)), answer)
 }
 
 fn key(cases: &mut Cases, xs: &[f64]) {
     for &x in xs {
-        let answer = if x.is_nan() { "nan".to_string() } else { kernels::key(x).to_string() };
-        cases.add(format!("key {}", word(x)), answer);
+        cases.add_case(key_case(x));
     }
 }
 

@@ -1,82 +1,73 @@
-//! Runs the port and the plain Rust on the same inputs and compares every bit; any NaN equals any NaN.
+//! Runs the port and the plain Rust on the same inputs and compares every bit; any NaN equals any NaN. A line for each kind of docs/VECTORS.md, and
+//! one for the histories of parts. Calls go through the C functions, and some of each kind through the program `vectors` as text too.
+use crate::asked::Exchange;
+use crate::cases::{self, word};
 use crate::diploid::{self, Input};
 use crate::inputs::{self, Random, Trial};
-use crate::{diploid_inputs, kanpig, kanpig_mosaic, kernels, mosaic, mosaic_inputs, port, trio_compare};
-use std::fmt::Debug;
+use crate::tally::Tally;
+use crate::{diploid_cases, diploid_inputs, histories, kanpig, kanpig_mosaic, kernels, mosaic, mosaic_inputs, port, trio_compare};
 
-/// How many differences are shown.
-const SHOWN: usize = 5;
+/// Of the inputs of a kind, so many are asked as text.
+const AS_TEXT: usize = 50_000;
 
 fn same(a: f64, b: f64) -> bool {
     a.to_bits() == b.to_bits() || (a.is_nan() && b.is_nan())
 }
 
-/// Prints one line, and the first differences; answers whether there is none.
-pub fn report<I: Debug, O: Debug>(name: &str, inputs: usize, differences: &[(I, O, O)]) -> bool {
-    println!("{name}: {inputs} inputs, {} differences", differences.len());
-    for (input, port, plain) in differences.iter().take(SHOWN) {
-        println!("    at {input:?} the port gives {port:?} and plain Rust {plain:?}");
-    }
-    differences.is_empty()
+/// The answers to an exchange, compared.
+pub fn asked(name: &str, exchange: &Exchange) -> Tally {
+    Tally::shown(&format!("{name}, as text"), exchange.questions.len(), &exchange.differences())
 }
 
-fn float_kernel(name: &str, xs: &[f64], port: extern "C" fn(f64) -> f64, plain: fn(f64) -> f64) -> bool {
+fn asked_all<T>(name: &str, inputs: &[T], case: impl Fn(&T) -> (String, String)) -> Tally {
+    let mut exchange = Exchange::default();
+    for input in inputs.iter().step_by(inputs.len().div_ceil(AS_TEXT)) {
+        let (question, answer) = case(input);
+        exchange.add(question, answer);
+    }
+    asked(name, &exchange)
+}
+
+fn float_kernel(name: &str, xs: &[f64], port: extern "C" fn(f64) -> f64, plain: fn(f64) -> f64) -> Tally {
     let answers = xs.iter().map(|&x| (x, port(x), plain(x)));
     let differences: Vec<_> = answers.filter(|&(_, a, b)| !same(a, b)).collect();
-    report(name, xs.len(), &differences)
+    let called = Tally::shown(name, xs.len(), &differences);
+    (called + asked_all(name, xs, |&x| (format!("{name} {}", word(x)), word(plain(x))))).line(name)
 }
 
-fn binomial(trials: &[Trial]) -> bool {
+fn binomial(trials: &[Trial]) -> Tally {
     let answers = trials.iter().map(|&(k, n, p)| ((k, n, p), port::ln_pmf(k, n, p), kernels::ln_pmf(k, n, p)));
     let differences: Vec<_> = answers.filter(|&(_, a, b)| !same(a, b)).collect();
-    report("binomial", trials.len(), &differences)
+    let called = Tally::shown("binomial", trials.len(), &differences);
+    (called + asked_all("binomial", trials, |&trial| cases::binomial_case(trial))).line("binomial")
 }
 
-fn key(xs: &[f64]) -> bool {
+fn key(xs: &[f64]) -> Tally {
     let answers = xs.iter().map(|&x| (x, port::key(x), kernels::key(x)));
     let differences: Vec<_> = answers.filter(|(_, a, b)| a != b).collect();
-    report("key", xs.len(), &differences)
+    let called = Tally::shown("key", xs.len(), &differences);
+    (called + asked_all("key", xs, |&x| cases::key_case(x))).line("key")
 }
 
 /// The port beside kanpig's own text, and beside the refusals.
-fn diploid(name: &str, inputs: impl Iterator<Item = Input>) -> bool {
-    let mut asked = 0;
-    let mut differences = Vec::new();
-    for input in inputs {
-        asked += 1;
-        let (port, plain) = (port::diploid(&input), diploid::expected(&input));
-        if !port.same(&plain) {
-            differences.push((input, port, plain));
-        }
-    }
-    report(name, asked, &differences)
+fn diploid(inputs: impl Iterator<Item = Input>) -> Tally {
+    let inputs: Vec<_> = inputs.collect();
+    let answers = inputs.iter().map(|input| (input, port::diploid(input), diploid::expected(input)));
+    let differences: Vec<_> = answers.filter(|(_, a, b)| !a.same(b)).collect();
+    Tally::shown("diploid", inputs.len(), &differences) + asked_all("diploid", &inputs, diploid_cases::case)
 }
 
-fn diploids() -> bool {
-    if !kanpig::FOUND {
-        println!("diploid: not compared; {}", kanpig::NOT_FOUND);
-        return true;
-    }
-    let modes = [(0, "Beta"), (1, "Bino"), (2, "Phased")];
-    let equal = modes.map(|(mode, name)| {
+fn diploids() -> Tally {
+    let by_mode = |mode: u32| {
         let random = &mut Random::new(10 + u64::from(mode));
-        let allowed = diploid(&format!("diploid, {name}"), (0..400_000).map(|_| diploid_inputs::allowed(random, mode)));
-        let disturbed = diploid(&format!("diploid, {name}, with refusals"), (0..100_000).map(|_| diploid_inputs::disturbed(random, mode)));
-        allowed && disturbed
-    });
-    equal.iter().all(|&e| e)
-}
-
-fn trios() -> bool {
-    if !kanpig::FOUND {
-        println!("trio: not compared; {}", kanpig::NOT_FOUND);
-        return true;
-    }
-    trio_compare::run()
+        let allowed = diploid((0..400_000).map(|_| diploid_inputs::allowed(random, mode)));
+        allowed + diploid((0..100_000).map(|_| diploid_inputs::disturbed(random, mode)))
+    };
+    (0..3).map(by_mode).sum::<Tally>().line("diploid")
 }
 
 /// kanpig's own short log gamma above zero, and what was decided elsewhere (M2).
-fn short_log_gamma(x: f64) -> f64 {
+pub fn short_log_gamma(x: f64) -> f64 {
     if x > 0.0 {
         kanpig_mosaic::with_ours::short_log_gamma(x)
     } else if x == 0.0 {
@@ -86,32 +77,30 @@ fn short_log_gamma(x: f64) -> f64 {
     }
 }
 
-fn mosaic(name: &str, inputs: impl Iterator<Item = mosaic::Input>) -> bool {
-    let mut asked = 0;
-    let mut differences = Vec::new();
-    for input in inputs {
-        asked += 1;
-        let (port, plain) = (port::mosaic(&input), mosaic::expected(&input));
-        if !port.same(&plain) {
-            differences.push((input, port, plain));
-        }
-    }
-    report(name, asked, &differences)
+fn mosaic(inputs: impl Iterator<Item = mosaic::Input>) -> Tally {
+    let inputs: Vec<_> = inputs.collect();
+    let answers = inputs.iter().map(|input| (input, port::mosaic(input), mosaic::expected(input)));
+    let differences: Vec<_> = answers.filter(|(_, a, b)| !a.same(b)).collect();
+    Tally::shown("mosaic", inputs.len(), &differences)
 }
 
-fn mosaics(xs: &[f64]) -> bool {
-    if !kanpig::FOUND {
-        println!("mosaic: not compared; {}", kanpig::NOT_FOUND);
-        return true;
-    }
+fn mosaics() -> Tally {
     let random = &mut Random::new(40);
-    let equal = [
-        float_kernel("stirling", xs, port::stirling, short_log_gamma),
-        mosaic("mosaic", (0..100_000).map(|_| mosaic_inputs::allowed(random, 5))),
-        mosaic("mosaic, up to 8 alleles", (0..20_000).map(|_| mosaic_inputs::allowed(random, 8))),
-        mosaic("mosaic, with refusals", (0..100_000).map(|_| mosaic_inputs::disturbed(random))),
-    ];
-    equal.iter().all(|&e| e)
+    let few = mosaic((0..100_000).map(|_| mosaic_inputs::allowed(random, 5)));
+    let many = mosaic((0..20_000).map(|_| mosaic_inputs::allowed(random, 8)));
+    (few + many + mosaic((0..100_000).map(|_| mosaic_inputs::disturbed(random)))).line("mosaic")
+}
+
+/// What needs kanpig's own text.
+fn genotypers(xs: &[f64]) -> Vec<Tally> {
+    if !kanpig::FOUND {
+        println!("diploid, trio and mosaic: not compared; {}", kanpig::NOT_FOUND);
+        return vec![];
+    }
+    let mut all = vec![float_kernel("stirling", xs, port::stirling, short_log_gamma), diploids()];
+    all.extend(trio_compare::run());
+    all.extend([histories::run(), mosaics()]);
+    all
 }
 
 /// Answers whether nothing differs anywhere.
@@ -119,7 +108,7 @@ pub fn run() -> bool {
     let xs = inputs::floats(1, 150_000);
     let mut trials = inputs::special_trials(&inputs::with_neighbours(&inputs::PROBABILITIES));
     trials.extend(inputs::random_trials(2, 120_000));
-    let equal = [
+    let mut all = vec![
         float_kernel("ln", &xs, port::ln, kernels::ln),
         float_kernel("exp", &xs, port::exp, kernels::exp),
         float_kernel("log10", &xs, port::log10, kernels::log10),
@@ -127,9 +116,10 @@ pub fn run() -> bool {
         float_kernel("lgamma", &xs, port::ln_gamma, kernels::ln_gamma),
         binomial(&trials),
         key(&xs),
-        diploids(),
-        trios(),
-        mosaics(&xs),
     ];
-    equal.iter().all(|&e| e)
+    all.extend(genotypers(&xs));
+    let kinds = all.len();
+    let whole: Tally = all.into_iter().sum();
+    println!("{kinds} kinds, {} cases, {} differences", whole.cases, whole.differences);
+    whole.differences == 0
 }

@@ -15,9 +15,14 @@ fn question(input: &Input) -> String {
     format!("diploid {} {parameters} {} {reference} {alt1} {alt2}", input.mode, table.trim_end())
 }
 
-fn add(cases: &mut Cases, input: &Input) {
+/// An input's question and answer.
+pub fn case(input: &Input) -> (String, String) {
     let answer = expected(input);
-    cases.add(question(input), format!("{} {} {} {}", answer.number, answer.state, word(answer.gq), word(answer.sq)));
+    (question(input), format!("{} {} {} {}", answer.number, answer.state, word(answer.gq), word(answer.sq)))
+}
+
+fn add(cases: &mut Cases, input: &Input) {
+    cases.add_case(case(input));
 }
 
 /// The default model in every mode, at every triple of these counts.

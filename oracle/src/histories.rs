@@ -1,16 +1,16 @@
 //! Random histories of parts, through the program `vectors` and through the plain model of desks.rs, line by line.
 use crate::asked::Exchange;
+use crate::compare::asked;
 use crate::desks::{Desks, Register, Step};
 use crate::forged::forged;
 use crate::inputs::Random;
+use crate::tally::Tally;
 use crate::trio::Input;
 use crate::trio_inputs::{allowed, disturbed, pick};
-use std::collections::BTreeMap;
 
 const HISTORIES: usize = 120_000;
 /// How many histories one run of the program has, in which registers are kept from one to the next.
 const TOGETHER: usize = 500;
-const SHOWN: usize = 5;
 
 /// The inputs of one history: few, small, and some of them alike but for a bit.
 fn inputs(random: &mut Random) -> Vec<Input> {
@@ -113,43 +113,18 @@ pub fn history(random: &mut Random, desks: &mut Desks) -> Vec<(String, String)> 
     lines
 }
 
-/// How often each kind of line had each answer, by the first words.
-#[derive(Default)]
-struct Tally(BTreeMap<(String, String), u64>);
-
-impl Tally {
-    fn count(&mut self, question: &str, answer: &str) {
-        let first = |text: &str| text.split(' ').next().unwrap_or_default().to_string();
-        let answer = if question.starts_with("show ") && answer != "?" { "a part".to_string() } else { first(answer) };
-        *self.0.entry((first(question), answer)).or_default() += 1;
-    }
-
-    fn print(&self) {
-        for ((kind, answer), times) in &self.0 {
-            println!("    {kind} answered {answer}: {times}");
-        }
-    }
-}
-
-/// Answers whether nothing differs anywhere.
-pub fn run() -> bool {
+/// The steps on registers: `open`, `part`, `copy`, `row`, `merge`, `close` and `show`.
+pub fn run() -> Tally {
     let random = &mut Random::new(50);
-    let (mut lines, mut differences, mut tally) = (0, Vec::new(), Tally::default());
+    let mut all = Tally::default();
     for _ in 0..HISTORIES / TOGETHER {
         let (mut desks, mut exchange) = (Desks::new(), Exchange::default());
         for _ in 0..TOGETHER {
             for (question, answer) in history(random, &mut desks) {
-                tally.count(&question, &answer);
                 exchange.add(question, answer);
             }
         }
-        lines += exchange.questions.len();
-        differences.extend(exchange.differences());
+        all = all + asked("steps", &exchange);
     }
-    println!("{HISTORIES} histories, {lines} lines, {} differences", differences.len());
-    for (question, port, plain) in differences.iter().take(SHOWN) {
-        println!("    at `{question}` the port gives `{port}` and the model `{plain}`");
-    }
-    tally.print();
-    differences.is_empty()
+    all.line(&format!("steps in {HISTORIES} histories of parts"))
 }

@@ -2,6 +2,7 @@
 mod asked;
 mod bench;
 mod cases;
+mod changes;
 mod compare;
 mod desks;
 mod diploid;
@@ -22,6 +23,7 @@ mod pairs;
 mod part;
 mod port;
 mod step_cases;
+mod tally;
 mod trio;
 mod trio_cases;
 mod trio_compare;
@@ -35,7 +37,7 @@ use std::process::ExitCode;
 
 fn main() -> ExitCode {
     let task = std::env::args().nth(1).unwrap_or_default();
-    if !kanpig::FOUND && ["cases", "distances", "histories", "limits", "walks"].contains(&task.as_str()) {
+    if !kanpig::FOUND && ["cases", "changes", "distances", "limits", "walks"].contains(&task.as_str()) {
         eprintln!("{}", kanpig::NOT_FOUND);
         return ExitCode::FAILURE;
     }
@@ -49,8 +51,7 @@ fn main() -> ExitCode {
             }
         }
         "bench" => bench::run(),
-        "histories" if histories::run() => {}
-        "histories" => return ExitCode::FAILURE,
+        "changes" => changes::run(),
         "distances" => {
             distances::run();
             trio_distances::run();
@@ -59,7 +60,7 @@ fn main() -> ExitCode {
         "pairs" => pairs::run(),
         "walks" => mosaic_walks::run(),
         _ => {
-            eprintln!("usage: oracle compare|histories|cases|bench|distances|limits|pairs|walks");
+            eprintln!("usage: oracle compare|cases|bench|changes|distances|limits|pairs|walks");
             return ExitCode::from(2);
         }
     }

@@ -1,22 +1,18 @@
 //! Holds the port's trio genotyper against kanpig's own text and the plain pass of trio.rs: called as C, and asked as text.
 use crate::asked::Exchange;
 use crate::cases::word;
-use crate::compare::report;
+use crate::compare::asked;
 use crate::inputs::Random;
 use crate::port;
+use crate::tally::Tally;
 use crate::trio::{expected, genotypes, Input, Pair};
 use crate::trio_inputs::{allowed, any_pair, disturbed, few, many, small};
 use crate::trio_kanpig::{matrix, OURS};
 use crate::trio_words as words;
 use std::collections::BTreeSet;
 
-/// The answers to an exchange, compared.
-fn asked(name: &str, exchange: &Exchange) -> bool {
-    report(&format!("{name}, as text"), exchange.questions.len(), &exchange.differences())
-}
-
 /// The whole call.
-fn calls(name: &str, as_text: bool, inputs: impl Iterator<Item = Input>) -> bool {
+fn calls(as_text: bool, inputs: impl Iterator<Item = Input>) -> Tally {
     let (mut count, mut differences, mut exchange) = (0, Vec::new(), Exchange::default());
     for input in inputs {
         let (port, plain) = (port::trio(&input), expected(&input));
@@ -28,7 +24,7 @@ fn calls(name: &str, as_text: bool, inputs: impl Iterator<Item = Input>) -> bool
         }
         count += 1;
     }
-    report(name, count, &differences) & (!as_text || asked(name, &exchange))
+    Tally::shown("call", count, &differences) + asked("call", &exchange)
 }
 
 /// The number of different pairs of one allele of each parent.
@@ -44,7 +40,7 @@ pub fn mendel_answer(child: Pair, father: Pair, mother: Pair) -> String {
 }
 
 /// All triples of genotypes of eight clusters.
-fn mendel() -> bool {
+fn mendel() -> Tally {
     let mut exchange = Exchange::default();
     let all = genotypes(8);
     for &father in &all {
@@ -54,7 +50,7 @@ fn mendel() -> bool {
             }
         }
     }
-    asked("trio, Mendelian term", &exchange)
+    asked("mendel", &exchange).line("mendel")
 }
 
 /// What `sample` answers for an accepted input.
@@ -62,7 +58,7 @@ pub fn sample_answer(input: &Input, column: usize, pair: Pair) -> String {
     word((OURS.sample)(&matrix(input), &input.weights, column, pair))
 }
 
-fn samples() -> bool {
+fn samples() -> Tally {
     let random = &mut Random::new(43);
     let mut exchange = Exchange::default();
     for _ in 0..200_000 {
@@ -70,17 +66,21 @@ fn samples() -> bool {
         let (input, column, pair) = (allowed(random, n), random.below(3) as usize, any_pair(random, n));
         exchange.add(words::sample(&input, column, pair), sample_answer(&input, column, pair));
     }
-    asked("trio, one animal", &exchange)
+    asked("sample", &exchange).line("sample")
 }
 
-/// Answers whether nothing differs anywhere.
-pub fn run() -> bool {
-    let every = calls("trio, every small input", true, small());
+/// Every small trio, trios of 1 to 5 clusters, some that are mostly refused, and some of 6 to 8 clusters.
+fn all_calls() -> Tally {
+    let every = calls(true, small());
     let random = &mut Random::new(40);
-    let small = calls("trio, 1 to 5 clusters", true, (0..200_000).map(|_| few(random)));
+    let small = calls(true, (0..200_000).map(|_| few(random)));
     let random = &mut Random::new(41);
-    let odd = calls("trio, with refusals", true, (0..50_000).map(|_| disturbed(random)));
+    let odd = calls(true, (0..50_000).map(|_| disturbed(random)));
     let random = &mut Random::new(42);
-    let large = calls("trio, 6 to 8 clusters", false, (0..2_000).map(|_| many(random)));
-    every & small & odd & large & mendel() & samples()
+    (every + small + odd + calls(false, (0..2_000).map(|_| many(random)))).line("call")
+}
+
+/// The kinds of docs/VECTORS.md that ask no register.
+pub fn run() -> [Tally; 3] {
+    [mendel(), samples(), all_calls()]
 }
