@@ -15,7 +15,8 @@ use Rattle.models.specs.declared.state.State.{State}
 use Rattle.models.specs.declared.state.State.the-variants.{Ref, Het, Hom, Non}
 use Rattle.diploid.specs.declared.genotype.GenotypeResult.{GenotypeResult}
 use Rattle.tables.specs.Tables.{tableAllowed}
-use Rattle.diploid.specs.Allowed.{modelAllowed, countAllowed}
+use Rattle.limits.specs.Limits.{countAllowed}
+use Rattle.diploid.specs.Allowed.{modelAllowed}
 use Rattle.qualities.specs.Order.{Pick, larger, smaller}
 use Rattle.diploid.specs.Scores.{scoresOf}
 use Rattle.qualities.specs.Quality.{qualsOf}

@@ -1,9 +1,11 @@
 // Whether a model and counts are allowed.
 ghost use mathlib.Core.Path.{_≡_};
 ghost use mathlib.Core.Bool.{_&&_};
-ghost use Rattle.diploid.specs.Allowed.{modelAllowed, countAllowed};
+ghost use Rattle.limits.specs.Limits.{countAllowed};
+ghost use Rattle.diploid.specs.Allowed.{modelAllowed};
+use limits::counts::count_allowed;
+use limits::ranges::all_in;
 use models::model::Model;
-use tables::ranges::all_in;
 
 pub(crate) fn model_allowed(model: Model) -> bool
     ensures { λ r. ⌜ r ≡ modelAllowed model ⌝ }
@@ -20,11 +22,11 @@ pub(crate) fn model_allowed(model: Model) -> bool
 pub(crate) fn counts_allowed(reference: u32, alt1: u32, alt2: u32) -> bool
     ensures { λ r. ⌜ r ≡ (countAllowed reference && (countAllowed alt1 && countAllowed alt2)) ⌝ }
 {
-    if reference > 1000000 {
+    if !count_allowed(reference) {
         return false;
     }
-    if alt1 > 1000000 {
+    if !count_allowed(alt1) {
         return false;
     }
-    alt2 <= 1000000
+    count_allowed(alt2)
 }

@@ -15,7 +15,7 @@ use Rattle.floats.proofs.Fractions.{le-fractions}
 use Rattle.models.specs.declared.model.Model.{Model}
 use Rattle.qualities.specs.declared.scores.Scores.{Scores}
 use Rattle.tables.specs.Tables.{Entry, entries, tableAllowed}
-use Rattle.tables.specs.Ranges.{inRange, allFit}
+use Rattle.limits.specs.Limits.{inRange, allFit}
 use Rattle.diploid.specs.Allowed.{modelAllowed}
 use Rattle.qualities.specs.Order.{larger, smaller}
 use Rattle.diploid.specs.Scores.{ThreeEach, EachScore, scoresOf}

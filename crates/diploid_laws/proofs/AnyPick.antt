@@ -26,7 +26,8 @@ use Rattle.models.specs.declared.model.Model.{Model}
 use Rattle.qualities.specs.declared.scores.Scores.{Scores}
 use Rattle.qualities.specs.declared.quality.Quals.{Quals}
 use Rattle.diploid.specs.declared.genotype.GenotypeResult.{GenotypeResult}
-use Rattle.diploid.specs.Allowed.{modelAllowed, countAllowed}
+use Rattle.limits.specs.Limits.{countAllowed}
+use Rattle.diploid.specs.Allowed.{modelAllowed}
 use Rattle.tables.specs.Tables.{tableAllowed}
 use Rattle.qualities.specs.Order.{Pick, IsMax, IsMin, larger, smaller, absolute}
 use Rattle.diploid.specs.Scores.{fraction, oneWay, eitherWay, phasedScores, scoresBy, scoresOf, ThreeEach, EachScore}

@@ -14,7 +14,7 @@ use Rattle.floats.specs.F64.{_⊖_, nat}
 use Rattle.floats.specs.Within.{Within, NotBelow}
 use Rattle.floats.proofs.Bounds.{within-more, within-whole, within-add, within-sub, within-mul, within-ratio}
 use Rattle.floats.proofs.Ranges.{within-range, not-below-zero}
-use Rattle.tables.specs.Ranges.{inRange, allIn, allFit}
+use Rattle.limits.specs.Limits.{inRange, allIn, allFit}
 use Rattle.tables.specs.Tables.{Entry, entries, neverFalling, tableAllowed}
 use Rattle.tables.specs.Calibration.{holds, along, from, calibratedBy, calibrated, Taken, here, later, Divides, above-first}
 use Rattle.floats.proofs.Fractions.{above-by-test, below-through, difference-mono, difference-above}

@@ -30,7 +30,7 @@ use Rattle.bounds.proofs.BinomialBounds.{within-ln-choose}
 use Rattle.models.specs.declared.model.Mode.{Mode}
 use Rattle.models.specs.declared.model.Mode.the-variants.{Beta, Bino, Phased}
 use Rattle.models.specs.declared.model.Model.{Model}
-use Rattle.tables.specs.Ranges.{inRange, allIn}
+use Rattle.limits.specs.Limits.{inRange, allIn}
 use Rattle.diploid.specs.Allowed.{modelAllowed}
 use Rattle.qualities.specs.Order.{Pick, IsMax, larger, IsMin, smaller}
 use Rattle.diploid.specs.Scores.{fraction, mean, precision, betaLnPmf, betaScore, binoScore, oneWay, eitherWay, phasedScores, scoresBy, scoresOf, ThreeEach, EachScore}

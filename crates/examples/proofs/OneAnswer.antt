@@ -16,7 +16,10 @@ use Rattle.gammas.proofs.binomial.ln_pmf.Reads as ln-pmf
 use Rattle.models.proofs.model.Mode.number.Reads as mode-number
 use Rattle.models.proofs.model.Model.default.Reads as model-default
 use Rattle.models.proofs.state.state_number.Reads as state-number
-use Rattle.tables.proofs.ranges.all_in.Reads as all-in
+use Rattle.limits.proofs.ranges.in_range.Reads as in-range
+use Rattle.limits.proofs.ranges.all_in.Reads as all-in
+use Rattle.limits.proofs.counts.count_allowed.Reads as count-allowed
+use Rattle.limits.proofs.counts.counts_allowed.Reads as counts-allowed
 use Rattle.tables.proofs.allowed.table_allowed.Reads as table-allowed
 use Rattle.tables.proofs.calibration.calibrate_gq.Reads as calibrate-gq
 use Rattle.qualities.proofs.order.max.Reads as max
@@ -121,10 +124,21 @@ model-default-once κ a v w e f = only
 pub state-number-once : OneAnswer state-number.Post
 state-number-once κ a v w e f = only
 
--- ---- tables
+-- ---- limits
+
+pub in-range-once : OneAnswer in-range.Post
+in-range-once κ a v w e f = only
 
 pub all-in-once : OneAnswer all-in.Post
 all-in-once κ a v w e f = only
+
+pub count-allowed-once : OneAnswer count-allowed.Post
+count-allowed-once κ a v w e f = only
+
+pub counts-allowed-once : OneAnswer counts-allowed.Post
+counts-allowed-once κ a v w e f = only
+
+-- ---- tables
 
 pub table-allowed-once : OneAnswer table-allowed.Post
 table-allowed-once κ a v w e f = only

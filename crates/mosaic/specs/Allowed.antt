@@ -4,7 +4,7 @@ use mathlib.Core.Bool.{Bool, true, _&&_}
 use mathlib.Core.List.{List, [], _∷_}
 use lib.Dec.{leb}
 use Rattle.floats.specs.F64.{nat, decimal}
-use Rattle.tables.specs.Ranges.{inRange}
+use Rattle.limits.specs.Limits.{inRange}
 use Rattle.mosaic.specs.declared.params.Params.{Params}
 
 -- L6: alpha and beta from 0.001 to 1000, the highest VAF from 0 to 1, any least depth

@@ -1,6 +1,6 @@
 // Whether the parameters and the counts are allowed. A NaN is in no range.
 ghost use mathlib.Core.Path.{_≡_};
-ghost use Rattle.tables.specs.Ranges.{inRange};
+ghost use Rattle.limits.specs.Limits.{inRange};
 ghost use Rattle.mosaic.specs.Allowed.{paramsAllowed, countsAllowed};
 use crate::params::Params;
 

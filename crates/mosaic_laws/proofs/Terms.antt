@@ -23,7 +23,7 @@ use Rattle.bounds.proofs.LnBounds.{within-ln}
 use Rattle.mosaic.specs.Stirling.{pi, stirlingFromOne, stirlingOf}
 use Rattle.mosaic.specs.Edition.{first, lnFactorial}
 use Rattle.mosaic.specs.Allowed.{paramsAllowed}
-use Rattle.tables.specs.Ranges.{inRange}
+use Rattle.limits.specs.Limits.{inRange}
 use Rattle.mosaic.specs.Hypotheses.{alone}
 use Rattle.qualities.specs.Order.{larger}
 use Rattle.mosaic.specs.Likelihood.{germlineShare}

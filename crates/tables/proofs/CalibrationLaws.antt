@@ -6,7 +6,7 @@ use Prim.Native.Nat.{ℕ, _+_, _≤_, _<_}
 use native.Mathlib.Omega.{arith}
 use lib.ListN.{length, drop, getD}
 use lib.Ieee.{Float, nan, le}
-use Rattle.tables.specs.Ranges.{inRange}
+use Rattle.limits.specs.Limits.{inRange}
 use Rattle.tables.specs.Tables.{entries}
 use Rattle.tables.specs.Calibration.{along, from, calibratedBy, calibrated}
 use Rattle.tables.proofs.TableLaws.{entryAt, entries-from, entries-past}

@@ -1,4 +1,4 @@
--- What is left of a list from a place on, as the loops over it have it: the numbers that are still to be in a range, and a table's entries.
+-- What is left of a table from a place on, as the loops over it have it.
 -- Assumes nothing.
 use mathlib.Core.Path.{_≡_, refl}
 use mathlib.Core.Bool.{true, _&&_}
@@ -9,23 +9,7 @@ use native.Mathlib.Omega.{arith}
 use lib.ListN.{length, drop, getD, length-drop}
 use lib.Seq.{drop-cons}
 use lib.Ieee.{Float, nan, le}
-use Rattle.tables.specs.Ranges.{inRange, allIn}
 use Rattle.tables.specs.Tables.{Entry, entries, neverFalling}
-
--- ---- numbers in a range
-
-pub all-from : (lo hi : Float) (xs : List Float) (i : ℕ) → i < length xs → allIn lo hi (drop i xs) ≡ (inRange lo hi (getD xs i nan) && allIn lo hi (drop (i + 1) xs))
-all-from lo hi xs i h = rw (add-one, drop-cons xs i nan)
-
-all-none : (lo hi : Float) (l : List Float) → length l ≤ 0 → allIn lo hi l ≡ true
-all-none lo hi [] h = refl
-all-none lo hi (x ∷ l) h = absurd (none (length l) h)
-  where
-    none : (n : ℕ) → suc n ≤ 0 → ⊥
-    none n h = omega arith
-
-pub all-past : (lo hi : Float) (xs : List Float) (i : ℕ) → length xs ≤ i → allIn lo hi (drop i xs) ≡ true
-all-past lo hi xs i h = all-none lo hi (drop i xs) (rw length-drop (omega arith))
 
 -- ---- entries
 

@@ -6,7 +6,7 @@ use lib.Dec.{leb, eqb}
 use lib.ListN.{length}
 use lib.Ieee.{Float, le}
 use Rattle.floats.specs.F64.{nat}
-use Rattle.tables.specs.Ranges.{allIn}
+use Rattle.limits.specs.Limits.{allIn}
 
 -- a table is lent as one list, first and second members in turn
 pub record Entry : Type 0 where

@@ -1,7 +1,7 @@
 // Whether a calibration table is allowed.
 ghost use mathlib.Core.Path.{_≡_};
 ghost use Rattle.tables.specs.Tables.{neverFalling, entries, tableAllowed};
-use crate::ranges::all_in;
+use limits::ranges::all_in;
 
 fn never_falling(table: &[f64]) -> bool
     ensures { λ r. ⌜ r ≡ neverFalling (entries (now (table .entry))) ⌝ }

@@ -1,7 +1,7 @@
 // Calibration of gq by a table that is lent as first and second members in turn.
 ghost use mathlib.Core.Path.{_≡_};
 ghost use Rattle.tables.specs.Calibration.{along as alongOf, calibrated};
-use crate::ranges::in_range;
+use limits::ranges::in_range;
 
 fn along(x0: f64, y0: f64, x1: f64, y1: f64, v: f64) -> f64
     ensures { λ r. ⌜ r ≡ alongOf (record { x = x0; y = y0 }) (record { x = x1; y = y1 }) v ⌝ }

@@ -7,7 +7,8 @@ use borrow.Author.Needs.{needs}
 use borrow.Author.Tests.{not-true, not-false, eq-eqb, ne-eqb}
 use lib.Dec.{T, leb→le}
 use lib.Ieee.Fits.{and-l, and-r}
-use Rattle.diploid.specs.Allowed.{modelAllowed, countAllowed}
+use Rattle.limits.specs.Limits.{countAllowed}
+use Rattle.diploid.specs.Allowed.{modelAllowed}
 use Rattle.tables.specs.Tables.{tableAllowed}
 use Rattle.diploid.specs.Genotype.{genotypeBy}
 use Rattle.diploid.proofs.genotype.genotype.Statement.{statement}

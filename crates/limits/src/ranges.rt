@@ -1,8 +1,8 @@
 // Numbers in a range, both ends included. A NaN is in no range.
 ghost use mathlib.Core.Path.{_≡_};
-ghost use Rattle.tables.specs.Ranges.{inRange, allIn};
+ghost use Rattle.limits.specs.Limits.{inRange, allIn};
 
-pub(crate) fn in_range(low: f64, high: f64, x: f64) -> bool
+pub fn in_range(low: f64, high: f64, x: f64) -> bool
     ensures { λ r. ⌜ r ≡ inRange low high x ⌝ }
 {
     low <= x && x <= high

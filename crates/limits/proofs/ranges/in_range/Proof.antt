@@ -1,6 +1,6 @@
 -- `tables::ranges::in_range` meets its contract. Assumes nothing.
-use Rattle.tables.proofs.ranges.in_range.Statement.{statement}
-use Rattle.tables.proofs.ranges.in_range.Tie as tie
+use Rattle.limits.proofs.ranges.in_range.Statement.{statement}
+use Rattle.limits.proofs.ranges.in_range.Tie as tie
 
 returns : tie.Need-returns
 returns c = rw (c .if1 .taken)

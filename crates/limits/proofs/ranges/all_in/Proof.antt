@@ -1,14 +1,14 @@
--- `tables::ranges::all_in` meets its contract. The loop's invariant: whether all numbers are in the range is whether those from `i` on are.
--- Assumes nothing.
+-- `limits::ranges::all_in` meets its contract. The loop's invariant: what is left of the slice decides.
 use mathlib.Core.Path.{_≡_, sym, _∙_}
 use Prim.Native.Nat.{_≤_, _-_}
+use lib.Ieee.{nan}
 use lib.ListN.{length, drop}
 use borrow.Author.Tests.{not-true, not-false}
 use borrow.Author.Needs.{needs}
-use Rattle.tables.specs.Ranges.{allIn}
-use Rattle.tables.proofs.TableLaws.{all-from, all-past}
-use Rattle.tables.proofs.ranges.all_in.Statement.{statement}
-use Rattle.tables.proofs.ranges.all_in.Tie as tie
+use Rattle.limits.specs.Limits.{inRange, allIn}
+use Rattle.limits.proofs.EveryLaws.{every-more, every-bad, every-end}
+use Rattle.limits.proofs.ranges.all_in.Statement.{statement}
+use Rattle.limits.proofs.ranges.all_in.Tie as tie
 
 abbrev Inv-loop : tie.InvT-loop
 Inv-loop low high xs i₀ i = (i ≤ length xs) × (allIn low high (drop i xs) ≡ allIn low high xs)
@@ -30,9 +30,10 @@ in-range-requires c κs = search needs
 
 returns : tie.Need-returns Inv-loop μ-loop
 returns c =
-    let start = c .before .before .before .before .before .before .args in
-    let now = c .before .before .before .before .loop in
-    rw (all-from (start .low) (start .high) (start .xs .now) (now .i) (search needs), ← c .before .in-range .ensures, not-true (c .before .in-range .result) (c .if1 .taken)) at (now .inv .1)
+    let a = c .before .before .before .before .before .before .args in
+    let s = c .before .before .before .before .loop in
+    let f = c .before .in-range in
+    every-bad (inRange (a .low) (a .high)) nan (a .xs .now) (s .i) (search needs) (sym (f .ensures) ∙ not-true (f .result) (c .if1 .taken)) ∙ s .inv .1
 
 add-i : tie.Need-add-i Inv-loop μ-loop
 add-i c = search needs
@@ -42,15 +43,16 @@ loop-less c = search needs
 
 loop-again : tie.Need-loop-again Inv-loop μ-loop
 loop-again c =
-    let start = c .before .before .before .before .before .before .args in
-    let now = c .before .before .before .before .loop in
-    (search needs, rw (all-from (start .low) (start .high) (start .xs .now) (now .i) (search needs), ← c .before .in-range .ensures, not-false (c .before .in-range .result) (c .if1 .left)) at (now .inv .1))
+    let a = c .before .before .before .before .before .before .args in
+    let s = c .before .before .before .before .loop in
+    let f = c .before .in-range in
+    (search needs, every-more (inRange (a .low) (a .high)) nan (a .xs .now) (s .i) (search needs) (sym (f .ensures) ∙ not-false (f .result) (c .if1 .left)) ∙ s .inv .1)
 
 returns-2 : tie.Need-returns-2 Inv-loop μ-loop
 returns-2 c =
-    let start = c .before .before .before .args in
-    let now = c .before .loop in
-    sym (all-past (start .low) (start .high) (start .xs .now) (now .i) (search needs)) ∙ now .inv .1
+    let a = c .before .before .before .args in
+    let s = c .before .loop in
+    every-end (inRange (a .low) (a .high)) nan (a .xs .now) (s .i) (search needs) ∙ s .inv .1
 
 pub all-in-spec : {M : Type 1} → statement M
 all-in-spec =

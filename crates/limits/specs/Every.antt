@@ -1,0 +1,8 @@
+-- A test on every member of a list. Definitions only.
+use mathlib.Core.Bool.{Bool, true, _&&_}
+use mathlib.Core.List.{List, [], _∷_}
+
+-- every member passes
+abbrev pub every : {A : Type 0} → (A → Bool) → List A → Bool
+every passes [] = true
+every passes (x ∷ l) = passes x && every passes l

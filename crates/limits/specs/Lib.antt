@@ -1,0 +1,3 @@
+-- The definitions that the contracts of `limits` cite.
+pub mod Every
+pub mod Limits
