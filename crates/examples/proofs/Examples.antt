@@ -18,7 +18,7 @@ use Rattle.trio.specs.Genotypes.{genotypeCount}
 use Rattle.trio.specs.Samples.{columnTotal}
 use Rattle.trio.specs.Steps.{openStep}
 use Rattle.desks.specs.Call.{callOf}
-use Rattle.mosaic.specs.declared.params.Params.{Params}
+use Rattle.models.specs.declared.params.Params.{Params}
 use Rattle.mosaic.specs.Allowed.{paramsAllowed}
 use Rattle.mosaic.specs.Genotype.{genotypeBy as mosaicBy, genotypeOf as mosaicOf}
 use Rattle.desks.proofs.ChildPairLaws.{one-pair, three-pairs, two-pairs, four-pairs}

@@ -23,6 +23,7 @@ use Rattle.limits.proofs.counts.counts_allowed.Reads as counts-allowed
 use Rattle.tables.proofs.allowed.table_allowed.Reads as table-allowed
 use Rattle.tables.proofs.calibration.calibrate_gq.Reads as calibrate-gq
 use Rattle.qualities.proofs.order.max.Reads as max
+use Rattle.qualities.proofs.order.min.Reads as min
 use Rattle.qualities.proofs.quality.genotype_quals.Reads as genotype-quals
 use Rattle.diploid.proofs.genotype.genotype.Reads as genotype
 use Rattle.search.proofs.entry.beats.Reads as beats
@@ -46,8 +47,11 @@ use Rattle.family.proofs.ground.ground_number.Reads as ground-number
 use Rattle.trio.proofs.closing.refused_closing.Reads as refused-closing
 use Rattle.trio.proofs.closing.close.Reads as close
 use Rattle.desks.proofs.call.call.Reads as call
-use Rattle.mosaic.proofs.params.Params.default.Reads as params-default
-use Rattle.mosaic.proofs.stirling.stirling.Reads as stirling
+use Rattle.stirlings.proofs.stirling.stirling.Reads as stirling
+use Rattle.stirlings.proofs.stirling.ln_factorial.Reads as ln-factorial
+use Rattle.probabilities.proofs.quality.all_probabilities.Reads as all-probabilities
+use Rattle.probabilities.proofs.quality.quality.Reads as mosaic-quality
+use Rattle.models.proofs.params.Params.default.Reads as params-default
 use Rattle.mosaic.proofs.genotype.genotype.Reads as mosaic-genotype
 use Rattle.kernel_exports.proofs.admulfas_ln.Reads as c-ln
 use Rattle.kernel_exports.proofs.admulfas_exp.Reads as c-exp
@@ -56,9 +60,9 @@ use Rattle.kernel_exports.proofs.admulfas_pow10.Reads as c-pow10
 use Rattle.kernel_exports.proofs.admulfas_ln_gamma.Reads as c-ln-gamma
 use Rattle.kernel_exports.proofs.admulfas_ln_pmf.Reads as c-ln-pmf
 use Rattle.kernel_exports.proofs.admulfas_key.Reads as c-key
+use Rattle.kernel_exports.proofs.admulfas_stirling.Reads as c-stirling
 use Rattle.exports.proofs.diploid_call.admulfas_diploid.Reads as c-diploid
 use Rattle.exports.proofs.trio_call.admulfas_trio.Reads as c-trio
-use Rattle.exports.proofs.mosaic_call.admulfas_stirling.Reads as c-stirling
 use Rattle.exports.proofs.mosaic_call.admulfas_mosaic.Reads as c-mosaic
 
 -- Whatever the lifetimes and the arguments, and whatever these refer to at the end of either call, at most one result meets the contract.
@@ -151,6 +155,9 @@ calibrate-gq-once κ a v w e f = only
 pub max-once : OneAnswer max.Post
 max-once κ a v w e f = only
 
+pub min-once : OneAnswer min.Post
+min-once κ a v w e f = only
+
 pub genotype-quals-once : OneAnswer genotype-quals.Post
 genotype-quals-once κ a v w e f = only
 
@@ -228,18 +235,27 @@ close-once κ a v w e f = only
 pub call-once : OneAnswer call.Post
 call-once κ a v w e f = only
 
--- ---- mosaic
-
-pub params-default-once : OneAnswer params-default.Post
-params-default-once κ a v w e f = only
+-- ---- stirlings, probabilities, mosaic
 
 pub stirling-once : OneAnswer stirling.Post
 stirling-once κ a v w e f = only
 
+pub ln-factorial-once : OneAnswer ln-factorial.Post
+ln-factorial-once κ a v w e f = only
+
+pub all-probabilities-once : OneAnswer all-probabilities.Post
+all-probabilities-once κ a v w e f = only
+
+pub mosaic-quality-once : OneAnswer mosaic-quality.Post
+mosaic-quality-once κ a v w e f = only
+
+pub params-default-once : OneAnswer params-default.Post
+params-default-once κ a v w e f = only
+
 pub mosaic-genotype-once : OneAnswer mosaic-genotype.Post
 mosaic-genotype-once κ a v w e f = only
 
--- ---- exports
+-- ---- kernel_exports, exports
 
 pub c-ln-once : OneAnswer c-ln.Post
 c-ln-once κ a v w e f = only
@@ -261,6 +277,9 @@ c-ln-pmf-once κ a v w e f = only
 
 pub c-key-once : OneAnswer c-key.Post
 c-key-once κ a v w e f = only
+
+pub c-stirling-once : OneAnswer c-stirling.Post
+c-stirling-once κ a v w e f = only
 
 pub c-diploid-once : OneAnswer c-diploid.Post
 c-diploid-once κ a v w e f p q = only (p .0) (q .0)
@@ -284,9 +303,6 @@ pub c-trio-ends : (κ : _) (a : _) (v w : _) (e f : _) → c-trio.Post κ a v e 
     × (e .1 .1 .1 .1 .1 .1 .1 .0 .now ≡ f .1 .1 .1 .1 .1 .1 .1 .0 .now)
     × (e .1 .1 .1 .1 .1 .1 .1 .1 .0 .now ≡ f .1 .1 .1 .1 .1 .1 .1 .1 .0 .now)
 c-trio-ends κ a v w e f p q = (only (p .1) (q .1), only (p .2) (q .2), only (p .3) (q .3), only (p .4) (q .4), only (p .5) (q .5), only (p .6) (q .6))
-
-pub c-stirling-once : OneAnswer c-stirling.Post
-c-stirling-once κ a v w e f = only
 
 pub c-mosaic-once : OneAnswer c-mosaic.Post
 c-mosaic-once κ a v w e f p q = only (p .refusal-is) (q .refusal-is)

@@ -20,7 +20,7 @@ use Rattle.trio.specs.Samples.{columnTotal}
 use Rattle.family.specs.Numbers.{sampleNumber}
 use Rattle.trio.specs.Steps.{openStep}
 use Rattle.desks.specs.Call.{callOf}
-use Rattle.mosaic.specs.declared.params.Params.{Params}
+use Rattle.models.specs.declared.params.Params.{Params}
 use Rattle.mosaic.specs.Allowed.{paramsAllowed}
 use Rattle.mosaic.specs.Genotype.{genotypeOf as mosaicOf}
 use Rattle.models.specs.declared.state.State.the-variants.{Hom}

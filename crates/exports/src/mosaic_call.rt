@@ -1,18 +1,9 @@
 // The mosaic genotype for callers in other languages: numbers and a slice in, numbers and arrays out.
 ghost use mathlib.Core.Path.{_≡_};
 ghost use Rattle.mosaic.specs.Genotype.{genotypeOf};
-ghost use Rattle.mosaic.specs.Stirling.{stirlingOf};
 ghost use Rattle.exports.specs.Mosaic.{paramsOf, IsAnswer};
+use models::params::Params;
 use mosaic::genotype;
-use mosaic::params::Params;
-
-// The short log gamma.
-#[no_mangle]
-pub extern "C" fn admulfas_stirling(x: f64) -> f64
-    ensures { λ r. ⌜ r ≡ stirlingOf x ⌝ }
-{
-    mosaic::stirling::stirling(x)
-}
 
 fn params_of(alpha: f64, beta: f64, highest: f64, depth: u32) -> Params
     ensures { λ r. ⌜ r ≡ paramsOf alpha beta highest depth ⌝ }

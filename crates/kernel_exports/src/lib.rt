@@ -1,4 +1,4 @@
-// The kernels and the score key for callers in other languages. Each answers every argument.
+// The kernels, the short log gamma and the score key for callers in other languages. Each answers every argument.
 ghost use mathlib.Core.Path.{_≡_};
 ghost use Rattle.floats.specs.Key.{keyOf};
 ghost use Rattle.gammas.specs.Binomial.{lnPmf};
@@ -6,6 +6,7 @@ ghost use Rattle.kernels.specs.Exp.{expOf};
 ghost use Rattle.gammas.specs.Gamma.{lnGammaOf};
 ghost use Rattle.kernels.specs.Ln.{lnOf};
 ghost use Rattle.kernels.specs.Log10.{log10Of, pow10Of};
+ghost use Rattle.stirlings.specs.Stirling.{stirlingOf};
 
 // The natural logarithm.
 #[no_mangle]
@@ -45,6 +46,14 @@ pub extern "C" fn admulfas_ln_gamma(x: f64) -> f64
     ensures { λ r. ⌜ r ≡ lnGammaOf x ⌝ }
 {
     gammas::gamma::ln_gamma(x)
+}
+
+// The short log gamma.
+#[no_mangle]
+pub extern "C" fn admulfas_stirling(x: f64) -> f64
+    ensures { λ r. ⌜ r ≡ stirlingOf x ⌝ }
+{
+    stirlings::stirling::stirling(x)
 }
 
 // The log probability of k successes in n trials, each of probability p.

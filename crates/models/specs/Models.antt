@@ -1,10 +1,11 @@
--- The numbers of mode and state, and the default model. Definitions only (RULES.md, F7, G6).
+-- The numbers of mode and state, and the default models. Definitions only (RULES.md, F7, G6, M9).
 use Prim.Native.Nat.{ℕ}
 use mathlib.Core.List.{[], _∷_}
 use Rattle.floats.specs.F64.{nat, decimal}
 use Rattle.models.specs.declared.model.Mode.{Mode}
 use Rattle.models.specs.declared.model.Mode.the-variants.{Beta, Bino, Phased}
 use Rattle.models.specs.declared.model.Model.{Model}
+use Rattle.models.specs.declared.params.Params.{Params}
 use Rattle.models.specs.declared.state.State.{State}
 use Rattle.models.specs.declared.state.State.the-variants.{Ref, Het, Hom, Non}
 
@@ -29,3 +30,7 @@ defaultModel = record {
   means = decimal 3 2 ∷ decimal 50 2 ∷ decimal 97 2 ∷ [];
   precisions = nat 25 ∷ nat 5 ∷ nat 10 ∷ [];
 }
+
+-- M9
+abbrev pub defaultParams : Params
+defaultParams = record { alpha = nat 1; beta = nat 15; highest = decimal 2 1; depth = 1 }

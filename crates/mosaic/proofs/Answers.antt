@@ -5,14 +5,14 @@ use Prim.Native.Nat.{ℕ, _≤_}
 use lib.ListN.{length, getD}
 use lib.Ieee.{Float}
 use Rattle.refusals.specs.declared.Refusal.the-variants.{Done}
+use Rattle.probabilities.specs.Quality.{probabilities, qualityOf}
 use Rattle.mosaic.specs.Edition.{first}
 use Rattle.mosaic.specs.Hypotheses.{pair, hypotheses}
 use Rattle.mosaic.specs.Search.{foundOf}
 use Rattle.mosaic.specs.Choice.{posteriors, winner}
-use Rattle.mosaic.specs.Quality.{probabilities, wrongOf, qualityOf}
 use Rattle.mosaic.specs.Genotype.{ploidyOf, germlineOf, flagsOf, calledOf}
 use Rattle.mosaic.specs.Inner.{siteOf, foundBy, scannedBy, listedBy}
-use Rattle.mosaic.specs.declared.params.Params.{Params}
+use Rattle.models.specs.declared.params.Params.{Params}
 use Rattle.mosaic.specs.declared.hypotheses.Pair.{Pair}
 use Rattle.mosaic.specs.declared.search.Found.{Found}
 use Rattle.mosaic.specs.declared.genotype.Alleles.{Alleles}
@@ -34,7 +34,7 @@ answerOf counts n posts g found list =
       seen = list .count;
       observed = list .alleles;
       posterior = found .posterior;
-      quality = qualityOf (wrongOf probs best n);
+      quality = qualityOf probs n best;
       hypotheses = n;
       probabilities = probs;
     }

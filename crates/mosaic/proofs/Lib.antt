@@ -1,5 +1,4 @@
 -- What belongs to no one function of `mosaic`: what the proofs share.
-pub mod HalfLnTwoPi
 pub mod CountLaws
 pub mod PairTable
 pub mod WinnerLaws

@@ -11,13 +11,14 @@ use lib.Ieee.{Float, nan, lt}
 use Rattle.floats.specs.F64.{_⊕_, _⊖_, _⊗_, nat, decimal}
 use Rattle.floats.specs.Key.{keyOf}
 use Rattle.kernels.specs.Ln.{lnOf}
-use Rattle.mosaic.specs.Edition.{first, lnFactorial}
+use Rattle.stirlings.specs.Stirling.{stirlingOf, lnFactorial}
+use Rattle.mosaic.specs.Edition.{first}
 use Rattle.mosaic.specs.Hypotheses.{countAt, seenIn, germlineIn, somaticIn, anySomatic, totalOf}
 use Rattle.mosaic.specs.Likelihood.{vafAt, massOf, germlineShare, shareOf, likelihoodOf}
 use Rattle.mosaic.specs.Prior.{densityOf, gainOf, priorOf}
 use Rattle.mosaic.specs.Search.{Best, startVafs, valueOf, tried, triedStep, stepOf, observedShare, searchedAllele, searchedAll, foundOf}
 use Rattle.mosaic.specs.Inner.{factorialsOf, startsOf, siteOf, termAt, likelihoodBy, priorBy, ofGermline, likelihoodHere, priorHere, started, changed, attempted, stepTried, alleleSearched, offered, searched, foundBy}
-use Rattle.mosaic.specs.declared.params.Params.{Params}
+use Rattle.models.specs.declared.params.Params.{Params}
 use Rattle.mosaic.specs.declared.hypotheses.Pair.{Pair}
 use Rattle.mosaic.specs.declared.site.Site.{Site}
 use Rattle.mosaic.specs.declared.search.Kept.{Kept}
@@ -47,19 +48,19 @@ module _ (p : Params) (counts : List ℕ) (few : length counts ≤ 8) (g : Pair)
     pub term-is : (i : ℕ) → i < length counts → somaticIn counts g i ≡ true → getD (k .terms) i nan ≡ nat (countAt counts i) ⊗ lnOf (vafAt (k .vafs) i)
     pub gain-is : (i : ℕ) → i < length counts → somaticIn counts g i ≡ true → getD (k .gains) i nan ≡ gainOf (densityOf first p) (vafAt (k .vafs) i)
 
-  factorial-at : (i : ℕ) → i < length counts → getD (factorialsOf counts) i nan ≡ lnFactorial first (countAt counts i)
+  factorial-at : (i : ℕ) → i < length counts → getD (factorialsOf counts) i nan ≡ lnFactorial stirlingOf (countAt counts i)
   unfolding factorialsOf
-  factorial-at i l = placed-at (replicate 8 (nat 0)) (λ i. lnFactorial first (countAt counts i)) nan (length counts) (rw length-replicate few) i l
+  factorial-at i l = placed-at (replicate 8 (nat 0)) (λ i. lnFactorial stirlingOf (countAt counts i)) nan (length counts) (rw length-replicate few) i l
 
   likelihood-same : (k : Kept) → Caches k → likelihoodHere counts g site (k .vafs) (k .terms) ≡ likelihoodOf first counts g (k .vafs)
   unfolding siteOf likelihoodBy likelihoodOf termAt
   likelihood-same k h =
       over-same
       (λ i s. cond (seenIn counts i) (s ⊖ getD (factorialsOf counts) i nan ⊕ termAt counts g (k .terms) (lnOf (germlineShare g (massOf counts g (k .vafs)))) i) (s ⊖ getD (factorialsOf counts) i nan))
-      (λ i s. cond (seenIn counts i) (s ⊖ lnFactorial first (countAt counts i) ⊕ nat (countAt counts i) ⊗ lnOf (shareOf counts g (k .vafs) i)) (s ⊖ lnFactorial first (countAt counts i)))
-      (lnFactorial first (totalOf counts))
+      (λ i s. cond (seenIn counts i) (s ⊖ lnFactorial stirlingOf (countAt counts i) ⊕ nat (countAt counts i) ⊗ lnOf (shareOf counts g (k .vafs) i)) (s ⊖ lnFactorial stirlingOf (countAt counts i)))
+      (lnFactorial stirlingOf (totalOf counts))
       (length counts)
-      (λ i l s. rw (factorial-at i l) (likelihood-step (seenIn counts i) (germlineIn g i) s (lnFactorial first (countAt counts i)) (nat (countAt counts i)) (germlineShare g (massOf counts g (k .vafs))) (getD (k .terms) i nan) (vafAt (k .vafs) i) (h .term-is i l)))
+      (λ i l s. rw (factorial-at i l) (likelihood-step (seenIn counts i) (germlineIn g i) s (lnFactorial stirlingOf (countAt counts i)) (nat (countAt counts i)) (germlineShare g (massOf counts g (k .vafs))) (getD (k .terms) i nan) (vafAt (k .vafs) i) (h .term-is i l)))
 
   prior-same : (k : Kept) → Caches k → priorHere counts g site (k .gains) ≡ priorOf first p counts g (k .vafs)
   unfolding siteOf priorBy priorOf

@@ -7,11 +7,11 @@ use lib.Signed.{leZ}
 use lib.Ieee.{Float, nan}
 use Rattle.floats.specs.F64.{nat}
 use Rattle.floats.specs.Key.{keyOf}
-use Rattle.mosaic.specs.Over.{padded}
+use Rattle.mosaic.specs.Lists.{padded}
 use Rattle.mosaic.specs.Edition.{Edition}
 use Rattle.mosaic.specs.Hypotheses.{hypotheses}
 use Rattle.mosaic.specs.Search.{foundOf}
-use Rattle.mosaic.specs.declared.params.Params.{Params}
+use Rattle.models.specs.declared.params.Params.{Params}
 
 -- the posterior of every hypothesis, in 36 places
 unfoldable pub posteriors : Edition → Params → List ℕ → List Float

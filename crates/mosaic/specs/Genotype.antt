@@ -7,14 +7,16 @@ use lib.ListN.{length, getD, replicate}
 use Rattle.floats.specs.F64.{nat}
 use Rattle.refusals.specs.declared.Refusal.{Refusal}
 use Rattle.refusals.specs.declared.Refusal.the-variants.{Done, TooMany, Count, Model, NoCall}
-use Rattle.mosaic.specs.Over.{placed, padded}
+use Rattle.probabilities.specs.Over.{placed}
+use Rattle.probabilities.specs.Quality.{probabilities, qualityOf}
+use Rattle.mosaic.specs.Lists.{padded}
 use Rattle.mosaic.specs.Edition.{Edition, first}
-use Rattle.mosaic.specs.Allowed.{paramsAllowed, countsAllowed}
+use Rattle.limits.specs.Limits.{countsAllowed}
+use Rattle.mosaic.specs.Allowed.{paramsAllowed}
 use Rattle.mosaic.specs.Hypotheses.{totalOf, seenAlleles, somaticIn, pair, alone, hypotheses}
 use Rattle.mosaic.specs.Search.{foundOf}
 use Rattle.mosaic.specs.Choice.{posteriors, winner}
-use Rattle.mosaic.specs.Quality.{probabilities, wrongOf, qualityOf}
-use Rattle.mosaic.specs.declared.params.Params.{Params}
+use Rattle.models.specs.declared.params.Params.{Params}
 use Rattle.mosaic.specs.declared.hypotheses.Pair.{Pair}
 use Rattle.mosaic.specs.declared.genotype.MosaicResult.{MosaicResult}
 
@@ -66,7 +68,7 @@ calledOf e p counts =
       seen = length (seenAlleles counts);
       observed = padded 8 0 (seenAlleles counts);
       posterior = found .posterior;
-      quality = qualityOf (wrongOf probs best n);
+      quality = qualityOf probs n best;
       hypotheses = n;
       probabilities = probs;
     }

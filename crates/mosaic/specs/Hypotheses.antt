@@ -4,7 +4,8 @@ use mathlib.Core.Bool.{Bool, false, not, _&&_, _||_}
 use mathlib.Core.List.{List, [], _∷_, _++_, map}
 use lib.Dec.{ltb, eqb}
 use lib.ListN.{length, getD}
-use Rattle.mosaic.specs.Over.{over, numbers, passing}
+use Rattle.probabilities.specs.Over.{over}
+use Rattle.mosaic.specs.Lists.{numbers, passing}
 use Rattle.mosaic.specs.declared.hypotheses.Pair.{Pair}
 
 -- the count of an allele; an allele beyond the counts has none

@@ -9,13 +9,14 @@ use lib.Ieee.{Float, nan, inf, lt}
 use Rattle.floats.specs.F64.{_⊕_, _⊖_, _⊗_, _⊘_, nat, decimal}
 use Rattle.floats.specs.Key.{keyOf}
 use Rattle.kernels.specs.Ln.{lnOf}
-use Rattle.mosaic.specs.Over.{over, placed}
-use Rattle.mosaic.specs.Edition.{first, lnFactorial}
+use Rattle.stirlings.specs.Stirling.{stirlingOf, lnFactorial}
+use Rattle.probabilities.specs.Over.{over, placed}
+use Rattle.mosaic.specs.Edition.{first}
 use Rattle.mosaic.specs.Hypotheses.{countAt, seenIn, germlineIn, somaticIn, anySomatic, alone, totalOf, pair, allPairs}
 use Rattle.mosaic.specs.Likelihood.{massOf, germlineShare}
 use Rattle.mosaic.specs.Prior.{densityOf, gainOf, forOne, forTwo}
 use Rattle.mosaic.specs.Search.{startVafs}
-use Rattle.mosaic.specs.declared.params.Params.{Params}
+use Rattle.models.specs.declared.params.Params.{Params}
 use Rattle.mosaic.specs.declared.hypotheses.Pair.{Pair}
 use Rattle.mosaic.specs.declared.site.Site.{Site}
 use Rattle.mosaic.specs.declared.search.Kept.{Kept}
@@ -25,7 +26,7 @@ use Rattle.mosaic.specs.declared.genotype.Alleles.{Alleles}
 
 -- what is worked out once
 abbrev pub factorialsOver : List ℕ → ℕ → List Float
-factorialsOver counts = placed (replicate 8 (nat 0)) (λ i. lnFactorial first (countAt counts i))
+factorialsOver counts = placed (replicate 8 (nat 0)) (λ i. lnFactorial stirlingOf (countAt counts i))
 
 unfoldable pub factorialsOf : List ℕ → List Float
 factorialsOf counts = factorialsOver counts (length counts)
@@ -39,7 +40,7 @@ startsOf counts = startsOver counts (length counts)
 unfoldable pub siteOf : Params → List ℕ → Site
 siteOf p counts = record {
   total = nat (totalOf counts);
-  whole = lnFactorial first (totalOf counts);
+  whole = lnFactorial stirlingOf (totalOf counts);
   factorials = factorialsOf counts;
   starts = startsOf counts;
   density = densityOf first p;

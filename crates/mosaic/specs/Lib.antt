@@ -1,6 +1,5 @@
 -- The definitions that the contracts of `mosaic` cite. `Inner` is for private functions alone.
-pub mod Over
-pub mod Stirling
+pub mod Lists
 pub mod Edition
 pub mod Allowed
 pub mod Hypotheses
@@ -8,6 +7,5 @@ pub mod Likelihood
 pub mod Prior
 pub mod Search
 pub mod Choice
-pub mod Quality
 pub mod Genotype
 pub mod Inner

@@ -6,9 +6,10 @@ use lib.ListN.{length, getD}
 use lib.Ieee.{Float, nan}
 use Rattle.floats.specs.F64.{_⊕_, _⊖_, _⊗_, _⊘_, nat, decimal}
 use Rattle.kernels.specs.Ln.{lnOf}
-use Rattle.mosaic.specs.Over.{over}
+use Rattle.stirlings.specs.Stirling.{lnFactorial}
 use Rattle.qualities.specs.Order.{larger}
-use Rattle.mosaic.specs.Edition.{Edition, lnFactorial}
+use Rattle.probabilities.specs.Over.{over}
+use Rattle.mosaic.specs.Edition.{Edition}
 use Rattle.mosaic.specs.Hypotheses.{countAt, seenIn, germlineIn, somaticIn, alone, totalOf}
 use Rattle.mosaic.specs.declared.hypotheses.Pair.{Pair}
 
@@ -37,9 +38,9 @@ abbrev pub likelihoodOver : Edition → List ℕ → Pair → List Float → ℕ
 likelihoodOver e counts g vafs =
     over
     (λ i s.
-    let less = s ⊖ lnFactorial e (countAt counts i) in
+    let less = s ⊖ lnFactorial (e .lnGamma) (countAt counts i) in
     cond (seenIn counts i) (less ⊕ nat (countAt counts i) ⊗ lnOf (shareOf counts g vafs i)) less)
-    (lnFactorial e (totalOf counts))
+    (lnFactorial (e .lnGamma) (totalOf counts))
 
 unfoldable pub likelihoodOf : Edition → List ℕ → Pair → List Float → Float
 likelihoodOf e counts g vafs = likelihoodOver e counts g vafs (length counts)

@@ -6,11 +6,11 @@ use lib.ListN.{length}
 use lib.Ieee.{Float, inf, neg, lt, le}
 use Rattle.floats.specs.F64.{_⊕_, _⊖_, _⊗_, nat}
 use Rattle.kernels.specs.Ln.{lnOf}
-use Rattle.mosaic.specs.Over.{over}
+use Rattle.probabilities.specs.Over.{over}
 use Rattle.mosaic.specs.Edition.{Edition}
 use Rattle.mosaic.specs.Hypotheses.{somaticIn, alone}
 use Rattle.mosaic.specs.Likelihood.{vafAt}
-use Rattle.mosaic.specs.declared.params.Params.{Params}
+use Rattle.models.specs.declared.params.Params.{Params}
 use Rattle.mosaic.specs.declared.hypotheses.Pair.{Pair}
 use Rattle.mosaic.specs.declared.prior.Density.{Density}
 

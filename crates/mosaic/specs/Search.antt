@@ -7,12 +7,12 @@ use lib.Signed.{ltZ}
 use lib.Ieee.{Float, inf, lt}
 use Rattle.floats.specs.F64.{_⊕_, _⊗_, _⊘_, nat, decimal}
 use Rattle.floats.specs.Key.{keyOf}
-use Rattle.mosaic.specs.Over.{over, placed}
+use Rattle.probabilities.specs.Over.{over, placed}
 use Rattle.mosaic.specs.Edition.{Edition}
 use Rattle.mosaic.specs.Hypotheses.{countAt, somaticIn, anySomatic, totalOf}
 use Rattle.mosaic.specs.Likelihood.{likelihoodOf}
 use Rattle.mosaic.specs.Prior.{priorOf}
-use Rattle.mosaic.specs.declared.params.Params.{Params}
+use Rattle.models.specs.declared.params.Params.{Params}
 use Rattle.mosaic.specs.declared.hypotheses.Pair.{Pair}
 use Rattle.mosaic.specs.declared.search.Found.{Found}
 

@@ -3,7 +3,7 @@ ghost use mathlib.Core.Path.{_≡_};
 ghost use mathlib.Core.Bool.{true};
 ghost use Prim.Native.Nat.{_≤_};
 ghost use lib.ListN.{length};
-ghost use Rattle.mosaic.specs.Allowed.{countsAllowed};
+ghost use Rattle.limits.specs.Limits.{countsAllowed};
 ghost use Rattle.mosaic.specs.Hypotheses.{totalOf, seenIn, germlineIn, somaticIn, anySomatic};
 use crate::hypotheses::Pair;
 

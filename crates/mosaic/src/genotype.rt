@@ -6,19 +6,19 @@ ghost use Rattle.mosaic.specs.Hypotheses.{totalOf};
 ghost use Rattle.mosaic.specs.Edition.{first};
 ghost use Rattle.mosaic.specs.Genotype.{blank, ploidyOf, germlineOf, flagsOf, calledOf, genotypeOf};
 ghost use Rattle.mosaic.specs.Inner.{listStep, listedBy};
-use crate::allowed::counts_allowed;
 use crate::allowed::params_allowed;
 use crate::counts::seen;
 use crate::counts::somatic;
 use crate::counts::total;
 use crate::hypotheses::Pair;
-use crate::params::Params;
-use crate::quality::all_probabilities;
-use crate::quality::quality;
 use crate::scan::best_place;
 use crate::scan::scan_all;
 use crate::search::find;
 use crate::site::site_of;
+use limits::counts::counts_allowed;
+use models::params::Params;
+use probabilities::quality::all_probabilities;
+use probabilities::quality::quality;
 use refusals::Refusal;
 
 // The alleles that are seen, in rising order, zeros after them.

@@ -9,7 +9,7 @@ use crate::counts::seen;
 use crate::counts::somatic;
 use crate::hypotheses::Pair;
 use crate::order::gained;
-use crate::order::max;
+use qualities::order::max;
 
 // The somatic VAFs, summed.
 pub(crate) fn mass(counts: &[u32], g: Pair, vafs: [f64; 8]) -> f64

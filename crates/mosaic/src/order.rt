@@ -1,23 +1,10 @@
-// Choices between two numbers: the larger, the smaller, by a flag, by key.
+// Choices between two numbers: by a flag, by key.
 ghost use mathlib.Core.Path.{_≡_};
 ghost use mathlib.Core.Bool.{cond};
 ghost use lib.Signed.{leZ, ltZ};
 ghost use Rattle.floats.specs.F64.{_⊕_};
 ghost use Rattle.floats.specs.Key.{keyOf};
-ghost use Rattle.qualities.specs.Order.{larger, smaller};
 use floats::key::key;
-
-pub(crate) fn max(a: f64, b: f64) -> f64
-    ensures { λ r. ⌜ r ≡ larger a b ⌝ }
-{
-    if a < b { b } else { a }
-}
-
-pub(crate) fn min(a: f64, b: f64) -> f64
-    ensures { λ r. ⌜ r ≡ smaller a b ⌝ }
-{
-    if b < a { b } else { a }
-}
 
 pub(crate) fn pick(yes: bool, a: f64, b: f64) -> f64
     ensures { λ r. ⌜ r ≡ cond yes a b ⌝ }

@@ -8,9 +8,9 @@ ghost use Rattle.mosaic.specs.Inner.{priorBy};
 use crate::counts::somatic;
 use crate::hypotheses::Pair;
 use crate::order::gained;
-use crate::params::Params;
-use crate::stirling::stirling;
 use kernels::ln::ln;
+use models::params::Params;
+use stirlings::stirling::stirling;
 
 // The numbers of a log beta density: alpha − 1, beta − 1, and the log gammas of alpha, beta and their sum.
 pub struct Density {

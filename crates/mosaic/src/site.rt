@@ -4,13 +4,13 @@ ghost use Prim.Native.Nat.{_≤_};
 ghost use lib.ListN.{length};
 ghost use Rattle.mosaic.specs.Hypotheses.{totalOf};
 ghost use Rattle.mosaic.specs.Inner.{factorialsOf, startsOf, siteOf};
-use crate::params::Params;
 use crate::prior::Density;
 use crate::prior::density_of;
 use crate::prior::for_one;
 use crate::prior::for_two;
-use crate::stirling::ln_factorial;
 use kernels::ln::ln;
+use models::params::Params;
+use stirlings::stirling::ln_factorial;
 
 // The total, its log factorial, each count's log factorial, each count's term at the start, the density's numbers, the highest VAF, and what one
 // and what two germline alleles add to the prior.

@@ -10,15 +10,16 @@ use lib.ListN.{length, getD, replicate, length-append, length-map, List·getD-ap
 use lib.Ieee.{Float, nan}
 use Rattle.floats.specs.F64.{nat}
 use Rattle.floats.specs.Within.{Within}
-use Rattle.mosaic.specs.Over.{numbers, passing}
+use Rattle.probabilities.specs.Quality.{wholeOf, probabilityOf, probabilities}
+use Rattle.probabilities.proofs.InUse.{in-use-all}
+use Rattle.mosaic.specs.Lists.{numbers, passing}
 use Rattle.mosaic.specs.Edition.{first}
 use Rattle.mosaic.specs.Hypotheses.{countAt, seenIn, seenAlleles, totalOver, totalOf, pair, singles, pairs, hypotheses, allPairs}
 use Rattle.mosaic.specs.Search.{foundOf}
 use Rattle.mosaic.specs.Choice.{posteriors, winner}
-use Rattle.mosaic.specs.Quality.{wholeOf, probabilityOf, probabilities}
 use Rattle.mosaic.specs.Genotype.{calledOf}
 use Rattle.mosaic.specs.Inner.{bothSeen}
-use Rattle.mosaic.specs.declared.params.Params.{Params}
+use Rattle.models.specs.declared.params.Params.{Params}
 use Rattle.mosaic.specs.declared.hypotheses.Pair.{Pair}
 use Rattle.mosaic.specs.declared.genotype.MosaicResult.{MosaicResult}
 use Rattle.mosaic.proofs.OverLaws.{placed-at}
@@ -131,7 +132,7 @@ module _ (p : Params) (counts : List ℕ) (ok : Accepted p counts) where
 
   chance-at : (i : ℕ) → i < n → getD (probabilities posts n) i nan ≡ probabilityOf (wholeOf posts n) (getD posts i nan)
   unfolding probabilities
-  chance-at i h = placed-at (replicate 36 (nat 0)) (λ i. probabilityOf (wholeOf posts n) (getD posts i nan)) nan n (at-most-36 counts) i h
+  chance-at i h = rw (in-use-all n (at-most-36 counts)) (placed-at (replicate 36 (nat 0)) (λ i. probabilityOf (wholeOf posts n) (getD posts i nan)) nan n (at-most-36 counts) i h)
 
   pub finite-answer : 0 < totalOf counts → FiniteAnswer (calledOf first p counts)
   unfolding calledOf
@@ -144,7 +145,7 @@ module _ (p : Params) (counts : List ℕ) (ok : Accepted p counts) where
       (λ i h. subst (Chance 2) (sym (chance-at i h)) (chance posts n some few posteriors-within i h)) in
       record {
         posterior-is = each-within best (low n best some (winner-low posts n (pred n) (omega arith)));
-        quality-is = quality-within probs n few chances best;
+        quality-is = rw (in-use-all n few) (quality-within probs n few chances best);
         chances-are = chances;
       }
     where

@@ -23,7 +23,7 @@ use Rattle.bounds.proofs.Log10Bounds.{within-log10}
 use Rattle.diploid_laws.proofs.Signs.{NotAbove, lt-itself, lt-not-back, not-below-trans, difference-not-above, not-below-add}
 use Rattle.diploid_laws.proofs.QualityBounds.{one, pow10-within, pow10-zero}
 use Rattle.qualities.specs.Order.{larger, smaller}
-use Rattle.mosaic.specs.Quality.{inTens, topOf, sumOf, wholeOf, probabilityOf, wrongOf, qualityOf}
+use Rattle.probabilities.specs.Quality.{inTens, topOf, sumOf, wholeOf, probabilityOf, wrongOf, qualityBy}
 use Rattle.mosaic_laws.proofs.Terms.{either}
 use Rattle.mosaic_laws.proofs.Sums.{grows}
 
@@ -219,8 +219,8 @@ module _ (ps : List Float) (n : ℕ) (few : n ≤ 36) (chances : (i : ℕ) → i
   wrong-fits zero = ofInt-fits binary64 (pos 0)
   wrong-fits (suc k) = either (λ v. T (fits binary64 v)) (not (eqb k best)) (wrongOf ps best k ⊕ getD ps k nan) (wrongOf ps best k) (λ e. add-fits binary64 (wrongOf ps best k) (getD ps k nan)) (λ e. wrong-fits k)
 
-  pub quality-within : Within (2 ^ 16) (qualityOf (wrongOf ps best n))
-  unfolding qualityOf
+  pub quality-within : Within (2 ^ 16) (qualityBy (wrongOf ps best n))
+  unfolding qualityBy
   quality-within =
       let w = wrongOf ps best n in
       let c = wrong-chance n (omega arith) in

@@ -23,14 +23,15 @@ use Rattle.floats.proofs.KeyOrder.{key-order}
 use Rattle.floats.proofs.Whole.{below-is-most}
 use Rattle.floats.proofs.Fractions.{above-by-test}
 use Rattle.kernels.specs.Ln.{lnOf}
-use Rattle.mosaic.specs.Over.{over}
-use Rattle.mosaic.specs.Edition.{first, lnFactorial}
+use Rattle.stirlings.specs.Stirling.{stirlingOf, lnFactorial}
+use Rattle.probabilities.specs.Over.{over}
+use Rattle.mosaic.specs.Edition.{first}
 use Rattle.mosaic.specs.Hypotheses.{countAt, seenIn, germlineIn, somaticIn, anyOver, anySomatic, alone, totalOf}
 use Rattle.mosaic.specs.Likelihood.{vafAt, massOf, germlineShare, shareOf, likelihoodOf}
 use Rattle.mosaic.specs.Prior.{densityOf, gainOf, forOne, forTwo, priorOf}
 use Rattle.mosaic.specs.Search.{Best, startVafs, valueOf, tried, triedStep, stepOf, observedShare, searchedAllele, searchedAll, foundOf}
 use Rattle.mosaic.specs.Inner.{bothSeen}
-use Rattle.mosaic.specs.declared.params.Params.{Params}
+use Rattle.models.specs.declared.params.Params.{Params}
 use Rattle.mosaic.specs.declared.hypotheses.Pair.{Pair}
 use Rattle.mosaic.proofs.CountLaws.{count-bound, total-bound}
 use Rattle.mosaic.proofs.OverLaws.{length-placed, at-set, placed-at}
@@ -100,12 +101,12 @@ module _ (p : Params) (counts : List ℕ) (ok : Accepted p counts) (g : Pair) (b
   likelihood-within l h =
       within-more
       (grows Within (2 ^ 38) (2 ^ 39)
-      (λ i s. cond (seenIn counts i) (s ⊖ lnFactorial first (countAt counts i) ⊕ nat (countAt counts i) ⊗ lnOf (shareOf counts g l i)) (s ⊖ lnFactorial first (countAt counts i)))
-      (lnFactorial first (totalOf counts)) n
+      (λ i s. cond (seenIn counts i) (s ⊖ lnFactorial stirlingOf (countAt counts i) ⊕ nat (countAt counts i) ⊗ lnOf (shareOf counts g l i)) (s ⊖ lnFactorial stirlingOf (countAt counts i)))
+      (lnFactorial stirlingOf (totalOf counts)) n
       (λ i m x w.
       let b = count-bound counts (ok .counts-are) i in
       let less = within-sub w (within-factorial (countAt counts i) (omega arith)) (omega (arith, steps i (2 ^ 39) m)) in
-      either (Within (2 ^ 38 + i * 2 ^ 39 + 2 ^ 39)) (seenIn counts i) (x ⊖ lnFactorial first (countAt counts i) ⊕ nat (countAt counts i) ⊗ lnOf (shareOf counts g l i)) (x ⊖ lnFactorial first (countAt counts i))
+      either (Within (2 ^ 38 + i * 2 ^ 39 + 2 ^ 39)) (seenIn counts i) (x ⊖ lnFactorial stirlingOf (countAt counts i) ⊕ nat (countAt counts i) ⊗ lnOf (shareOf counts g l i)) (x ⊖ lnFactorial stirlingOf (countAt counts i))
       (λ e. within-more (within-add less (term-within l h i m e) (omega (arith, steps i (2 ^ 39) m))) (omega arith))
       (λ e. within-more less (omega arith)))
       (within-factorial (totalOf counts) total-small))

@@ -20,15 +20,15 @@ use Rattle.floats.proofs.Fitting.{fits-above}
 use Rattle.floats.proofs.Whole.{zero-below}
 use Rattle.kernels.specs.Ln.{lnOf}
 use Rattle.bounds.proofs.LnBounds.{within-ln}
-use Rattle.mosaic.specs.Stirling.{pi, stirlingFromOne, stirlingOf}
-use Rattle.mosaic.specs.Edition.{first, lnFactorial}
+use Rattle.stirlings.specs.Stirling.{pi, stirlingFromOne, stirlingOf, lnFactorial}
+use Rattle.mosaic.specs.Edition.{first}
 use Rattle.mosaic.specs.Allowed.{paramsAllowed}
 use Rattle.limits.specs.Limits.{inRange}
 use Rattle.mosaic.specs.Hypotheses.{alone}
 use Rattle.qualities.specs.Order.{larger}
 use Rattle.mosaic.specs.Likelihood.{germlineShare}
 use Rattle.mosaic.specs.Prior.{densityOf, gainOf, forOne, forTwo}
-use Rattle.mosaic.specs.declared.params.Params.{Params}
+use Rattle.models.specs.declared.params.Params.{Params}
 use Rattle.mosaic.specs.declared.hypotheses.Pair.{Pair}
 use Rattle.mosaic.specs.declared.prior.Density.{Density}
 use Rattle.mosaic_laws.proofs.Quotients.{above-div}
@@ -61,7 +61,7 @@ within-stirling x f p w =
     (λ e. within-more (from-one-within x f p (within-more w (lit≤ tt))) (lit≤ tt))
     (λ e. rw (zero-below x p) (within-more (within-sub (from-one-within (x ⊕ nat 1) (add-fits binary64 x (nat 1)) (up .is-positive) (within-more next (lit≤ tt))) (within-ln x f p) (lit≤ tt)) (lit≤ tt)))
 
-pub within-factorial : (n : ℕ) → n ≤ 8000000 → Within (2 ^ 38) (lnFactorial first n)
+pub within-factorial : (n : ℕ) → n ≤ 8000000 → Within (2 ^ 38) (lnFactorial stirlingOf n)
 unfolding lnFactorial
 within-factorial n h =
     let w = within-add (within-whole (pos n) 8000000 h (lit≤ tt)) (within-whole (pos 1) 1 (lit≤ tt) (lit≤ tt)) (lit≤ tt) in

@@ -8,7 +8,7 @@ pub fn max(a: f64, b: f64) -> f64
     if a < b { b } else { a }
 }
 
-pub(crate) fn min(a: f64, b: f64) -> f64
+pub fn min(a: f64, b: f64) -> f64
     ensures { λ r. ⌜ r ≡ smaller a b ⌝ }
 {
     if b < a { b } else { a }

@@ -3,7 +3,7 @@ use mathlib.Core.Path.{ap, _∙_}
 use borrow.Author.Needs.{needs}
 use Rattle.refusals.specs.Refusals.{numberOf}
 use Rattle.mosaic.specs.Genotype.{genotypeOf}
-use Rattle.mosaic.specs.declared.params.Params.{Params}
+use Rattle.models.specs.declared.params.Params.{Params}
 use Rattle.mosaic.specs.declared.genotype.MosaicResult.{MosaicResult}
 use Rattle.exports.proofs.mosaic_call.admulfas_mosaic.Statement.{statement}
 use Rattle.exports.proofs.mosaic_call.admulfas_mosaic.Tie as tie

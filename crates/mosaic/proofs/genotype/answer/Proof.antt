@@ -36,13 +36,13 @@ flags-requires : tie.Need-flags-requires
 flags-requires c κs = search needs
 
 all-probabilities-requires : tie.Need-all-probabilities-requires
-all-probabilities-requires c κs = rw (c .before .before .before .before .before .before .before .before .before .before .scan-all .ensures) (scanned-at-most (c .before .before .before .before .before .before .before .before .before .before .before .before .before .args .counts .now) (c .before .before .before .before .before .before .before .before .before .before .before .site-of .result))
+all-probabilities-requires c κs = search needs
 
 ploidy-requires : tie.Need-ploidy-requires
 ploidy-requires c κs = search needs
 
 quality-requires : tie.Need-quality-requires
-quality-requires c κs = rw (c .before .before .before .before .before .before .before .before .before .before .before .before .scan-all .ensures) (scanned-at-most (c .before .before .before .before .before .before .before .before .before .before .before .before .before .before .before .args .counts .now) (c .before .before .before .before .before .before .before .before .before .before .before .before .before .site-of .result))
+quality-requires c κs = search needs
 
 returns : tie.Need-returns
 returns c = rw (c .quality .ensures, c .before .ploidy .ensures, c .before .before .all-probabilities .ensures, c .before .before .before .flags .ensures, c .before .before .before .before .germline-alleles .ensures, c .before .before .before .before .before .before .list-alleles .ensures, c .before .before .before .before .before .before .before .before .find .ensures, c .before .before .before .before .before .before .before .before .before .before .best-place .ensures, c .before .before .before .before .before .before .before .before .before .before .before .before .before .scan-all .ensures, c .before .before .before .before .before .before .before .before .before .before .before .before .before .before .site-of .ensures) (answer-by (c .before .before .before .before .before .before .before .before .before .before .before .before .before .before .before .before .args .params) (c .before .before .before .before .before .before .before .before .before .before .before .before .before .before .before .before .args .counts .now) (c .before .before .before .before .before .before .before .before .before .before .before .before .before .before .before .before .pre .0))

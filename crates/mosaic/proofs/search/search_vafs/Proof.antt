@@ -2,7 +2,7 @@
 use mathlib.Core.Path.{_≡_, refl, ap, _∙_}
 use Prim.Native.Nat.{_≤_, _-_}
 use lib.ListN.{length}
-use Rattle.mosaic.specs.Over.{over}
+use Rattle.probabilities.specs.Over.{over}
 use Rattle.mosaic.specs.Inner.{offered, searched}
 use borrow.Author.Needs.{needs}
 use native.Mathlib.Omega.{arith}

@@ -1,0 +1,2 @@
+-- What belongs to no one function of `probabilities`: what the proofs share.
+pub mod InUse

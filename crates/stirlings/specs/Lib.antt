@@ -1,0 +1,2 @@
+-- The definitions that the contracts of `stirlings` cite.
+pub mod Stirling

@@ -1,0 +1,2 @@
+// The short log gamma, and log factorials by it.
+pub mod stirling;
