@@ -2,7 +2,7 @@
 //! Rust and kanpig's text and never from the port, to crates/vectors/stdout. The form of both is docs/VECTORS.md. Each kind has a function
 //! of its own.
 use crate::inputs::{self, Random};
-use crate::{diploid_cases, kernels, step_cases, trio_cases};
+use crate::{diploid_cases, kernels, mosaic_cases, step_cases, trio_cases};
 use std::collections::HashSet;
 use std::fs;
 use std::io;
@@ -52,7 +52,7 @@ fn floats(seed: u64, n: usize) -> Vec<f64> {
     all
 }
 
-fn float_kernel(cases: &mut Cases, name: &str, xs: &[f64], kernel: fn(f64) -> f64) {
+pub fn float_kernel(cases: &mut Cases, name: &str, xs: &[f64], kernel: fn(f64) -> f64) {
     for &x in xs {
         cases.add(format!("{name} {}", word(x)), word(kernel(x)));
     }
@@ -95,7 +95,7 @@ fn key(cases: &mut Cases, xs: &[f64]) {
 /// The digits of a NaN, which are read as `nan`.
 fn nan_digits(cases: &mut Cases) {
     for digits in ["7ff8000000000000", "7ff0000000000001", "fff8000000000000", "ffffffffffffffff", "7fffffffffffffff"] {
-        for kind in ["ln", "exp", "log10", "pow10", "lgamma", "key", "binomial 3 10", "binomial 4 3"] {
+        for kind in ["ln", "exp", "log10", "pow10", "lgamma", "stirling", "key", "binomial 3 10", "binomial 4 3"] {
             cases.add(format!("{kind} {digits}"), "nan");
         }
     }
@@ -146,7 +146,7 @@ fn no_counts(cases: &mut Cases) {
 /// Lines whose words are wrong in number, in kind, or not parted by one space.
 fn wrong_words(cases: &mut Cases) {
     let one = "3ff0000000000000";
-    for kind in ["ln", "exp", "log10", "pow10", "lgamma", "key", "binomial", "binomial 3", "binomial 3 10"] {
+    for kind in ["ln", "exp", "log10", "pow10", "lgamma", "stirling", "key", "binomial", "binomial 3", "binomial 3 10"] {
         for line in ["KIND", "KIND ", " KIND X", "KIND  X", "KIND X ", "KIND X X", "KINDX", "KIND\tX", "KIND\rX", "KIND, X"] {
             cases.unreadable(line.replace('X', one).replace("KIND", kind));
         }
@@ -193,6 +193,7 @@ pub fn write() -> io::Result<()> {
     diploid_cases::write(&mut cases);
     trio_cases::write(&mut cases);
     step_cases::write(&mut cases);
+    mosaic_cases::write(&mut cases);
     cases.add("ln 3ff0000000000000", word(kernels::ln(1.0)));
     fs::write("crates/vectors/stdin", cases.questions.join("\n"))?;
     fs::write("crates/vectors/stdout", cases.answers.join("\n") + "\n")?;

@@ -5,7 +5,7 @@ use crate::cases::{self, word};
 use crate::diploid::{self, Input};
 use crate::inputs::{self, Random, Trial};
 use crate::tally::Tally;
-use crate::{diploid_cases, diploid_inputs, histories, kanpig, kanpig_mosaic, kernels, mosaic, mosaic_inputs, port, trio_compare};
+use crate::{diploid_cases, diploid_inputs, histories, kanpig, kernels, mosaic, mosaic_cases, mosaic_inputs, port, trio_compare};
 
 /// Of the inputs of a kind, so many are asked as text.
 const AS_TEXT: usize = 50_000;
@@ -66,22 +66,11 @@ fn diploids() -> Tally {
     (0..3).map(by_mode).sum::<Tally>().line("diploid")
 }
 
-/// kanpig's own short log gamma above zero, and what was decided elsewhere (M2).
-pub fn short_log_gamma(x: f64) -> f64 {
-    if x > 0.0 {
-        kanpig_mosaic::with_ours::short_log_gamma(x)
-    } else if x == 0.0 {
-        f64::INFINITY
-    } else {
-        f64::NAN
-    }
-}
-
 fn mosaic(inputs: impl Iterator<Item = mosaic::Input>) -> Tally {
     let inputs: Vec<_> = inputs.collect();
     let answers = inputs.iter().map(|input| (input, port::mosaic(input), mosaic::expected(input)));
     let differences: Vec<_> = answers.filter(|(_, a, b)| !a.same(b)).collect();
-    Tally::shown("mosaic", inputs.len(), &differences)
+    Tally::shown("mosaic", inputs.len(), &differences) + asked_all("mosaic", &inputs, mosaic_cases::case)
 }
 
 fn mosaics() -> Tally {
@@ -97,7 +86,7 @@ fn genotypers(xs: &[f64]) -> Vec<Tally> {
         println!("diploid, trio and mosaic: not compared; {}", kanpig::NOT_FOUND);
         return vec![];
     }
-    let mut all = vec![float_kernel("stirling", xs, port::stirling, short_log_gamma), diploids()];
+    let mut all = vec![float_kernel("stirling", xs, port::stirling, mosaic::short_log_gamma), diploids()];
     all.extend(trio_compare::run());
     all.extend([histories::run(), mosaics()]);
     all

@@ -17,6 +17,7 @@ mod kanpig_mosaic;
 mod kernels;
 mod limits;
 mod mosaic;
+mod mosaic_cases;
 mod mosaic_inputs;
 mod mosaic_walks;
 mod pairs;

@@ -89,3 +89,14 @@ pub fn expected(input: &Input) -> Answer {
         number => Answer::refused(number),
     }
 }
+
+/// kanpig's own short log gamma above zero, and what was decided elsewhere (M2).
+pub fn short_log_gamma(x: f64) -> f64 {
+    if x > 0.0 {
+        kanpig_mosaic::with_ours::short_log_gamma(x)
+    } else if x == 0.0 {
+        f64::INFINITY
+    } else {
+        f64::NAN
+    }
+}

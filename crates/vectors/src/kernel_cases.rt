@@ -14,6 +14,7 @@ pub enum Kernel {
     Log10,
     Pow10,
     Lgamma,
+    Stirling,
 }
 
 fn value(kernel: Kernel, x: f64) -> f64 {
@@ -23,6 +24,7 @@ fn value(kernel: Kernel, x: f64) -> f64 {
         Kernel::Log10 => kernels::log10::log10(x),
         Kernel::Pow10 => kernels::log10::pow10(x),
         Kernel::Lgamma => gammas::gamma::ln_gamma(x),
+        Kernel::Stirling => stirlings::stirling::stirling(x),
     }
 }
 

@@ -3,6 +3,7 @@
 use crate::diploid_cases;
 use crate::kernel_cases;
 use crate::kernel_cases::Kernel;
+use crate::mosaic_cases;
 use crate::registers::Answered;
 use crate::registers::Registers;
 use crate::step_cases;
@@ -24,6 +25,8 @@ const POW10: u64 = 0x706f773130;
 
 const LGAMMA: u64 = 0x6c67616d6d61;
 
+const STIRLING: u64 = 0x737469726c696e67;
+
 const BINOMIAL: u64 = 0x62696e6f6d69616c;
 
 const KEY: u64 = 0x6b6579;
@@ -35,6 +38,8 @@ const MENDEL: u64 = 0x6d656e64656c;
 const SAMPLE: u64 = 0x73616d706c65;
 
 const CALL: u64 = 0x63616c6c;
+
+const MOSAIC: u64 = 0x6d6f73616963;
 
 const OPEN: u64 = 0x6f70656e;
 
@@ -58,12 +63,14 @@ fn plain(name: u64, line: &[u8], c: Cursor, text: &mut Text, out: Out) -> Out {
         LOG10 => kernel_cases::of_float(Kernel::Log10, line, c, text, out),
         POW10 => kernel_cases::of_float(Kernel::Pow10, line, c, text, out),
         LGAMMA => kernel_cases::of_float(Kernel::Lgamma, line, c, text, out),
+        STIRLING => kernel_cases::of_float(Kernel::Stirling, line, c, text, out),
         BINOMIAL => kernel_cases::binomial(line, c, text, out),
         KEY => kernel_cases::key(line, c, text, out),
         DIPLOID => diploid_cases::diploid(line, c, text, out),
         MENDEL => trio_cases::mendel(line, c, text, out),
         SAMPLE => trio_cases::sample(line, c, text, out),
         CALL => trio_cases::call(line, c, text, out),
+        MOSAIC => mosaic_cases::mosaic(line, c, text, out),
         _ => write::unread(text, out),
     }
 }

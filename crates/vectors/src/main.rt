@@ -4,6 +4,7 @@ mod kernel_cases;
 mod kinds;
 mod lines;
 mod lists;
+mod mosaic_cases;
 mod registers;
 mod step_cases;
 mod trio_cases;
