@@ -10,6 +10,7 @@ mod diploid_cases;
 mod diploid_inputs;
 mod distances;
 mod forged;
+mod fuzz;
 mod histories;
 mod inputs;
 mod kanpig;
@@ -57,11 +58,13 @@ fn main() -> ExitCode {
             distances::run();
             trio_distances::run();
         }
+        "fuzz" if fuzz::run(std::env::args().nth(2).and_then(|n| n.parse().ok())) => {}
+        "fuzz" => return ExitCode::FAILURE,
         "limits" => limits::run(),
         "pairs" => pairs::run(),
         "walks" => mosaic_walks::run(),
         _ => {
-            eprintln!("usage: oracle compare|cases|bench|changes|distances|limits|pairs|walks");
+            eprintln!("usage: oracle compare|cases|bench|changes|distances|fuzz|limits|pairs|walks");
             return ExitCode::from(2);
         }
     }
