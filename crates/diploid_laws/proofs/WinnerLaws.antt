@@ -18,13 +18,13 @@ use Rattle.diploid.specs.Genotype.{winner, Wins, ref-wins, het-wins, hom-wins}
 at-most : (a b : ℤ) → T (leZ a b) → a ≤ℤ b
 at-most a b t = record { le = t }
 
-above : (a b : ℤ) → T (not (leZ a b)) → b <ℤ a
+pub above : (a b : ℤ) → T (not (leZ a b)) → b <ℤ a
 above (pos a) (pos b) t = record { lt = lt→ltb b a (nleb→lt a b t) }
 above (pos a) (negsuc b) t = record { lt = tt }
 above (negsuc a) (pos b) t = absurd t
 above (negsuc a) (negsuc b) t = record { lt = lt→ltb a b (nleb→lt b a t) }
 
-below-at-most : (a b : ℤ) → a <ℤ b → a ≤ℤ b
+pub below-at-most : (a b : ℤ) → a <ℤ b → a ≤ℤ b
 below-at-most (pos a) (pos b) h = record { le = le→leb a b (le-of-lt (ltb→lt a b (h .lt))) }
 below-at-most (pos a) (negsuc b) h = absurd (h .lt)
 below-at-most (negsuc a) (pos b) h = record { le = tt }

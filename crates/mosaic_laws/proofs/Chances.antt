@@ -26,16 +26,11 @@ use Rattle.qualities.specs.Order.{larger, smaller}
 use Rattle.probabilities.specs.Quality.{inTens, topOf, sumOf, wholeOf, probabilityOf, wrongOf, qualityBy}
 use Rattle.mosaic_laws.proofs.Terms.{either}
 use Rattle.mosaic_laws.proofs.Sums.{grows}
+use Rattle.mosaic_laws.proofs.Least.{under-finite}
 
 ten-above : Above 0 (lnOf (nat 10))
 unfolding ofBits
 ten-above = subst (λ (v : Float). Above 0 v) (sym ln-ten) (record { is-positive = tt; large = lit≤ tt })
-
-under-finite : (v : Float) → T (finite v) → lt (inf true) v ≡ true
-unfolding lt
-under-finite nan f = absurd f
-under-finite (inf s) f = absurd f
-under-finite (fin s m e) f = refl
 
 -- finite and not below zero
 pub record Chance (n : ℕ) (x : Float) : Type 0 where

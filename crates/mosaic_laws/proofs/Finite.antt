@@ -39,6 +39,7 @@ use Rattle.mosaic_laws.specs.Accepted.{Accepted}
 use Rattle.mosaic_laws.proofs.Quotients.{observed-share}
 use Rattle.mosaic_laws.proofs.Terms.{either, within-factorial, highest-within, Dense, dense, Vaf, ln-within, one-at, gain-within, gain-least, above-finite, share-ln-within, one-within, two-within}
 use Rattle.mosaic_laws.proofs.Sums.{over-keeps, grows}
+use Rattle.mosaic_laws.proofs.Least.{under-finite, least-stays}
 use Rattle.mosaic_laws.proofs.Seen.{seen-some, seen-in, counts-in}
 
 left-true : (a b : Bool) → (a && b) ≡ true → a ≡ true
@@ -213,18 +214,18 @@ module _ (p : Params) (counts : List ℕ) (ok : Accepted p counts) (g : Pair) (b
   -- ---- what is kept
 
   -- minus infinity, or finite
-  data Value : Float → Type 0 where
+  pub data Value : Float → Type 0 where
     none : Value (inf true)
     some : {v : Float} → Within (2 ^ 46) v → T (fits binary64 v) → Value v
 
-  record Kept (b : Best) : Type 0 where
+  pub record Kept (b : Best) : Type 0 where
     pub eight-vafs : length (b .vafs) ≡ 8
     pub tryable : Tryable (b .vafs)
     pub low : Low1 (b .vafs)
     pub value-is : Value (b .value)
 
   -- a value that is finite
-  record Some (b : Best) : Type 0 where
+  pub record Some (b : Best) : Type 0 where
     pub kept : Kept b
     pub within : Within (2 ^ 46) (b .value)
 
@@ -261,37 +262,18 @@ module _ (p : Params) (counts : List ℕ) (ok : Accepted p counts) (g : Pair) (b
   fit none = unfold fits in tt
   fit (some w f) = f
 
-  -- nothing is below minus infinity, and it is below every finite number
-  finite-not-under : (v : Float) → T (finite v) → lt v (inf true) ≡ false
-  unfolding lt
-  finite-not-under nan f = absurd f
-  finite-not-under (inf s) f = absurd f
-  finite-not-under (fin s m e) f = refl
-
-  not-under : {v : Float} → Value v → lt v (inf true) ≡ false
-  not-under none = unfold lt in refl
-  not-under (some {v = v} w f) = finite-not-under v (w .is-finite)
-
-  under-finite : (v : Float) → T (finite v) → lt (inf true) v ≡ true
-  unfolding lt
-  under-finite nan f = absurd f
-  under-finite (inf s) f = absurd f
-  under-finite (fin s m e) f = refl
-
   either-best : (P : Best → Type 0) (t : Bool) (a b : Best) → P a → P b → P (cond t a b)
   either-best P true a b h k = h
   either-best P false a b h k = k
 
   -- a candidate from 1 on is not kept
-  beyond : (b : Best) → Kept b → (i : ℕ) → i < n → somaticIn counts g i ≡ true → (x : Float) → Vaf x → le (nat 1) x ≡ true → tried first p counts g i x b ≡ b
-  unfolding tried
+  pub beyond : (b : Best) → Kept b → (i : ℕ) → i < n → somaticIn counts g i ≡ true → (x : Float) → Vaf x → le (nat 1) x ≡ true → tried first p counts g i x b ≡ b
   beyond b h i m s x v e =
       let l = set (b .vafs) i x in
       let t = set-tryable b h i m x v in
       let here : vafAt l i ≡ x = at-set (b .vafs) i i x nan (omega (arith, h .eight-vafs, ok .few)) (eqb i i) refl (λ y. y ≡ x) (λ r. refl) (λ r. absurd (r refl)) in
       let value : valueOf first p counts g l ≡ inf true = rw (prior-least l t i m s (rw here e)) (finite-least (likelihoodOf first counts g l) (likelihood-within l t .is-finite)) in
-      let test : ltZ (keyOf (b .value)) (keyOf (inf true)) ≡ false = key-order (b .value) (inf true) (fit (h .value-is)) (fit none) (number (h .value-is)) (number none) ∙ not-under (h .value-is) in
-      rw (value, test)
+      least-stays first p counts g i x b (fit (h .value-is)) (number (h .value-is)) value
 
   not-one : (x : Float) → Vaf x → le (nat 1) x ≡ false → lt x (nat 1) ≡ true
   not-one x v e = above-by-test (nat 1) x one-at (positive-not-below x (v .above-zero)) e
@@ -315,7 +297,7 @@ module _ (p : Params) (counts : List ℕ) (ok : Accepted p counts) (g : Pair) (b
       go false e = subst Some (tried-is i x b) (either-best Some (larger i x b) (better i x b) b (made b (h .kept) i m x v (not-one x v e)) h)
 
   -- a candidate below 1 leaves a finite value, whatever stood before
-  first-some : (i : ℕ) → i < n → somaticIn counts g i ≡ true → (x : Float) → Vaf x → lt x (nat 1) ≡ true → (b : Best) → Kept b → Some (tried first p counts g i x b)
+  pub first-some : (i : ℕ) → i < n → somaticIn counts g i ≡ true → (x : Float) → Vaf x → lt x (nat 1) ≡ true → (b : Best) → Kept b → Some (tried first p counts g i x b)
   first-some i m s x v e b h = go (b .value) refl (h .value-is)
     where
       go : (w : Float) → w ≡ b .value → Value w → Some (tried first p counts g i x b)

@@ -3,6 +3,10 @@ pub mod Quotients
 pub mod Terms
 pub mod Sums
 pub mod Seen
+pub mod Least
 pub mod Finite
 pub mod Chances
 pub mod Answers
+pub mod Winner
+pub mod Steps
+pub mod Count

@@ -50,7 +50,7 @@ above-div {i} {x} {y} k h w q l f =
     regroup a b c d = simp (mul-assoc, mul-comm, mul-left-comm)
 
 -- a whole number as a fraction
-whole-size : (n : ℕ) → 0 < n → n < 2 ^ 53 → num (nat n) ≡ n * den (nat n)
+pub whole-size : (n : ℕ) → 0 < n → n < 2 ^ 53 → num (nat n) ≡ n * den (nat n)
 unfolding ofInt
 whole-size n h l = sym (mul-one (num (nat n))) ∙ value→cross (nat n) n 1 (fraction-val false n 0 l (lit≤ tt))
 

@@ -13,7 +13,7 @@ use lib.Ieee.Positive.{num, den, positive, above, above-of-le, between}
 use Rattle.floats.specs.F64.{_⊕_, _⊖_, _⊗_, _⊘_, nat, ratio, decimal}
 use Rattle.floats.specs.Within.{Within, Above, NotBelow}
 use Rattle.floats.proofs.Bounds.{within-more, within-whole, within-fraction, within-reciprocal, within-add, within-sub, within-mul, within-div, within-neg, above-whole, above-add, above-fraction, positive-not-below}
-use Rattle.floats.proofs.Ranges.{within-range, above-range}
+use Rattle.floats.proofs.Ranges.{within-range, above-range, not-below-zero}
 use Rattle.floats.proofs.Fractions.{less, le-fractions, difference-above}
 use Rattle.floats.proofs.Differences.{not-below}
 use Rattle.floats.proofs.Fitting.{fits-above}
@@ -114,6 +114,11 @@ module _ (p : Params) (allowed : paramsAllowed p ≡ true) where
   highest-within =
       let h = and-r B H (and-r A (B && H) all-of) in
       within-range (p .highest) (record { is-finite = tt; small = lit≤ tt }) (record { is-finite = tt; small = lit≤ tt }) (and-l (le (nat 0) (p .highest)) (le (p .highest) (nat 1)) h) (and-r (le (nat 0) (p .highest)) (le (p .highest) (nat 1)) h)
+
+  pub highest-not-below : NotBelow (p .highest)
+  unfolding ofInt
+  highest-not-below =
+      not-below-zero (p .highest) (highest-within .is-finite) (and-l (le (nat 0) (p .highest)) (le (p .highest) (nat 1)) (and-r B H (and-r A (B && H) all-of)))
 
 -- the numbers of a density, none beyond 2 ^ 38
 pub record Dense (d : Density) : Type 0 where

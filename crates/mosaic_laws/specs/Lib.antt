@@ -1,2 +1,3 @@
 -- The definitions that the laws of `mosaic_laws` cite.
 pub mod Accepted
+pub mod Largest

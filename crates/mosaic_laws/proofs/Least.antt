@@ -1,0 +1,67 @@
+-- What a search does where it meets minus infinity, at every input: such a candidate never replaces what is kept, and where all are such the start stays.
+-- Assumes nothing.
+use mathlib.Core.Path.{_≡_, refl, ap, _∙_}
+use mathlib.Core.Bool.{Bool, true, false, cond}
+use mathlib.Core.List.{List}
+use Prim.Native.Nat.{ℕ, _<_}
+use lib.Dec.{T}
+use lib.ListN.{length, set}
+use lib.Ieee.{Float, nan, inf, fin, binary64, lt, isNan, fits}
+use lib.Ieee.Scale.{finite}
+use Rattle.floats.specs.F64.{decimal}
+use Rattle.floats.proofs.KeyOrder.{key-order}
+use Rattle.models.specs.declared.params.Params.{Params}
+use Rattle.mosaic.specs.Edition.{Edition}
+use Rattle.mosaic.specs.Hypotheses.{somaticIn}
+use Rattle.mosaic.specs.Search.{Best, startVafs, valueOf, tried, triedStep, stepOf, observedShare, searchedAllele, searchedAll}
+use Rattle.mosaic.specs.declared.hypotheses.Pair.{Pair}
+use Rattle.mosaic_laws.proofs.Sums.{over-keeps}
+
+-- nothing is below minus infinity
+none-under : (v : Float) → lt v (inf true) ≡ false
+unfolding lt
+none-under nan = refl
+none-under (inf true) = refl
+none-under (inf false) = refl
+none-under (fin s m e) = refl
+
+-- and it is below every finite number
+pub under-finite : (v : Float) → T (finite v) → lt (inf true) v ≡ true
+unfolding lt
+under-finite nan f = absurd f
+under-finite (inf s) f = absurd f
+under-finite (fin s m e) f = refl
+
+module _ (e : Edition) (p : Params) (counts : List ℕ) (g : Pair) where
+  pub least-stays : (i : ℕ) (x : Float) (b : Best) → T (fits binary64 (b .value)) → isNan (b .value) ≡ false → valueOf e p counts g (set (b .vafs) i x) ≡ inf true → tried e p counts g i x b ≡ b
+  unfolding tried
+  least-stays i x b f n h =
+      rw (h, key-order (b .value) (inf true) f (unfold fits in tt) n (unfold isNan in refl) ∙ none-under (b .value))
+
+  abbrev start : Best
+  start = record { vafs = startVafs counts g; value = inf true }
+
+  module _ (all : (i : ℕ) → i < length counts → somaticIn counts g i ≡ true → (x : Float) → valueOf e p counts g (set (startVafs counts g) i x) ≡ inf true) where
+    tried-start : (i : ℕ) → i < length counts → somaticIn counts g i ≡ true → (x : Float) (b : Best) → b ≡ start → tried e p counts g i x b ≡ start
+    tried-start i l s x b h = ap (tried e p counts g i x) h ∙ least-stays i x start (unfold fits in tt) (unfold isNan in refl) (all i l s x)
+
+    either : (t : Bool) (a b : Best) → a ≡ start → b ≡ start → cond t a b ≡ start
+    either true a b h k = h
+    either false a b h k = k
+
+    allele-start : (i : ℕ) → i < length counts → somaticIn counts g i ≡ true → (b : Best) → b ≡ start → searchedAllele e p counts g i b ≡ start
+    unfolding searchedAllele
+    allele-start i l s b h =
+        over-keeps (λ b. b ≡ start) (triedStep e p counts g i) (tried e p counts g i (observedShare e p counts g i) b) 21
+        (λ k m b q. either (lt (decimal 1 3) (stepOf e p counts g k)) (tried e p counts g i (stepOf e p counts g k) b) b (tried-start i l s (stepOf e p counts g k) b q) q)
+        (tried-start i l s (observedShare e p counts g i) b h)
+
+    offered-start : (i : ℕ) → i < length counts → (t : Bool) → somaticIn counts g i ≡ t → (b : Best) → b ≡ start → cond t (searchedAllele e p counts g i b) b ≡ start
+    offered-start i l true s b h = allele-start i l s b h
+    offered-start i l false s b h = h
+
+    pub start-stays : searchedAll e p counts g ≡ start
+    unfolding searchedAll
+    start-stays =
+        over-keeps (λ b. b ≡ start) (λ i b. cond (somaticIn counts g i) (searchedAllele e p counts g i b) b) start (length counts)
+        (λ i l b h. offered-start i l (somaticIn counts g i) refl b h) refl
