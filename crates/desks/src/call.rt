@@ -2,7 +2,6 @@
 ghost use mathlib.Core.Path.{_≡_};
 ghost use Rattle.trio.specs.Steps.{rowsIn};
 ghost use Rattle.desks.specs.Call.{callOf, workedTo};
-use refusals::Refusal;
 use trio::closing::Closed;
 use trio::closing::close;
 use trio::closing::refused_closing;

@@ -9,7 +9,6 @@ use lib.IntN.{pos, negsuc}
 use lib.Dec.{T, eqb, lit≤, lit<}
 use lib.ListN.{getD}
 use lib.Ieee.{Float, nan, inf, fin, binary64, lt, ofInt, ofBits, fits}
-use lib.Ieee.Scale.{finite}
 use lib.Ieee.Fits.{ofInt-fits, add-fits, div-fits}
 use Rattle.floats.specs.F64.{_⊕_, _⊖_, _⊗_, nat, whole}
 use Rattle.floats.specs.Within.{Within, Above, NotBelow}
