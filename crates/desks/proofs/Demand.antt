@@ -11,10 +11,11 @@ use Rattle.refusals.specs.Refusals.{numberOf}
 use Rattle.search.specs.Shape.{workRight}
 use Rattle.search.specs.Work.{noWork}
 use Rattle.search.proofs.ShapeLaws.{and-both}
-use Rattle.trio.specs.declared.part.Part.{Part}
-use Rattle.trio.specs.declared.part.Stepped.{Stepped}
-use Rattle.trio.specs.Part.{inputRight, rowCount, withWork, rightPart, freshPart}
-use Rattle.trio.specs.Steps.{scoreIn, rowsIn, openStep, refusedClosing, closeStep}
+use Rattle.parts.specs.declared.part.Part.{Part}
+use Rattle.parts.specs.declared.part.Stepped.{Stepped}
+use Rattle.parts.specs.Part.{inputRight, rowCount, withWork, rightPart, freshPart}
+use Rattle.parts.specs.Opening.{openStep}
+use Rattle.trio.specs.Steps.{scoreIn, rowsIn, refusedClosing, closeStep}
 use Rattle.desks.specs.Call.{calledBy, callOf, workedTo}
 use Rattle.desks.specs.History.{History, merged, partOf, rowsOf, Promised}
 use Rattle.desks.proofs.Inputs.{scores-numbers}

@@ -31,11 +31,12 @@ use Rattle.search.proofs.ShapeLaws.{and-true, and-both, Shaped, right-shaped, f
 use Rattle.search.proofs.WorkLaws.{row-sound}
 use Rattle.trio.specs.declared.closing.Closed.{Closed}
 use Rattle.family.specs.declared.pair.Triple.{Triple}
-use Rattle.trio.specs.declared.part.Part.{Part}
-use Rattle.trio.specs.Genotypes.{genotypeCount, genotypeAt, rowWidth, tripleAt}
-use Rattle.trio.specs.Part.{weightAllowed, inputRight, sameInput, rowCount, workIn, rightPart, freshPart, emptyPart, withWork}
+use Rattle.parts.specs.declared.part.Part.{Part}
+use Rattle.family.specs.Genotypes.{genotypeCount}
+use Rattle.trio.specs.Genotypes.{genotypeAt, rowWidth, tripleAt}
+use Rattle.parts.specs.Part.{weightAllowed, inputRight, sameInput, rowCount, workIn, rightPart, freshPart, emptyPart, withWork, gives}
 use Rattle.trio.specs.Samples.{columnTotal}
-use Rattle.trio.specs.Steps.{gives, scoreIn, unread, rowsIn, rowStep, mergeStep, closedAs, refusedClosing, closeStep}
+use Rattle.trio.specs.Steps.{scoreIn, unread, rowsIn, rowStep, mergeStep, closedAs, refusedClosing, closeStep}
 use Rattle.desks.specs.Call.{onePassCall, workedTo}
 use Rattle.desks.proofs.Inputs.{input-accepted, scores-numbers}
 use Rattle.desks.proofs.ScoreBounds.{unread-least}

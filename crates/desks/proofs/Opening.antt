@@ -17,10 +17,10 @@ use Rattle.search.specs.Shape.{workRight}
 use Rattle.search.specs.Work.{noWork}
 use Rattle.search.proofs.ShapeLaws.{and-true, and-both, work-right}
 use Rattle.search.proofs.WorkLaws.{none-sound}
-use Rattle.trio.specs.declared.part.Stepped.{Stepped}
-use Rattle.trio.specs.Genotypes.{genotypeCount}
-use Rattle.trio.specs.Part.{countAllowed, noCount, weightAllowed, noWeight, placesRight, inputRight, padded, freshPart, emptyPart, rightPart}
-use Rattle.trio.specs.Steps.{gives, every, openStep}
+use Rattle.parts.specs.declared.part.Stepped.{Stepped}
+use Rattle.family.specs.Genotypes.{genotypeCount}
+use Rattle.parts.specs.Part.{countAllowed, noCount, weightAllowed, noWeight, placesRight, inputRight, padded, freshPart, emptyPart, rightPart, gives}
+use Rattle.parts.specs.Opening.{every, openStep}
 
 -- ---- what it tells
 

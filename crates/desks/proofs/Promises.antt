@@ -17,11 +17,11 @@ use Rattle.search.specs.Work.{Work, joined, noWork, rowWork, Within, wholeWork,
 use Rattle.search.proofs.JoinLaws.{sound-unique}
 use Rattle.search.proofs.ShapeLaws.{and-true, and-both, Shaped, right-shaped, held-back, work-right}
 use Rattle.search.proofs.WorkLaws.{none-sound, row-sound, joined-sound, sound-full, sound-not-full, sound-all}
-use Rattle.trio.specs.declared.part.Part.{Part}
-use Rattle.trio.specs.declared.part.Stepped.{Stepped}
+use Rattle.parts.specs.declared.part.Part.{Part}
+use Rattle.parts.specs.declared.part.Stepped.{Stepped}
 use Rattle.trio.specs.Genotypes.{rowWidth}
-use Rattle.trio.specs.Part.{sameNumbers, inputRight, sameInput, rowCount, workIn, withWork, rightPart}
-use Rattle.trio.specs.Steps.{gives, scoreIn, rowStep, mergeStep, closedAs, refusedClosing, closeStep}
+use Rattle.parts.specs.Part.{sameNumbers, inputRight, sameInput, rowCount, workIn, withWork, rightPart, gives}
+use Rattle.trio.specs.Steps.{scoreIn, rowStep, mergeStep, closedAs, refusedClosing, closeStep}
 use Rattle.desks.specs.Call.{onePassCall}
 use Rattle.desks.specs.History.{History, opened, worked, merged, mergedOther, closed, partOf, rowsOf, Later, itself, then-worked, then-merged, merged-into, then-refused, then-closed, Promised}
 

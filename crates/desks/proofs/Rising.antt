@@ -9,8 +9,8 @@ use borrow.Author.Tests.{lt-ltb, eq-eqb}
 use lib.Dec.{eqb}
 use lib.Ieee.{isNan}
 use Rattle.search.specs.Work.{noWork}
-use Rattle.trio.specs.declared.part.Part.{Part}
-use Rattle.trio.specs.Part.{rowCount, withWork, rightPart}
+use Rattle.parts.specs.declared.part.Part.{Part}
+use Rattle.parts.specs.Part.{rowCount, withWork, rightPart}
 use Rattle.trio.specs.Steps.{scoreIn, rowsIn, rowStep, closeStep}
 use Rattle.desks.specs.Call.{onePassCall, workedTo}
 use Rattle.desks.specs.History.{History, opened, worked, partOf, rowsOf}

@@ -24,13 +24,14 @@ use Rattle.kernels.specs.Ln.{lnOf}
 use Rattle.bounds.proofs.LnBounds.{within-ln}
 use Rattle.bounds.proofs.BinomialBounds.{term-within}
 use Rattle.family.specs.declared.pair.Pair.{Pair}
-use Rattle.trio.specs.Genotypes.{pairsWith, pairsFrom, genotypes, genotypeAt}
+use Rattle.family.specs.Genotypes.{pairsWith, pairsFrom, genotypes}
+use Rattle.trio.specs.Genotypes.{genotypeAt}
 use Rattle.family.specs.Mendel.{pair}
 use Rattle.trio.specs.Samples.{upFrom, clusters, reads, sum, columnTotal, sumFrom, logBinomial, expectation, expectationTotal, clusterTerm, sampleScore}
-use Rattle.trio.specs.Part.{weightAllowed}
+use Rattle.parts.specs.Part.{weightAllowed}
 use Rattle.trio.proofs.SampleLaws.{count-at-most}
 use Rattle.desks.specs.Accepted.{Accepted}
-use Rattle.trio.specs.Steps.{every}
+use Rattle.parts.specs.Opening.{every}
 use Rattle.desks.proofs.Every.{every-at, every-between}
 
 -- ---- the divided expectations: with two clusters or more each lies between 0 and 1

@@ -17,12 +17,13 @@ use Rattle.floats.proofs.Bounds.{within-more, within-add, above-fraction, low-n
 use Rattle.kernels.specs.Ln.{lnOf}
 use Rattle.bounds.proofs.LnBounds.{within-ln}
 use Rattle.family.specs.declared.pair.Pair.{Pair}
-use Rattle.trio.specs.Genotypes.{rowWidth, genotypeCount, genotypeAt, tripleAt}
+use Rattle.family.specs.Genotypes.{genotypeCount}
+use Rattle.trio.specs.Genotypes.{rowWidth, genotypeAt, tripleAt}
 use Rattle.family.specs.Mendel.{ordered, among, childPairs, mendelTerm}
 use Rattle.trio.specs.Samples.{upFrom, columnTotal, sampleScore}
 use Rattle.trio.specs.Score.{tripleScore, scoreOf}
 use Rattle.desks.specs.Accepted.{Accepted}
-use Rattle.trio.specs.Steps.{every}
+use Rattle.parts.specs.Opening.{every}
 use Rattle.desks.proofs.Every.{every-between}
 use Rattle.desks.proofs.ChildPairLaws.{child-pairs-few}
 use Rattle.desks.proofs.SampleBounds.{sample-least, sample-within, sample-low}

@@ -16,12 +16,14 @@ use Rattle.search.specs.Held.{heldOf}
 use Rattle.search.specs.Shape.{workRight}
 use Rattle.search.specs.Work.{onePass, entryAt, allEntries}
 use Rattle.search.proofs.ShapeLaws.{and-both}
-use Rattle.trio.specs.declared.part.Part.{Part}
-use Rattle.trio.specs.declared.part.Stepped.{Stepped}
-use Rattle.trio.specs.Genotypes.{genotypeCount, genotypeAt, rowWidth, tripleAt}
+use Rattle.parts.specs.declared.part.Part.{Part}
+use Rattle.parts.specs.declared.part.Stepped.{Stepped}
+use Rattle.family.specs.Genotypes.{genotypeCount}
+use Rattle.trio.specs.Genotypes.{genotypeAt, rowWidth, tripleAt}
 use Rattle.trio.specs.Samples.{upFrom, reads, sum, columnTotal}
-use Rattle.trio.specs.Part.{inputRight, rowCount, rightPart, padded, freshPart}
-use Rattle.trio.specs.Steps.{scoreIn, openStep, unread, groundOf, closedAs}
+use Rattle.parts.specs.Part.{inputRight, rowCount, rightPart, padded, freshPart}
+use Rattle.parts.specs.Opening.{openStep}
+use Rattle.trio.specs.Steps.{scoreIn, unread, groundOf, closedAs}
 use Rattle.desks.specs.Call.{onePassCall, calledBy, callOf}
 use Rattle.desks.specs.UnreadCall.{lastTriple, LastUnread}
 use Rattle.desks.proofs.Flat.{flat-pass}

@@ -5,7 +5,7 @@ use mathlib.Core.Bool.{true}
 use mathlib.Core.List.{List}
 use lib.ListN.{getD}
 use lib.Ieee.{Float, nan}
-use Rattle.trio.specs.Part.{weightAllowed}
+use Rattle.parts.specs.Part.{weightAllowed}
 
 -- 1 to 8 clusters; the counts and the weights of these are within their limits
 pub record Accepted (n : ℕ) (counts : List ℕ) (weights : List Float) : Type 0 where

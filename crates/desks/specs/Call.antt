@@ -7,11 +7,12 @@ use lib.Ieee.{Float}
 use Rattle.refusals.specs.Refusals.{numberOf}
 use Rattle.search.specs.Work.{wholeWork}
 use Rattle.trio.specs.declared.closing.Closed.{Closed}
-use Rattle.trio.specs.declared.part.Part.{Part}
-use Rattle.trio.specs.declared.part.Stepped.{Stepped}
+use Rattle.parts.specs.declared.part.Part.{Part}
+use Rattle.parts.specs.declared.part.Stepped.{Stepped}
 use Rattle.trio.specs.Genotypes.{rowWidth}
-use Rattle.trio.specs.Part.{rowCount, withWork}
-use Rattle.trio.specs.Steps.{scoreIn, openStep, rowStep, closedAs, refusedClosing}
+use Rattle.parts.specs.Part.{rowCount, withWork}
+use Rattle.parts.specs.Opening.{openStep}
+use Rattle.trio.specs.Steps.{scoreIn, rowStep, closedAs, refusedClosing}
 
 -- what one undivided pass over the input of a part says: it keeps the best triple and the best of the rest, a later equal score replacing an earlier one
 abbrev pub onePassCall : Part → Closed

@@ -9,10 +9,10 @@ use Rattle.search.specs.Held.{heldList}
 use Rattle.search.specs.Marks.{isMarked}
 use Rattle.search.specs.Rank.{beatsOf}
 use Rattle.search.specs.Work.{Within}
-use Rattle.trio.specs.declared.part.Part.{Part}
+use Rattle.parts.specs.declared.part.Part.{Part}
 use Rattle.trio.specs.Genotypes.{rowWidth}
-use Rattle.trio.specs.Part.{rowCount, sameInput, rightPart}
-use Rattle.trio.specs.Steps.{gives, scoreIn, rowStep, mergeStep, closeStep, refusedClosing}
+use Rattle.parts.specs.Part.{rowCount, sameInput, rightPart, gives}
+use Rattle.trio.specs.Steps.{scoreIn, rowStep, mergeStep, closeStep, refusedClosing}
 use Rattle.desks.specs.Call.{onePassCall}
 
 -- what desks do with the parts of one input, `start` being the part that opening it gave

@@ -7,7 +7,8 @@ use Rattle.refusals.specs.declared.Refusal.the-variants.{Done}
 use Rattle.trio.specs.declared.closing.Closed.{Closed}
 use Rattle.family.specs.declared.ground.Ground.the-variants.{Unread}
 use Rattle.family.specs.declared.pair.Triple.{Triple}
-use Rattle.trio.specs.Genotypes.{genotypeCount, rowWidth}
+use Rattle.family.specs.Genotypes.{genotypeCount}
+use Rattle.trio.specs.Genotypes.{rowWidth}
 use Rattle.family.specs.Mendel.{pair}
 
 -- every animal with the last genotype: both alleles name the last cluster

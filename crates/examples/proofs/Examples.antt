@@ -14,9 +14,9 @@ use Rattle.tables.specs.Tables.{entries, neverFalling, tableAllowed}
 use Rattle.diploid.specs.Genotype.{genotypeBy}
 use Rattle.diploid_laws.proofs.WinnerLaws.{equal-scores}
 use Rattle.refusals.specs.Refusals.{numberOf}
-use Rattle.trio.specs.Genotypes.{genotypeCount}
+use Rattle.family.specs.Genotypes.{genotypeCount}
 use Rattle.trio.specs.Samples.{columnTotal}
-use Rattle.trio.specs.Steps.{openStep}
+use Rattle.parts.specs.Opening.{openStep}
 use Rattle.desks.specs.Call.{callOf}
 use Rattle.models.specs.declared.params.Params.{Params}
 use Rattle.mosaic.specs.Allowed.{paramsAllowed}

@@ -33,13 +33,15 @@ use Rattle.search.proofs.held.merge_held.Reads as merge-held
 use Rattle.search.proofs.marks.row_marked.Reads as row-marked
 use Rattle.search.proofs.marks.all_marked.Reads as all-marked
 use Rattle.search.proofs.shape.work_right.Reads as work-right
+use Rattle.family.proofs.genotypes.genotype_count.Reads as genotype-count
 use Rattle.family.proofs.mendel.distinct_pairs.Reads as distinct-pairs
 use Rattle.family.proofs.mendel.mendelian_prior.Reads as mendelian-prior
 use Rattle.family.proofs.sample.sample_number.Reads as sample-number
-use Rattle.trio.proofs.part.Part.empty.Reads as part-empty
-use Rattle.trio.proofs.shape.right_part.Reads as right-part
+use Rattle.parts.proofs.part.Part.empty.Reads as part-empty
+use Rattle.parts.proofs.shape.right_part.Reads as right-part
+use Rattle.parts.proofs.shape.same_input.Reads as same-input
 use Rattle.trio.proofs.animal.sample_score.Reads as sample-score
-use Rattle.trio.proofs.opening.open_part.Reads as open-part
+use Rattle.parts.proofs.opening.open_part.Reads as open-part
 use Rattle.trio.proofs.rows.row_count.Reads as row-count
 use Rattle.trio.proofs.rows.work_row.Reads as work-row
 use Rattle.trio.proofs.merging.merge.Reads as merge
@@ -191,6 +193,9 @@ work-right-once κ a v w e f = only
 
 -- ---- trio
 
+pub genotype-count-once : OneAnswer genotype-count.Post
+genotype-count-once κ a v w e f = only
+
 pub distinct-pairs-once : OneAnswer distinct-pairs.Post
 distinct-pairs-once κ a v w e f = only
 
@@ -205,6 +210,9 @@ part-empty-once κ a v w e f = only
 
 pub right-part-once : OneAnswer right-part.Post
 right-part-once κ a v w e f = only
+
+pub same-input-once : OneAnswer same-input.Post
+same-input-once κ a v w e f = only
 
 pub sample-score-once : OneAnswer sample-score.Post
 sample-score-once κ a v w e f = only

@@ -14,11 +14,12 @@ use Rattle.refusals.specs.Refusals.{numberOf}
 use Rattle.trio.specs.declared.closing.Closed.{Closed}
 use Rattle.family.specs.declared.ground.Ground.the-variants.{Unread}
 use Rattle.family.specs.declared.sample.Sample.the-variants.{Mother}
-use Rattle.trio.specs.Genotypes.{genotypeCount, triples}
+use Rattle.family.specs.Genotypes.{genotypeCount}
+use Rattle.trio.specs.Genotypes.{triples}
 use Rattle.family.specs.Mendel.{pair, childPairs}
 use Rattle.trio.specs.Samples.{columnTotal}
 use Rattle.family.specs.Numbers.{sampleNumber}
-use Rattle.trio.specs.Steps.{openStep}
+use Rattle.parts.specs.Opening.{openStep}
 use Rattle.desks.specs.Call.{callOf}
 use Rattle.models.specs.declared.params.Params.{Params}
 use Rattle.mosaic.specs.Allowed.{paramsAllowed}

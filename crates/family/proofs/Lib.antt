@@ -1,2 +1,3 @@
 -- What belongs to no one function of `family`.
+pub mod GenotypesLaws
 pub mod MendelLaws

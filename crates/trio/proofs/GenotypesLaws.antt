@@ -1,41 +1,16 @@
--- How many genotypes there are, and which one stands where in the list. Assumes nothing.
-use Prim.Native.Nat.{ℕ, zero, suc, _+_, _-_, _*_, _/_, _≤_, _<_, suc-le-suc, zero-le}
-use mathlib.Core.Path.{_≡_, refl, sym, ap, _∙_}
+-- Which genotype stands where in the list. Assumes nothing.
+use Prim.Native.Nat.{ℕ, zero, suc, _+_, _-_, _≤_, _<_}
+use mathlib.Core.Path.{_≡_, sym, ap, _∙_}
 use mathlib.Core.List.{List, _++_}
-use native.Mathlib.Nat.{add-zero, add-suc, suc-add, suc-mul, mul-suc, mul-add, suc-le-suc-iff}
+use native.Mathlib.Nat.{add-zero, add-suc, suc-add, suc-le-suc-iff}
 use native.Mathlib.Numerals.{add-one}
 use native.Mathlib.Omega.{arith}
-use lib.ListN.{length, getD, length-append, List·getD-append}
+use lib.ListN.{length, getD, List·getD-append}
 use lib.Seq.{getD-append-add}
 use Rattle.family.specs.declared.pair.Pair.{Pair}
-use Rattle.trio.specs.Genotypes.{pairsWith, pairsFrom, genotypeCount}
+use Rattle.family.specs.Genotypes.{pairsWith, pairsFrom}
 use Rattle.family.specs.Mendel.{pair}
-
--- ---- how many
-
-with-length : (i j m : ℕ) → length (pairsWith i j m) ≡ m
-with-length i j zero = refl
-with-length i j (suc m) = ap suc (with-length i (suc j) m)
-
-from-length : (i m : ℕ) → 2 * length (pairsFrom i m) ≡ m * (m + 1)
-from-length i zero = refl
-from-length i (suc m) =
-    let a = length-append (pairsWith i i (suc m)) (pairsFrom (suc i) m) in
-    let b = with-length i i (suc m) in
-    let c = from-length (suc i) m in
-    let d : suc m * (suc m + 1) ≡ m * (m + 1) + 2 * suc m = omega (arith, suc-mul m (suc m + 1), mul-add m (suc m) 1, mul-suc m m, mul-add m m 1) in
-    omega arith
-
-pub genotype-count : (n : ℕ) → genotypeCount n ≡ n * (n + 1) / 2
-unfolding genotypeCount
-genotype-count n = omega (arith, from-length 0 n)
-
-pub genotypes-some : (n : ℕ) → 1 ≤ n → 1 ≤ genotypeCount n
-unfolding genotypeCount
-genotypes-some zero h = h
-genotypes-some (suc n) h = suc-le-suc zero-le
-
--- ---- which one
+use Rattle.family.proofs.GenotypesLaws.{with-length}
 
 with-at : (i j m k : ℕ) (d : Pair) → k < m → getD (pairsWith i j m) k d ≡ pair i (j + k)
 with-at i j (suc m) zero d h = rw add-zero

@@ -10,10 +10,10 @@ use Rattle.refusals.specs.declared.Refusal.the-variants.{Done}
 use Rattle.search.specs.Marks.{marked}
 use Rattle.search.specs.Work.{Work, joined, rowWork}
 use Rattle.search.proofs.BestCode.{pass-back}
-use Rattle.trio.specs.declared.part.Part.{Part}
+use Rattle.parts.specs.declared.part.Part.{Part}
 use Rattle.trio.specs.Genotypes.{rowWidth}
-use Rattle.trio.specs.Part.{rowCount, workIn, withWork, rightPart}
-use Rattle.trio.specs.Steps.{gives, scoreIn, rowStep}
+use Rattle.parts.specs.Part.{rowCount, workIn, withWork, rightPart, gives}
+use Rattle.trio.specs.Steps.{scoreIn, rowStep}
 
 -- the end of a row, of at most 36
 pub row-end : (r g : ℕ) → r < g → g ≤ 36 → r * (g * g) + g * g ≤ 46656

@@ -1,28 +1,11 @@
--- The genotypes of n clusters, and the triples in the order of the search. Definitions only (RULES.md, T1).
-use Prim.Native.Nat.{ℕ, zero, suc, _*_, _/_, _%_}
+-- Which genotype stands where, and the triples in the order of the search. Definitions only (RULES.md, T1).
+use Prim.Native.Nat.{ℕ, _*_, _/_, _%_}
 use mathlib.Core.List.{List, [], _∷_, _++_, map}
-use lib.ListN.{length, getD}
+use lib.ListN.{getD}
 use Rattle.family.specs.declared.pair.Pair.{Pair}
 use Rattle.family.specs.declared.pair.Triple.{Triple}
+use Rattle.family.specs.Genotypes.{genotypes, genotypeCount}
 use Rattle.family.specs.Mendel.{pair}
-
--- m pairs from (i, j) on, the second number rising
-abbrev pub pairsWith : ℕ → ℕ → ℕ → List Pair
-pairsWith i j zero = []
-pairsWith i j (suc m) = pair i j ∷ pairsWith i (suc j) m
-
--- the pairs of the m clusters from i on: (i,i), (i,i+1) .., then those from i+1 on
-abbrev pub pairsFrom : ℕ → ℕ → List Pair
-pairsFrom i zero = []
-pairsFrom i (suc m) = pairsWith i i (suc m) ++ pairsFrom (suc i) m
-
--- (0,0), (0,1) .. (0,n-1), (1,1) ..
-abbrev pub genotypes : ℕ → List Pair
-genotypes n = pairsFrom 0 n
-
--- G, counted from the list; also the number of rows, since a row is one genotype of the father
-unfoldable pub genotypeCount : ℕ → ℕ
-genotypeCount n = length (genotypes n)
 
 -- genotype k; past the last, zeros
 unfoldable pub genotypeAt : ℕ → ℕ → Pair

@@ -1,6 +1,5 @@
--- The definitions of `trio`: genotypes and triples, an animal's score, a triple's score, a part and its right shape, the four steps.
+-- The definitions of `trio`: triples, an animal's score, a triple's score, and what a row, a merge and a closing give.
 pub mod Genotypes
 pub mod Samples
 pub mod Score
-pub mod Part
 pub mod Steps

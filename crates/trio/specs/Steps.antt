@@ -1,15 +1,14 @@
--- The four steps at every input: what each gives, refusals and the part handed back with it. Definitions only (RULES.md, O1, O2, T6, T8 to T10).
-use Prim.Native.Nat.{ℕ, _*_}
-use mathlib.Core.Bool.{Bool, true, false, not, cond, decide, _&&_, _||_}
-use mathlib.Core.List.{List, [], _∷_}
+-- The steps after opening, at every input: what each gives, refusals and the part handed back with it. Definitions only (RULES.md, O1, O2, T6, T8 to T10).
+use Prim.Native.Nat.{ℕ}
+use mathlib.Core.Bool.{Bool, false, cond, decide, _&&_, _||_}
+use mathlib.Core.List.{List}
 use lib.Dec.{eqb, ltb, leb}
-use lib.ListN.{length}
 use lib.IntN.{ℤ-discrete}
 use lib.Ieee.{Float}
 use Rattle.floats.specs.F64.{nat}
 use Rattle.floats.specs.Key.{keyOf}
 use Rattle.refusals.specs.declared.Refusal.{Refusal}
-use Rattle.refusals.specs.declared.Refusal.the-variants.{Done, NoCluster, TooMany, Shape, Count, Weight, Row, OtherTrio, NotComplete, BadPart}
+use Rattle.refusals.specs.declared.Refusal.the-variants.{Done, Row, OtherTrio, NotComplete, BadPart}
 use Rattle.search.specs.declared.held.Held.{Held}
 use Rattle.search.specs.Held.{noEntry}
 use Rattle.search.specs.Marks.{fullMarks}
@@ -20,18 +19,15 @@ use Rattle.family.specs.declared.sample.Sample.{Sample}
 use Rattle.family.specs.declared.ground.Ground.{Ground}
 use Rattle.family.specs.declared.ground.Ground.the-variants.{NoGround, Won, Tied, Unread}
 use Rattle.trio.specs.declared.closing.Closed.{Closed}
-use Rattle.trio.specs.declared.part.Part.{Part}
-use Rattle.trio.specs.declared.part.Stepped.{Stepped}
+use Rattle.parts.specs.declared.part.Part.{Part}
+use Rattle.parts.specs.declared.part.Stepped.{Stepped}
 use Rattle.family.specs.declared.sample.Sample.the-variants.{Child, Father, Mother}
 use Rattle.trio.specs.Genotypes.{rowWidth, tripleAt}
 use Rattle.family.specs.Mendel.{pair}
 use Rattle.trio.specs.Samples.{columnTotal, sampleScore}
 use Rattle.family.specs.Numbers.{sampleNumber}
 use Rattle.trio.specs.Score.{scoreOf}
-use Rattle.trio.specs.Part.{countAllowed, weightAllowed, sameInput, rowCount, workIn, withWork, rightPart, freshPart, emptyPart}
-
-abbrev pub gives : Refusal → Part → Stepped
-gives r p = record { refusal = r; part = p }
+use Rattle.parts.specs.Part.{sameInput, rowCount, workIn, withWork, rightPart, gives}
 
 -- ---- one animal
 
@@ -41,23 +37,6 @@ sampleStep p s h =
     cond (rightPart p)
     (record { refusal = Done; score = sampleScore (p .clusters) (p .counts) (p .weights) (sampleNumber s) h })
     (record { refusal = BadPart; score = nat 0 })
-
--- ---- opening
-
--- do all elements of a list pass a test?
-abbrev pub every : {A : Type 0} → (A → Bool) → List A → Bool
-every passes [] = true
-every passes (x ∷ l) = passes x && every passes l
-
--- O1: no cluster, too many, the wrong number of counts or weights, a count, a weight; else a part with no row worked
-unfoldable pub openStep : ℕ → List ℕ → List Float → Stepped
-openStep n counts weights =
-    cond (eqb n 0) (gives NoCluster emptyPart)
-    (cond (ltb 8 n) (gives TooMany emptyPart)
-    (cond (not (eqb (length counts) (3 * n) && eqb (length weights) n)) (gives Shape emptyPart)
-    (cond (not (every countAllowed counts)) (gives Count emptyPart)
-    (cond (not (every weightAllowed weights)) (gives Weight emptyPart)
-    (gives Done (freshPart n counts weights))))))
 
 -- ---- rows and merging
 

@@ -2,15 +2,15 @@
 ghost use mathlib.Core.Path.{_≡_};
 ghost use Prim.Native.Nat.{_≤_};
 ghost use Rattle.trio.specs.Steps.{groundOf, unread, refusedClosing, closedAs, closeStep};
-use crate::genotypes::genotype_count;
 use crate::genotypes::triple_at;
-use crate::part::Part;
 use crate::samples::column_total;
-use crate::shape::right_part;
+use family::genotypes::genotype_count;
 use family::ground::Ground;
 use family::pair::Pair;
 use family::pair::Triple;
 use floats::key::key;
+use parts::part::Part;
+use parts::shape::right_part;
 use refusals::Refusal;
 use search::entry::Entry;
 use search::held::Held;
@@ -106,7 +106,7 @@ pub fn close(p: Part) -> Closed
     ensures { λ r. ⌜ r ≡ closeStep p ⌝ }
 {
     if right_part(p) {
-        if all_marked(genotype_count(p.clusters), p.marks) {
+        if all_marked(genotype_count(p.clusters as u32), p.marks) {
             return closed_as(p);
         }
         return refused_closing(Refusal::NotComplete, p);

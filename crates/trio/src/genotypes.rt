@@ -1,18 +1,10 @@
-// The genotypes of n clusters, and the triple at a position (docs/RULES.md, T1).
+// The genotype at a place of the list, and the triple at a position (docs/RULES.md, T1).
 ghost use mathlib.Core.Path.{_≡_};
 ghost use Prim.Native.Nat.{_≤_};
-ghost use Rattle.trio.specs.Genotypes.{genotypeCount, genotypeAt, tripleAt};
+ghost use Rattle.trio.specs.Genotypes.{genotypeAt, tripleAt};
+use family::genotypes::genotype_count;
 use family::pair::Pair;
 use family::pair::Triple;
-
-// How many genotypes n clusters have.
-pub(crate) fn genotype_count(n: u64) -> u64
-    requires { ⌜ n ≤ 8 ⌝ }
-    ensures { λ r. ⌜ r ≡ genotypeCount n ⌝ }
-    ensures { λ r. ⌜ r ≤ 36 ⌝ }
-{
-    n * (n + 1) / 2
-}
 
 // Genotype k of n clusters: those with the lower number i are n - i in a row.
 pub(crate) fn genotype_at(n: u64, k: u64) -> Pair
@@ -38,7 +30,7 @@ pub(crate) fn triple_at(n: u64, position: u64) -> Triple
     requires { ⌜ (1 ≤ n) × (n ≤ 8) ⌝ }
     ensures { λ r. ⌜ r ≡ tripleAt n position ⌝ }
 {
-    let g = genotype_count(n);
+    let g = genotype_count(n as u32);
     let father = genotype_at(n, position / (g * g));
     let mother = genotype_at(n, position / g % g);
     let child = genotype_at(n, position % g);

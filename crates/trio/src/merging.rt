@@ -1,12 +1,12 @@
 // Merging two parts of one trio (docs/RULES.md, T8).
 ghost use mathlib.Core.Path.{_≡_};
 ghost use Rattle.search.specs.Work as work;
-ghost use Rattle.trio.specs.Part.{withWork, workIn};
+ghost use Rattle.parts.specs.Part.{withWork, workIn};
 ghost use Rattle.trio.specs.Steps.{mergeStep};
-use crate::part::Part;
-use crate::part::Stepped;
-use crate::shape::right_part;
-use crate::shape::same_input;
+use parts::part::Part;
+use parts::part::Stepped;
+use parts::shape::right_part;
+use parts::shape::same_input;
 use refusals::Refusal;
 use search::held::merge_held;
 

@@ -4,14 +4,14 @@ ghost use Prim.Native.Nat.{_+_, _*_, _≤_, _<_, _^_};
 ghost use Rattle.search.specs.Held.{heldOf};
 ghost use Rattle.search.specs.Work.{onePass, entriesFrom, rowWork};
 ghost use Rattle.trio.specs.Score.{scoreOf};
-ghost use Rattle.trio.specs.Part.{withWork};
+ghost use Rattle.parts.specs.Part.{withWork};
 ghost use Rattle.trio.specs.Steps.{rowsIn, rowStep};
-use crate::genotypes::genotype_count;
 use crate::merging::joined;
-use crate::part::Part;
-use crate::part::Stepped;
 use crate::score::score_at;
-use crate::shape::right_part;
+use family::genotypes::genotype_count;
+use parts::part::Part;
+use parts::part::Stepped;
+use parts::shape::right_part;
 use refusals::Refusal;
 use search::entry::Entry;
 use search::held::Held;
@@ -57,7 +57,7 @@ pub fn row_count(p: Part) -> u64
     ensures { λ r. ⌜ r ≡ rowsIn p ⌝ }
 {
     if right_part(p) {
-        return genotype_count(p.clusters);
+        return genotype_count(p.clusters as u32);
     }
     0
 }
@@ -67,7 +67,7 @@ pub fn work_row(p: Part, r: u64) -> Stepped
     ensures { λ s. ⌜ s ≡ rowStep p r ⌝ }
 {
     if right_part(p) {
-        let g = genotype_count(p.clusters);
+        let g = genotype_count(p.clusters as u32);
         if r < g {
             let q = row_part(p, r, g);
             return Stepped {

@@ -9,9 +9,9 @@ use crate::words::U64;
 use crate::write;
 use crate::write::Out;
 use crate::write::Text;
+use parts::part::Part;
 use search::entry::Entry;
 use search::held::Held;
-use trio::part::Part;
 
 pub type Registers = [Part; 10];
 

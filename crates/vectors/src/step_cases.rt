@@ -10,10 +10,10 @@ use crate::words::U32;
 use crate::write;
 use crate::write::Out;
 use crate::write::Text;
+use parts::part::Part;
+use parts::part::Stepped;
 use trio::closing;
 use trio::merging;
-use trio::part::Part;
-use trio::part::Stepped;
 use trio::rows;
 
 // Two registers that end a line.

@@ -13,11 +13,11 @@ use family::ground;
 use family::mendel;
 use family::pair::Pair;
 use family::sample::Sample;
+use parts::opening;
+use parts::part::Part;
+use parts::part::Stepped;
 use trio::animal;
 use trio::closing::Closed;
-use trio::opening;
-use trio::part::Part;
-use trio::part::Stepped;
 
 // A pair, with the cursor behind it.
 enum ReadPair {

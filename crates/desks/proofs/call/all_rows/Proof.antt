@@ -4,8 +4,8 @@ use mathlib.Core.Path.{_≡_, refl, sym, ap, _∙_}
 use native.Mathlib.Numerals.{add-one}
 use native.Mathlib.Omega.{arith}
 use borrow.Author.Needs.{needs}
-use Rattle.trio.specs.declared.part.Part.{Part}
-use Rattle.trio.specs.declared.part.Stepped.{Stepped}
+use Rattle.parts.specs.declared.part.Part.{Part}
+use Rattle.parts.specs.declared.part.Stepped.{Stepped}
 use Rattle.trio.specs.Steps.{rowStep}
 use Rattle.desks.specs.Call.{workedTo}
 use Rattle.desks.proofs.call.all_rows.Statement.{statement}

@@ -7,10 +7,10 @@ use lib.Dec.{lit<}
 use lib.Ieee.{round, ofInt, ofBits}
 use Rattle.family.specs.declared.sample.Sample.{Sample}
 use Rattle.family.specs.declared.sample.Sample.the-variants.{Child, Father, Mother}
-use Rattle.trio.specs.Part.{rightPart}
+use Rattle.parts.specs.Part.{rightPart}
 use Rattle.family.specs.Numbers.{sampleNumber}
 use Rattle.trio.specs.Steps.{sampleStep}
-use Rattle.trio.proofs.ShapeCode.{few-clusters}
+use Rattle.parts.proofs.ShapeCode.{few-clusters}
 use Rattle.trio.proofs.animal.sample_score.Statement.{statement}
 use Rattle.trio.proofs.animal.sample_score.Tie as tie
 

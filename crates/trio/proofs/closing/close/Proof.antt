@@ -2,44 +2,51 @@
 use Prim.Native.Nat.{ℕ}
 use mathlib.Core.Bool.{true}
 use mathlib.Core.Path.{_≡_, sym, ap, _∙_}
+use native.Mathlib.Omega.{arith}
 use borrow.Author.Needs.{needs}
 use lib.Dec.{eqb}
 use Rattle.search.specs.Marks.{fullMarks}
-use Rattle.trio.specs.Part.{rowCount, rightPart}
+use Rattle.parts.specs.Part.{rowCount, rightPart}
 use Rattle.trio.specs.Steps.{closeStep}
-use Rattle.trio.proofs.ShapeCode.{some-clusters, few-clusters}
+use Rattle.parts.proofs.ShapeCode.{some-clusters, few-clusters}
 use Rattle.trio.proofs.closing.close.Statement.{statement}
 use Rattle.trio.proofs.closing.close.Tie as tie
 
 right : (c : tie.Then1) → rightPart (c .before .before .args .p) ≡ true
 right c = sym (c .before .right-part .ensures) ∙ c .if1 .taken
 
-marks : (c : tie.After-all-marked) → eqb (c .before .before .before .before .args .p .marks) (fullMarks (rowCount (c .before .before .before .before .args .p))) ≡ c .all-marked .result
+marks : (c : tie.After-all-marked) → eqb (c .before .before .before .before .before .args .p .marks) (fullMarks (rowCount (c .before .before .before .before .before .args .p))) ≡ c .all-marked .result
 marks c =
-    ap (λ (n : ℕ). eqb (c .before .before .before .before .args .p .marks) (fullMarks n)) (sym (c .before .genotype-count .ensures .0)) ∙ sym (c .all-marked .ensures)
+    ap (λ (n : ℕ). eqb (c .before .before .before .before .before .args .p .marks) (fullMarks n)) (sym (c .before .genotype-count .ensures)) ∙ sym (c .all-marked .ensures)
 
 right-part-requires : tie.Need-right-part-requires
 right-part-requires c κs = search needs
 
+cast-genotype-count : tie.Need-cast-genotype-count
+cast-genotype-count c = let few = few-clusters (c .before .before .before .args .p) (right (c .before)) in omega arith
+
 genotype-count-requires : tie.Need-genotype-count-requires
-genotype-count-requires c κs = few-clusters (c .before .before .args .p) (right c)
+genotype-count-requires c κs = search needs
 
 all-marked-requires : tie.Need-all-marked-requires
 all-marked-requires c κs = search needs
 
 closed-as-requires : tie.Need-closed-as-requires
-closed-as-requires c κs = let p = c .before .before .before .before .before .args .p in (some-clusters p (right (c .before .before .before)), few-clusters p (right (c .before .before .before)))
+closed-as-requires c κs =
+    let p = c .before .before .before .before .before .before .args .p in
+    let t = right (c .before .before .before .before) in
+    (some-clusters p t, few-clusters p t)
 
 returns : tie.Need-returns
 unfolding closeStep
-returns c = rw (right (c .before .before .before .before), marks (c .before .before) ∙ c .before .if2 .taken) (c .closed-as .ensures)
+returns c = rw (right (c .before .before .before .before .before), marks (c .before .before) ∙ c .before .if2 .taken) (c .closed-as .ensures)
 
 refused-closing-requires : tie.Need-refused-closing-requires
 refused-closing-requires c κs = search needs
 
 returns-2 : tie.Need-returns-2
 unfolding closeStep
-returns-2 c = rw (right (c .before .before .before .before), marks (c .before .before) ∙ c .before .if2 .left) (c .refused-closing .ensures)
+returns-2 c = rw (right (c .before .before .before .before .before), marks (c .before .before) ∙ c .before .if2 .left) (c .refused-closing .ensures)
 
 refused-closing-requires-2 : tie.Need-refused-closing-requires-2
 refused-closing-requires-2 c κs = search needs
@@ -53,6 +60,7 @@ close-spec =
     tie.close
     (tie.spec
     right-part-requires
+    cast-genotype-count
     genotype-count-requires
     all-marked-requires
     closed-as-requires

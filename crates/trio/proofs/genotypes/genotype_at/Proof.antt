@@ -5,7 +5,8 @@ use mathlib.Core.Path.{_≡_, sym, ap, _∙_}
 use native.Mathlib.Nat.{sub-zero}
 use native.Mathlib.Omega.{arith}
 use lib.ListN.{getD}
-use Rattle.trio.specs.Genotypes.{pairsFrom, genotypeAt}
+use Rattle.family.specs.Genotypes.{pairsFrom}
+use Rattle.trio.specs.Genotypes.{genotypeAt}
 use Rattle.family.specs.Mendel.{pair}
 use Rattle.trio.proofs.GenotypesLaws.{at-first, at-later}
 use Rattle.trio.proofs.genotypes.genotype_at.Statement.{statement}

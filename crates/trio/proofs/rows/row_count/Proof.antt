@@ -1,10 +1,11 @@
 -- `trio::rows::row_count` meets its contract. By the shape of the part.
 use mathlib.Core.Bool.{true}
 use mathlib.Core.Path.{_≡_, sym, _∙_}
+use native.Mathlib.Omega.{arith}
 use borrow.Author.Needs.{needs}
-use Rattle.trio.specs.Part.{rightPart}
+use Rattle.parts.specs.Part.{rightPart}
 use Rattle.trio.specs.Steps.{rowsIn}
-use Rattle.trio.proofs.ShapeCode.{few-clusters}
+use Rattle.parts.proofs.ShapeCode.{few-clusters}
 use Rattle.trio.proofs.rows.row_count.Statement.{statement}
 use Rattle.trio.proofs.rows.row_count.Tie as tie
 
@@ -14,16 +15,19 @@ right c = sym (c .before .right-part .ensures) ∙ c .if1 .taken
 right-part-requires : tie.Need-right-part-requires
 right-part-requires c κs = search needs
 
+cast-genotype-count : tie.Need-cast-genotype-count
+cast-genotype-count c = let few = few-clusters (c .before .before .before .args .p) (right (c .before)) in omega arith
+
 genotype-count-requires : tie.Need-genotype-count-requires
-genotype-count-requires c κs = few-clusters (c .before .before .args .p) (right c)
+genotype-count-requires c κs = search needs
 
 returns : tie.Need-returns
 unfolding rowsIn
-returns c = rw (right (c .before)) (c .genotype-count .ensures .0)
+returns c = rw (right (c .before .before)) (c .genotype-count .ensures)
 
 returns-2 : tie.Need-returns-2
 unfolding rowsIn
 returns-2 c = rw (sym (c .before .right-part .ensures) ∙ c .if1 .left)
 
 pub row-count-spec : {M : Type 1} → statement M
-row-count-spec = tie.close (tie.spec right-part-requires genotype-count-requires returns returns-2)
+row-count-spec = tie.close (tie.spec right-part-requires cast-genotype-count genotype-count-requires returns returns-2)

@@ -1,13 +1,15 @@
 -- `trio::rows::work_row` meets its contract. By each test in turn; a worked row is `row-done`.
+use Prim.Native.Nat.{ℕ, _≤_}
 use mathlib.Core.Bool.{true}
-use mathlib.Core.Path.{_≡_, sym, _∙_}
+use mathlib.Core.Path.{_≡_, sym, subst, _∙_}
 use native.Mathlib.Omega.{arith}
 use borrow.Author.Needs.{needs}
 use borrow.Author.Tests.{le-ltb}
-use Rattle.trio.specs.Part.{rowCount, rightPart}
+use Rattle.parts.specs.Part.{rowCount, rightPart}
 use Rattle.trio.specs.Steps.{rowStep}
 use Rattle.trio.proofs.RowCode.{row-done}
-use Rattle.trio.proofs.ShapeCode.{some-clusters, few-clusters}
+use Rattle.family.proofs.GenotypesLaws.{genotypes-few}
+use Rattle.parts.proofs.ShapeCode.{some-clusters, few-clusters}
 use Rattle.trio.proofs.rows.work_row.Statement.{statement}
 use Rattle.trio.proofs.rows.work_row.Tie as tie
 
@@ -17,30 +19,33 @@ right c = sym (c .before .right-part .ensures) ∙ c .if1 .taken
 right-part-requires : tie.Need-right-part-requires
 right-part-requires c κs = search needs
 
+cast-genotype-count : tie.Need-cast-genotype-count
+cast-genotype-count c = let few = few-clusters (c .before .before .before .args .p) (right (c .before)) in omega arith
+
 genotype-count-requires : tie.Need-genotype-count-requires
-genotype-count-requires c κs = few-clusters (c .before .before .args .p) (right c)
+genotype-count-requires c κs = search needs
 
 row-part-requires : tie.Need-row-part-requires
 row-part-requires c κs =
-    let p = c .before .before .before .before .args .p in
-    let t = right (c .before .before) in
-    (((some-clusters p t, few-clusters p t), c .if2 .taken), c .before .genotype-count .ensures .1)
+    let p = c .before .before .before .before .before .args .p in
+    let t = right (c .before .before .before) in
+    (((some-clusters p t, few-clusters p t), c .if2 .taken), subst (λ (n : ℕ). n ≤ 36) (sym (c .before .genotype-count .ensures)) (genotypes-few (p .clusters) (few-clusters p t)))
 
 joined-requires : tie.Need-joined-requires
 joined-requires c κs = search needs
 
 returns : tie.Need-returns
 returns c =
-    let a = c .before .before .before .before .before .before .args in
+    let a = c .before .before .before .before .before .before .before .args in
     let g = c .before .before .before .genotype-count in
-    row-done (a .p) (c .before .row-part .result) (c .joined .result) (a .r) (g .result) (right (c .before .before .before .before)) (c .before .before .if2 .taken) (g .ensures .0) (c .before .row-part .ensures) (c .joined .ensures)
+    row-done (a .p) (c .before .row-part .result) (c .joined .result) (a .r) (g .result) (right (c .before .before .before .before .before)) (c .before .before .if2 .taken) (g .ensures) (c .before .row-part .ensures) (c .joined .ensures)
 
 returns-2 : tie.Need-returns-2
 unfolding rowStep
 returns-2 c =
-    let a = c .before .before .before .before .args in
-    let g = c .before .genotype-count .ensures .0 in
-    rw (right (c .before .before), le-ltb (a .r) (rowCount (a .p)) (omega arith))
+    let a = c .before .before .before .before .before .args in
+    let g = c .before .genotype-count .ensures in
+    rw (right (c .before .before .before), le-ltb (a .r) (rowCount (a .p)) (omega arith))
 
 returns-3 : tie.Need-returns-3
 unfolding rowStep
@@ -51,6 +56,7 @@ work-row-spec =
     tie.close
     (tie.spec
     right-part-requires
+    cast-genotype-count
     genotype-count-requires
     row-part-requires
     joined-requires

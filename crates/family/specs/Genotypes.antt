@@ -1,0 +1,24 @@
+-- The genotypes of n clusters. Definitions only (RULES.md, T1).
+use Prim.Native.Nat.{ℕ, zero, suc}
+use mathlib.Core.List.{List, [], _∷_, _++_}
+use lib.ListN.{length}
+use Rattle.family.specs.declared.pair.Pair.{Pair}
+use Rattle.family.specs.Mendel.{pair}
+
+-- m pairs from (i, j) on, the second number rising
+abbrev pub pairsWith : ℕ → ℕ → ℕ → List Pair
+pairsWith i j zero = []
+pairsWith i j (suc m) = pair i j ∷ pairsWith i (suc j) m
+
+-- the pairs of the m clusters from i on: (i,i), (i,i+1) .., then those from i+1 on
+abbrev pub pairsFrom : ℕ → ℕ → List Pair
+pairsFrom i zero = []
+pairsFrom i (suc m) = pairsWith i i (suc m) ++ pairsFrom (suc i) m
+
+-- (0,0), (0,1) .. (0,n-1), (1,1) ..
+abbrev pub genotypes : ℕ → List Pair
+genotypes n = pairsFrom 0 n
+
+-- G, counted from the list; also the number of rows, since a row is one genotype of the father
+unfoldable pub genotypeCount : ℕ → ℕ
+genotypeCount n = length (genotypes n)

@@ -1,0 +1,5 @@
+-- What belongs to no one function of `parts`.
+pub mod PlacesLaws
+pub mod SameLaws
+pub mod OpenLaws
+pub mod ShapeCode

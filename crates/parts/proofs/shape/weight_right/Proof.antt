@@ -1,0 +1,22 @@
+-- `parts::shape::weight_right` meets its contract. By the flag.
+use Prim.Native.Nat.{ℕ}
+use mathlib.Core.Path.{ap}
+use lib.Dec.{eqb}
+use borrow.Author.Needs.{needs}
+use Rattle.parts.proofs.shape.weight_right.Statement.{statement}
+use Rattle.parts.proofs.shape.weight_right.Tie as tie
+
+weight-allowed-requires : tie.Need-weight-allowed-requires
+weight-allowed-requires c κs = search needs
+
+returns : tie.Need-returns
+returns c = rw (c .before .if1 .taken) (c .weight-allowed .ensures)
+
+bits-requires : tie.Need-bits-requires
+bits-requires c κs = search needs
+
+returns-2 : tie.Need-returns-2
+returns-2 c = rw (c .before .if1 .left) (ap (λ (n : ℕ). eqb n 0) (c .bits .ensures))
+
+pub weight-right-spec : {M : Type 1} → statement M
+weight-right-spec = tie.close (tie.spec weight-allowed-requires returns bits-requires returns-2)

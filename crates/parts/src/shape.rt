@@ -1,0 +1,133 @@
+// The right shape of a part, and whether two have the same input (docs/RULES.md, S1, R9).
+ghost use mathlib.Core.Path.{_≡_};
+ghost use mathlib.Core.Bool.{cond};
+ghost use mathlib.Core.List.{map};
+ghost use lib.Ieee.{binary64, toBits};
+ghost use Rattle.parts.specs.Part.{countAllowed, noCount, weightAllowed, noWeight, placesRight, sameNumbers, sameInput, rightPart};
+use crate::part::Part;
+use family::genotypes::genotype_count;
+use floats::bits::bits;
+use search::shape::work_right;
+
+fn count_right(x: u32, in_use: bool) -> bool
+    ensures { λ r. ⌜ r ≡ cond «in_use» (countAllowed x) (noCount x) ⌝ }
+{
+    if in_use { x <= 1000000 } else { x == 0 }
+}
+
+// Are the counts in use within the limit, and the others 0?
+fn counts_right(counts: [u32; 24], used: u64) -> bool
+    ensures { λ r. ⌜ r ≡ placesRight countAllowed noCount used counts ⌝ }
+{
+    let mut i: u64 = 0;
+    while i < 24 {
+        if count_right(counts[i as usize], i < used) {
+            i += 1;
+        } else {
+            return false;
+        }
+    }
+    true
+}
+
+pub(crate) fn weight_allowed(x: f64) -> bool
+    ensures { λ r. ⌜ r ≡ weightAllowed x ⌝ }
+{
+    if 0.0 <= x {
+        return x <= 1000.0;
+    }
+    false
+}
+
+fn weight_right(x: f64, in_use: bool) -> bool
+    ensures { λ r. ⌜ r ≡ cond «in_use» (weightAllowed x) (noWeight x) ⌝ }
+{
+    if in_use {
+        return weight_allowed(x);
+    }
+    bits(x) == 0
+}
+
+// Are the weights in use within the limits, and the others zero in every bit?
+fn weights_right(weights: [f64; 8], used: u64) -> bool
+    ensures { λ r. ⌜ r ≡ placesRight weightAllowed noWeight used weights ⌝ }
+{
+    let mut i: u64 = 0;
+    while i < 8 {
+        if weight_right(weights[i as usize], i < used) {
+            i += 1;
+        } else {
+            return false;
+        }
+    }
+    true
+}
+
+// Does a part have the right shape?
+pub fn right_part(p: Part) -> bool
+    ensures { λ b. ⌜ b ≡ rightPart p ⌝ }
+{
+    let n = p.clusters;
+    let counts = p.counts;
+    let weights = p.weights;
+    let held = p.held;
+    if n < 1 {
+        return false;
+    }
+    if 8 < n {
+        return false;
+    }
+    if counts_right(counts, 3 * n) {
+        if weights_right(weights, n) {
+            let rows = genotype_count(n as u32);
+            return work_right(rows, p.marks, held);
+        }
+    }
+    false
+}
+
+fn same_counts(a: [u32; 24], b: [u32; 24]) -> bool
+    ensures { λ r. ⌜ r ≡ sameNumbers a b ⌝ }
+{
+    let mut i: usize = 0;
+    while i < 24 {
+        if a[i] != b[i] {
+            return false;
+        }
+        i += 1;
+    }
+    true
+}
+
+// Bit for bit: 0.0 and -0.0 differ.
+fn same_weights(a: [f64; 8], b: [f64; 8]) -> bool
+    ensures { λ r. ⌜ r ≡ sameNumbers (map (toBits binary64) a) (map (toBits binary64) b) ⌝ }
+{
+    let mut i: usize = 0;
+    while i < 8 {
+        let x = bits(a[i]);
+        let y = bits(b[i]);
+        if x != y {
+            return false;
+        }
+        i += 1;
+    }
+    true
+}
+
+// Do two parts have the same input?
+pub fn same_input(a: Part, b: Part) -> bool
+    ensures { λ r. ⌜ r ≡ sameInput a b ⌝ }
+{
+    if a.clusters != b.clusters {
+        return false;
+    }
+    let ca = a.counts;
+    let cb = b.counts;
+    if same_counts(ca, cb) {
+        let wa = a.weights;
+        let wb = b.weights;
+        return same_weights(wa, wb);
+    }
+    false
+}
