@@ -11,7 +11,8 @@ use lib.ListN.{length, getD, List·getD-eq-default}
 use lib.Ieee.{nan, isNan}
 use Rattle.search.proofs.ShapeLaws.{and-both}
 use Rattle.parts.specs.declared.part.Part.{Part}
-use Rattle.parts.specs.Part.{countAllowed, noCount, weightAllowed, noWeight, placesRight, inputRight}
+use Rattle.limits.specs.Limits.{countAllowed}
+use Rattle.parts.specs.Part.{noCount, weightAllowed, noWeight, placesRight, inputRight}
 use Rattle.trio.specs.Steps.{scoreIn}
 use Rattle.desks.specs.Accepted.{Accepted}
 use Rattle.desks.proofs.ScoreBounds.{score-number}

@@ -19,8 +19,10 @@ use Rattle.search.proofs.ShapeLaws.{and-true, and-both, work-right}
 use Rattle.search.proofs.WorkLaws.{none-sound}
 use Rattle.parts.specs.declared.part.Stepped.{Stepped}
 use Rattle.family.specs.Genotypes.{genotypeCount}
-use Rattle.parts.specs.Part.{countAllowed, noCount, weightAllowed, noWeight, placesRight, inputRight, padded, freshPart, emptyPart, rightPart, gives}
-use Rattle.parts.specs.Opening.{every, openStep}
+use Rattle.limits.specs.Limits.{countAllowed}
+use Rattle.parts.specs.Part.{noCount, weightAllowed, noWeight, placesRight, inputRight, padded, freshPart, emptyPart, rightPart, gives}
+use Rattle.limits.specs.Every.{every}
+use Rattle.parts.specs.Opening.{openStep}
 
 -- ---- what it tells
 

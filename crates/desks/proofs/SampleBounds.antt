@@ -31,7 +31,7 @@ use Rattle.trio.specs.Samples.{upFrom, clusters, reads, sum, columnTotal, sumFr
 use Rattle.parts.specs.Part.{weightAllowed}
 use Rattle.trio.proofs.SampleLaws.{count-at-most}
 use Rattle.desks.specs.Accepted.{Accepted}
-use Rattle.parts.specs.Opening.{every}
+use Rattle.limits.specs.Every.{every}
 use Rattle.desks.proofs.Every.{every-at, every-between}
 
 -- ---- the divided expectations: with two clusters or more each lies between 0 and 1

@@ -23,7 +23,7 @@ use Rattle.family.specs.Mendel.{ordered, among, childPairs, mendelTerm}
 use Rattle.trio.specs.Samples.{upFrom, columnTotal, sampleScore}
 use Rattle.trio.specs.Score.{tripleScore, scoreOf}
 use Rattle.desks.specs.Accepted.{Accepted}
-use Rattle.parts.specs.Opening.{every}
+use Rattle.limits.specs.Every.{every}
 use Rattle.desks.proofs.Every.{every-between}
 use Rattle.desks.proofs.ChildPairLaws.{child-pairs-few}
 use Rattle.desks.proofs.SampleBounds.{sample-least, sample-within, sample-low}

@@ -1,27 +1,11 @@
--- Lists that an opening goes through: a test on what is left from place i on, and a list laid into a longer one place by place.
-use Prim.Native.Nat.{ℕ, zero, suc, _+_, _≤_, _<_}
-use mathlib.Core.Bool.{Bool, true, false, _&&_}
+-- A list laid into a longer one, place by place.
+use Prim.Native.Nat.{ℕ, zero, suc, _+_, _<_}
 use mathlib.Core.List.{List, [], _∷_}
-use mathlib.Core.Path.{_≡_, refl, sym, ap, _∙_}
+use mathlib.Core.Path.{_≡_, refl, ap}
 use native.Mathlib.Nat.{not-suc-le-zero, le-of-suc-le-suc}
 use native.Mathlib.Numerals.{add-one}
-use lib.ListN.{length, getD, take, drop, set, drop-of-length-le}
-use lib.Seq.{drop-cons}
+use lib.ListN.{length, getD, take, set}
 use Rattle.parts.specs.Part.{padded}
-use Rattle.parts.specs.Opening.{every}
-
-module _ {A : Type 0} (passes : A → Bool) (d : A) (l : List A) (i : ℕ) where
-  every-step : i < length l → every passes (drop i l) ≡ (passes (getD l i d) && every passes (drop (i + 1) l))
-  every-step h = rw (add-one i, drop-cons l i d h)
-
-  pub every-more : i < length l → passes (getD l i d) ≡ true → every passes (drop (i + 1) l) ≡ every passes (drop i l)
-  every-more h e = sym (every-step h ∙ ap (λ (t : Bool). t && every passes (drop (i + 1) l)) e)
-
-  pub every-bad : i < length l → passes (getD l i d) ≡ false → false ≡ every passes (drop i l)
-  every-bad h e = sym (every-step h ∙ ap (λ (t : Bool). t && every passes (drop (i + 1) l)) e)
-
-  pub every-end : length l ≤ i → true ≡ every passes (drop i l)
-  every-end h = rw (drop-of-length-le l h)
 
 module _ {A : Type 0} (z d : A) where
   laid-suc : (k i : ℕ) (l : List A) → i < k → i < length l → set (padded k z (take i l)) i (getD l i d) ≡ padded k z (take (suc i) l)

@@ -3,8 +3,9 @@ use Prim.Native.Nat.{ℕ, zero, suc, _*_}
 use mathlib.Core.Bool.{Bool, true, false, _&&_}
 use mathlib.Core.List.{List, [], _∷_, map}
 use lib.Dec.{eqb, leb}
-use lib.Ieee.{Float, binary64, le, toBits}
+use lib.Ieee.{Float, binary64, toBits}
 use Rattle.floats.specs.F64.{nat}
+use Rattle.limits.specs.Limits.{inRange, countAllowed}
 use Rattle.search.specs.Held.{heldOf, heldList}
 use Rattle.search.specs.Shape.{workRight}
 use Rattle.search.specs.Work.{Work, noWork}
@@ -15,13 +16,9 @@ use Rattle.parts.specs.declared.part.Stepped.{Stepped}
 
 -- ---- the input
 
--- L1
-abbrev pub countAllowed : ℕ → Bool
-countAllowed c = leb c 1000000
-
--- L3: a NaN is in no range
+-- L3
 unfoldable pub weightAllowed : Float → Bool
-weightAllowed x = le (nat 0) x && le x (nat 1000)
+weightAllowed x = inRange (nat 0) (nat 1000) x
 
 -- what an unused place holds: zero in every bit, so −0.0 is not
 abbrev pub noCount : ℕ → Bool

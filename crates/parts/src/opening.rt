@@ -2,41 +2,15 @@
 ghost use mathlib.Core.Path.{_≡_};
 ghost use Prim.Native.Nat.{_≤_};
 ghost use Rattle.floats.specs.F64.{nat};
-ghost use Rattle.parts.specs.Part.{countAllowed, weightAllowed, padded, freshPart, emptyPart, gives};
-ghost use Rattle.parts.specs.Opening.{every, openStep};
+ghost use Rattle.parts.specs.Part.{padded, freshPart, emptyPart, gives};
+ghost use Rattle.parts.specs.Opening.{openStep};
 ghost use lib.ListN.{length};
 use crate::part::Part;
 use crate::part::Stepped;
-use crate::shape::weight_allowed;
+use limits::counts::counts_allowed;
+use limits::ranges::all_in;
 use refusals::Refusal;
 use search::held::Held;
-
-fn counts_allowed(counts: &[u32]) -> bool
-    ensures { λ r. ⌜ r ≡ every countAllowed (now (counts .entry)) ⌝ }
-{
-    let mut i: usize = 0;
-    while i < counts.len() {
-        if counts[i] > 1000000 {
-            return false;
-        }
-        i += 1;
-    }
-    true
-}
-
-fn weights_allowed(weights: &[f64]) -> bool
-    ensures { λ r. ⌜ r ≡ every weightAllowed (now (weights .entry)) ⌝ }
-{
-    let mut i: usize = 0;
-    while i < weights.len() {
-        if weight_allowed(weights[i]) {
-            i += 1;
-        } else {
-            return false;
-        }
-    }
-    true
-}
 
 fn laid_counts(counts: &[u32]) -> [u32; 24]
     requires { ⌜ length (now counts) ≤ 24 ⌝ }
@@ -105,7 +79,7 @@ pub fn open_part(n: u64, counts: &[u32], weights: &[f64]) -> Stepped
     if !counts_allowed(counts) {
         return refused(Refusal::Count);
     }
-    if !weights_allowed(weights) {
+    if !all_in(0.0, 1000.0, weights) {
         return refused(Refusal::Weight);
     }
     Stepped {

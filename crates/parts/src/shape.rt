@@ -3,16 +3,19 @@ ghost use mathlib.Core.Path.{_≡_};
 ghost use mathlib.Core.Bool.{cond};
 ghost use mathlib.Core.List.{map};
 ghost use lib.Ieee.{binary64, toBits};
-ghost use Rattle.parts.specs.Part.{countAllowed, noCount, weightAllowed, noWeight, placesRight, sameNumbers, sameInput, rightPart};
+ghost use Rattle.limits.specs.Limits.{countAllowed};
+ghost use Rattle.parts.specs.Part.{noCount, weightAllowed, noWeight, placesRight, sameNumbers, sameInput, rightPart};
 use crate::part::Part;
 use family::genotypes::genotype_count;
 use floats::bits::bits;
+use limits::counts::count_allowed;
+use limits::ranges::in_range;
 use search::shape::work_right;
 
 fn count_right(x: u32, in_use: bool) -> bool
     ensures { λ r. ⌜ r ≡ cond «in_use» (countAllowed x) (noCount x) ⌝ }
 {
-    if in_use { x <= 1000000 } else { x == 0 }
+    if in_use { count_allowed(x) } else { x == 0 }
 }
 
 // Are the counts in use within the limit, and the others 0?
@@ -30,20 +33,11 @@ fn counts_right(counts: [u32; 24], used: u64) -> bool
     true
 }
 
-pub(crate) fn weight_allowed(x: f64) -> bool
-    ensures { λ r. ⌜ r ≡ weightAllowed x ⌝ }
-{
-    if 0.0 <= x {
-        return x <= 1000.0;
-    }
-    false
-}
-
 fn weight_right(x: f64, in_use: bool) -> bool
     ensures { λ r. ⌜ r ≡ cond «in_use» (weightAllowed x) (noWeight x) ⌝ }
 {
     if in_use {
-        return weight_allowed(x);
+        return in_range(0.0, 1000.0, x);
     }
     bits(x) == 0
 }

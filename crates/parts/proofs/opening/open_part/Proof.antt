@@ -5,10 +5,13 @@ use mathlib.Core.Path.{_≡_, sym, ap, _∙_}
 use borrow.Author.Needs.{needs}
 use borrow.Author.Tests.{eq-eqb, ne-eqb, lt-ltb, le-ltb, not-true, not-false}
 use lib.Dec.{eqb, ltb}
+use lib.Ieee.{round, ofInt, ofBits}
 use lib.ListN.{length}
 use Rattle.refusals.specs.declared.Refusal.the-variants.{Done}
-use Rattle.parts.specs.Part.{countAllowed, weightAllowed, gives}
-use Rattle.parts.specs.Opening.{every, openStep}
+use Rattle.limits.specs.Every.{every}
+use Rattle.limits.specs.Limits.{countsAllowed}
+use Rattle.parts.specs.Part.{weightAllowed, gives}
+use Rattle.parts.specs.Opening.{openStep}
 use Rattle.parts.proofs.opening.open_part.Statement.{statement}
 use Rattle.parts.proofs.opening.open_part.Tie as tie
 
@@ -26,11 +29,12 @@ counts-fit c = let a = c .before .before .before .before .before .args in eq-eqb
 weights-fit : (c : tie.Else4) → eqb (length (c .before .before .before .before .before .before .args .weights .now)) (c .before .before .before .before .before .before .args .n) ≡ true
 weights-fit c = let a = c .before .before .before .before .before .before .args in eq-eqb (length (a .weights .now)) (a .n) (c .if4 .left)
 
-counts-pass : (c : tie.Else5) → every countAllowed (c .before .before .before .before .before .before .before .before .args .counts .now) ≡ true
+counts-pass : (c : tie.Else5) → countsAllowed (c .before .before .before .before .before .before .before .before .args .counts .now) ≡ true
 counts-pass c = sym (c .before .counts-allowed .ensures) ∙ not-false (c .before .counts-allowed .result) (c .if5 .left)
 
 weights-pass : (c : tie.Else6) → every weightAllowed (c .before .before .before .before .before .before .before .before .before .before .args .weights .now) ≡ true
-weights-pass c = sym (c .before .weights-allowed .ensures) ∙ not-false (c .before .weights-allowed .result) (c .if6 .left)
+unfolding weightAllowed round ofInt ofBits
+weights-pass c = sym (c .before .all-in .ensures) ∙ not-false (c .before .all-in .result) (c .if6 .left)
 
 -- ---- the needs
 
@@ -81,16 +85,16 @@ returns-5 c =
     let counts = c .before .before .counts-allowed in
     rw (not-none (c .before .before .before .before .before .before), not-many (c .before .before .before .before .before), counts-fit (c .before .before .before .before), weights-fit (c .before .before .before), sym (counts .ensures) ∙ not-true (counts .result) (c .before .if5 .taken)) (c .refused5 .ensures)
 
-weights-allowed-requires : tie.Need-weights-allowed-requires
-weights-allowed-requires c κs = search needs
+all-in-requires : tie.Need-all-in-requires
+all-in-requires c κs = search needs
 
 refused-requires-6 : tie.Need-refused-requires-6
 refused-requires-6 c κs = search needs
 
 returns-6 : tie.Need-returns-6
-unfolding openStep
+unfolding openStep weightAllowed round ofInt ofBits
 returns-6 c =
-    let weights = c .before .before .weights-allowed in
+    let weights = c .before .before .all-in in
     rw (not-none (c .before .before .before .before .before .before .before .before), not-many (c .before .before .before .before .before .before .before), counts-fit (c .before .before .before .before .before .before), weights-fit (c .before .before .before .before .before), counts-pass (c .before .before .before), sym (weights .ensures) ∙ not-true (weights .result) (c .before .if6 .taken)) (c .refused6 .ensures)
 
 fresh-part-requires : tie.Need-fresh-part-requires
@@ -118,7 +122,7 @@ open-part-spec =
     counts-allowed-requires
     refused-requires-5
     returns-5
-    weights-allowed-requires
+    all-in-requires
     refused-requires-6
     returns-6
     fresh-part-requires

@@ -3,7 +3,8 @@ use Prim.Native.Nat.{ℕ, _≤_, _-_}
 use mathlib.Core.Path.{_≡_, sym, ap, _∙_}
 use native.Mathlib.Nat.{sub-zero}
 use lib.ListN.{length, drop}
-use Rattle.parts.specs.Part.{countAllowed, noCount, placesRight}
+use Rattle.limits.specs.Limits.{countAllowed}
+use Rattle.parts.specs.Part.{noCount, placesRight}
 use Rattle.parts.proofs.PlacesLaws.{places-more, places-bad, places-end}
 use borrow.Author.Needs.{needs}
 use native.Mathlib.Omega.{arith}

@@ -6,7 +6,8 @@ use borrow.Author.Needs.{needs}
 use borrow.Author.Tests.{le-leb, lt-leb}
 use lib.Dec.{leb}
 use Rattle.search.specs.Shape.{workRight}
-use Rattle.parts.specs.Part.{countAllowed, noCount, placesRight, inputRight, rightPart}
+use Rattle.limits.specs.Limits.{countAllowed}
+use Rattle.parts.specs.Part.{noCount, placesRight, inputRight, rightPart}
 use Rattle.parts.proofs.shape.right_part.Statement.{statement}
 use Rattle.parts.proofs.shape.right_part.Tie as tie
 
