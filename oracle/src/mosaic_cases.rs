@@ -134,13 +134,20 @@ fn limits(cases: &mut Cases) {
     }
 }
 
-/// Where hypotheses or candidates are equal, or all but: a flat density, an observed share on a step, a germline share at its floor.
+/// Where hypotheses or candidates are equal, or all but: a flat density, an observed share on a step, a germline share at its floor, a step that is
+/// 0.001, and what a random search found.
 fn equals(cases: &mut Cases) {
     for counts in [&[5, 5][..], &[7, 7, 7], &[1, 0, 1], &[2, 2, 2, 2], &[19, 1], &[9, 1], &[90, 9, 1]] {
         add(cases, &Input { alpha: 1.0, beta: 1.0, ..plain(counts) });
         add(cases, &Input { alpha: 1.0, beta: 1.0, highest: 1.0, ..plain(counts) });
         add(cases, &Input { alpha: 0.001, beta: 0.001, highest: 0.0, ..plain(counts) });
     }
+    for counts in [&[1, 27, 22][..], &[20, 22, 3, 30]] {
+        add(cases, &plain(counts));
+    }
+    add(cases, &Input { alpha: moved(1000.0, -1), beta: moved(1000.0, -1), highest: moved(1.0, -1), ..plain(&[1, 1]) });
+    add(cases, &Input { beta: 0.001, highest: 1.0, ..plain(&[2, 0, 2]) });
+    add(cases, &Input { beta: 1000.0, highest: 0.001, ..plain(&[900, 1]) });
 }
 
 fn random(cases: &mut Cases) {
