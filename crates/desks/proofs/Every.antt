@@ -8,7 +8,7 @@ use mathlib.Core.List.{List, [], _∷_}
 use lib.Dec.{T}
 use lib.ListN.{getD}
 use lib.Ieee.Fits.{and-l, and-r}
-use Rattle.trio.specs.Samples.{upFrom}
+use Rattle.samples.specs.Samples.{upFrom}
 use Rattle.limits.specs.Every.{every}
 
 pub every-at : {A : Type 0} (f : A → Bool) (l : List A) (k : ℕ) (d : A) → T (every f l) → T (f d) → T (f (getD l k d))

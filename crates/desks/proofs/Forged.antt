@@ -9,7 +9,7 @@ use native.Mathlib.Nat.{zero-add, mul-pos, div-lt-iff-lt-mul, not-suc-le-zero}
 use native.Mathlib.Omega.{arith}
 use borrow.Author.Tests.{ltb-true, eqb-true, eq-eqb, lt-ltb}
 use lib.Bits.{bitOr}
-use lib.Dec.{eqb, ltb, lit≤, lit<}
+use lib.Dec.{eqb, ltb, lit≤}
 use lib.ListN.{length}
 use lib.Ieee.{Float, inf, le, toBits, ofInt, isNan}
 use Rattle.floats.specs.F64.{nat}
@@ -31,11 +31,12 @@ use Rattle.search.proofs.ShapeLaws.{and-true, and-both, Shaped, right-shaped, f
 use Rattle.search.proofs.WorkLaws.{row-sound}
 use Rattle.trio.specs.declared.closing.Closed.{Closed}
 use Rattle.family.specs.declared.pair.Triple.{Triple}
+use Rattle.family.specs.declared.sample.Sample.the-variants.{Child}
 use Rattle.parts.specs.declared.part.Part.{Part}
 use Rattle.family.specs.Genotypes.{genotypeCount}
 use Rattle.trio.specs.Genotypes.{genotypeAt, rowWidth, tripleAt}
 use Rattle.parts.specs.Part.{weightAllowed, inputRight, sameInput, rowCount, workIn, rightPart, freshPart, emptyPart, withWork, gives}
-use Rattle.trio.specs.Samples.{columnTotal}
+use Rattle.samples.specs.Samples.{columnTotal}
 use Rattle.trio.specs.Steps.{scoreIn, unread, rowsIn, rowStep, mergeStep, closedAs, refusedClosing, closeStep}
 use Rattle.desks.specs.Call.{onePassCall, workedTo}
 use Rattle.desks.proofs.Inputs.{input-accepted, scores-numbers}
@@ -212,7 +213,7 @@ forged-right = refl
 -- its true scores are all minus infinity
 forged-least : (q : ℕ) → scoreIn forged q ≡ inf true
 unfolding columnTotal forged
-forged-least q = unread-least 2 (forged .counts) (forged .weights) (input-accepted forged (right-parts forged forged-right .0) refl) q 0 (lit< tt) refl
+forged-least q = unread-least 2 (forged .counts) (forged .weights) (input-accepted forged (right-parts forged forged-right .0) refl) q Child refl
 
 forged-full : forged .marks ≡ fullMarks (rowCount forged)
 unfolding genotypeCount forged

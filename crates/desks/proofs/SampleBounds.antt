@@ -24,12 +24,14 @@ use Rattle.kernels.specs.Ln.{lnOf}
 use Rattle.bounds.proofs.LnBounds.{within-ln}
 use Rattle.bounds.proofs.BinomialBounds.{term-within}
 use Rattle.family.specs.declared.pair.Pair.{Pair}
+use Rattle.family.specs.declared.sample.Sample.{Sample}
+use Rattle.family.specs.Numbers.{sampleNumber}
 use Rattle.family.specs.Genotypes.{pairsWith, pairsFrom, genotypes}
 use Rattle.trio.specs.Genotypes.{genotypeAt}
 use Rattle.family.specs.Mendel.{pair}
-use Rattle.trio.specs.Samples.{upFrom, clusters, reads, sum, columnTotal, sumFrom, logBinomial, expectation, expectationTotal, clusterTerm, sampleScore}
+use Rattle.samples.specs.Samples.{upFrom, inUse, clusters, reads, sum, columnTotal, sumFrom, logBinomial, expectation, expectationTotal, clusterTerm, sampleScore}
 use Rattle.parts.specs.Part.{weightAllowed}
-use Rattle.trio.proofs.SampleLaws.{count-at-most}
+use Rattle.samples.proofs.SampleLaws.{in-use, sample-below, count-at-most}
 use Rattle.desks.specs.Accepted.{Accepted}
 use Rattle.limits.specs.Every.{every}
 use Rattle.desks.proofs.Every.{every-at, every-between}
@@ -65,7 +67,8 @@ share-inside : (n k c : ℕ) → 2 ≤ n → n ≤ 8 → c < n → T (inside (sh
 share-inside n k c l u h =
     let some : 1 ≤ n = omega arith in
     let each = every-between (λ (m : ℕ). every (sharesInside m) (genotypes m)) 2 7 n all-inside l (omega arith) in
-    every-between (λ (d : ℕ). inside (share n (genotypeAt n k) d)) 0 n c (every-genotype (sharesInside n) n k some each) (omega arith) (omega arith)
+    let used : c < inUse n = rw (in-use n u) h in
+    every-between (λ (d : ℕ). inside (share n (genotypeAt n k) d)) 0 (inUse n) c (every-genotype (sharesInside n) n k some each) (omega arith) (omega arith)
 
 -- and with one cluster it is 1
 
@@ -99,9 +102,9 @@ whole-within : (k : ℕ) → Within (2 ^ 36) (logBinomial k k (nat 1))
 unfolding logBinomial round ofInt le lt eq
 whole-within k = rw (le-ltb k k (le-refl k), and-false (ltb 0 k)) (within-whole (pos 0) (2 ^ 36) (lit≤ tt) (lit≤ tt))
 
-one-cluster-within : (counts : List ℕ) (s k c : ℕ) → c < 1 → Within (2 ^ 36) (logBinomial (reads counts s c) (columnTotal 1 counts s) (share 1 (genotypeAt 1 k) c))
+one-cluster-within : (counts : List ℕ) (s : Sample) (k c : ℕ) → c < 1 → Within (2 ^ 36) (logBinomial (reads counts (sampleNumber s) c) (columnTotal 1 counts s) (share 1 (genotypeAt 1 k) c))
 unfolding columnTotal
-one-cluster-within counts s k zero h = rw (only-genotype k, share-whole, add-zero) (whole-within (reads counts s 0))
+one-cluster-within counts s k zero h = rw (only-genotype k, share-whole, add-zero) (whole-within (reads counts (sampleNumber s) 0))
 one-cluster-within counts s k (suc c) h = absurd (no-more c h)
   where
     no-more : (c : ℕ) → suc c < 1 → ⊥
@@ -142,29 +145,29 @@ summed f b n a i (suc m) each l w s =
 -- ---- the score of an animal
 
 -- without reads
-pub sample-least : (n : ℕ) (counts : List ℕ) (weights : List Float) (s : ℕ) (h : Pair) → columnTotal n counts s ≡ 0 → sampleScore n counts weights s h ≡ inf true
+pub sample-least : (n : ℕ) (counts : List ℕ) (weights : List Float) (s : Sample) (h : Pair) → columnTotal n counts s ≡ 0 → sampleScore n counts weights s h ≡ inf true
 unfolding sampleScore
 sample-least n counts weights s h z = rw z
 
-module _ (n : ℕ) (counts : List ℕ) (weights : List Float) (a : Accepted n counts weights) (s : ℕ) (column : s < 3) where
-  count-small : (c : ℕ) → c < n → reads counts s c ≤ 1000000
-  count-small c h = a .count-allowed (3 * c + s) (omega arith)
+module _ (n : ℕ) (counts : List ℕ) (weights : List Float) (a : Accepted n counts weights) (s : Sample) where
+  count-small : (c : ℕ) → c < n → reads counts (sampleNumber s) c ≤ 1000000
+  count-small c h = a .count-allowed (3 * c + sampleNumber s) (omega (arith, sample-below s))
 
   total-small : columnTotal n counts s < 2 ^ 23
   unfolding columnTotal
-  total-small = omega (arith, counted (reads counts s) 1000000 n 0 n count-small (omega arith), a .few)
+  total-small = rw (in-use n (a .few)) (omega (arith, counted (reads counts (sampleNumber s)) 1000000 n 0 n count-small (omega arith), a .few))
 
-  binomial-within : (k c : ℕ) → c < n → Within (2 ^ 36) (logBinomial (reads counts s c) (columnTotal n counts s) (share n (genotypeAt n k) c))
+  binomial-within : (k c : ℕ) → c < n → Within (2 ^ 36) (logBinomial (reads counts (sampleNumber s) c) (columnTotal n counts s) (share n (genotypeAt n k) c))
   binomial-within k c h = ⊎-elim one more (eq-or-lt-of-le (a .some))
     where
-      one : 1 ≡ n → Within (2 ^ 36) (logBinomial (reads counts s c) (columnTotal n counts s) (share n (genotypeAt n k) c))
+      one : 1 ≡ n → Within (2 ^ 36) (logBinomial (reads counts (sampleNumber s) c) (columnTotal n counts s) (share n (genotypeAt n k) c))
       one e =
-          subst (λ (m : ℕ). c < m → Within (2 ^ 36) (logBinomial (reads counts s c) (columnTotal m counts s) (share m (genotypeAt m k) c))) e (one-cluster-within counts s k c) h
+          subst (λ (m : ℕ). c < m → Within (2 ^ 36) (logBinomial (reads counts (sampleNumber s) c) (columnTotal m counts s) (share m (genotypeAt m k) c))) e (one-cluster-within counts s k c) h
 
-      more : 1 < n → Within (2 ^ 36) (logBinomial (reads counts s c) (columnTotal n counts s) (share n (genotypeAt n k) c))
+      more : 1 < n → Within (2 ^ 36) (logBinomial (reads counts (sampleNumber s) c) (columnTotal n counts s) (share n (genotypeAt n k) c))
       more l =
           let h′ = genotypeAt n k in
-          inside-within (reads counts s c) (columnTotal n counts s) (share n h′ c) (count-at-most n counts s c h) total-small (div-fits binary64 (expectation h′ c) (expectationTotal n h′))
+          inside-within (reads counts (sampleNumber s) c) (columnTotal n counts s) (share n h′ c) (count-at-most n counts s c (rw (in-use n (a .few)) h)) total-small (div-fits binary64 (expectation h′ c) (expectationTotal n h′))
           (share-inside n k c l (a .few) h)
 
   cluster-within : (k c : ℕ) → c < n → Within (2 ^ 37) (clusterTerm n counts weights s (genotypeAt n k) c)
@@ -177,7 +180,7 @@ module _ (n : ℕ) (counts : List ℕ) (weights : List Float) (a : Accepted n co
   sample-within k h =
       let small : 0 + n * 2 ^ 37 ≤ 2 ^ 40 = omega (arith, a .few) in
       let all = summed (clusterTerm n counts weights s (genotypeAt n k)) (2 ^ 37) n 0 0 n (cluster-within k) (omega arith) (within-whole (pos 0) 0 (lit≤ tt) (lit≤ tt)) (omega arith) in
-      rw (eqb-zero (columnTotal n counts s) h) (within-more all small)
+      rw (eqb-zero (columnTotal n counts s) h, in-use n (a .few)) (within-more all small)
 
   -- either way
   pub sample-low : (k : ℕ) → Low (2 ^ 40) (sampleScore n counts weights s (genotypeAt n k))

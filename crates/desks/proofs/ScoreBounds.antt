@@ -1,6 +1,6 @@
 -- T4: within the limits no score is a NaN or plus infinity: it is finite where every animal has reads, and minus infinity where one has none.
 -- Assumes nothing.
-use Prim.Native.Nat.{ℕ, zero, suc, suc-le-suc, _/_, _%_, _^_, _<_}
+use Prim.Native.Nat.{ℕ, suc-le-suc, _/_, _%_, _^_, _<_}
 use native.Mathlib.Omega.{arith}
 use mathlib.Core.Path.{_≡_, refl, subst, _∙_}
 use mathlib.Core.Bool.{Bool, true, false, cond}
@@ -17,10 +17,12 @@ use Rattle.floats.proofs.Bounds.{within-more, within-add, above-fraction, low-n
 use Rattle.kernels.specs.Ln.{lnOf}
 use Rattle.bounds.proofs.LnBounds.{within-ln}
 use Rattle.family.specs.declared.pair.Pair.{Pair}
+use Rattle.family.specs.declared.sample.Sample.{Sample}
+use Rattle.family.specs.declared.sample.Sample.the-variants.{Child, Father, Mother}
 use Rattle.family.specs.Genotypes.{genotypeCount}
 use Rattle.trio.specs.Genotypes.{rowWidth, genotypeAt, tripleAt}
 use Rattle.family.specs.Mendel.{ordered, among, childPairs, mendelTerm}
-use Rattle.trio.specs.Samples.{upFrom, columnTotal, sampleScore}
+use Rattle.samples.specs.Samples.{upFrom, columnTotal, sampleScore}
 use Rattle.trio.specs.Score.{tripleScore, scoreOf}
 use Rattle.desks.specs.Accepted.{Accepted}
 use Rattle.limits.specs.Every.{every}
@@ -64,20 +66,17 @@ low-not-plus : {n : ℕ} {x : Float} → Low n x → x ≡ inf false → ⊥
 low-not-plus least e = let z : _≡_ {A = ℕ} 0 1 = cc in omega arith
 low-not-plus (finite-low w) e = subst (λ (y : Float). T (finite y)) e (w .is-finite)
 
-no-column : (s : ℕ) → suc (suc (suc s)) < 3 → ⊥
-no-column s h = omega arith
-
 -- ---- the score at a position
 
 module _ (n : ℕ) (counts : List ℕ) (weights : List Float) (a : Accepted n counts weights) (p : ℕ) where
-  -- the score of column s under genotype k
-  abbrev of : ℕ → ℕ → Float
+  -- the score of an animal under genotype k
+  abbrev of : Sample → ℕ → Float
   of s k = sampleScore n counts weights s (genotypeAt n k)
 
-  low : (s k : ℕ) → s < 3 → Low (2 ^ 40) (of s k)
-  low s k h = sample-low n counts weights a s h k
+  low : (s : Sample) (k : ℕ) → Low (2 ^ 40) (of s k)
+  low s k = sample-low n counts weights a s k
 
-  none : (s k : ℕ) → columnTotal n counts s ≡ 0 → of s k ≡ inf true
+  none : (s : Sample) (k : ℕ) → columnTotal n counts s ≡ 0 → of s k ≡ inf true
   none s k z = sample-least n counts weights s (genotypeAt n k) z
 
   abbrev child : ℕ
@@ -95,15 +94,15 @@ module _ (n : ℕ) (counts : List ℕ) (weights : List Float) (a : Accepted n co
   heredity : Within (2 ^ 12) term
   heredity = mendel-within (genotypeAt n child) (genotypeAt n father) (genotypeAt n mother)
 
-  score-is : scoreOf n counts weights p ≡ of 1 father ⊕ of 2 mother ⊕ of 0 child ⊕ term
+  score-is : scoreOf n counts weights p ≡ of Father father ⊕ of Mother mother ⊕ of Child child ⊕ term
   unfolding tripleScore tripleAt
   score-is = refl
 
-  parents-low : Low (2 ^ 41) (of 1 father ⊕ of 2 mother)
-  parents-low = low-add (low 1 father (lit< tt)) (low 2 mother (lit< tt)) (lit≤ tt)
+  parents-low : Low (2 ^ 41) (of Father father ⊕ of Mother mother)
+  parents-low = low-add (low Father father) (low Mother mother) (lit≤ tt)
 
   pub score-low : Low (2 ^ 42) (scoreOf n counts weights p)
-  score-low = rw score-is (low-more (low-add (low-add parents-low (low 0 child (lit< tt)) (lit≤ tt)) (finite-low heredity) (lit≤ tt)) (lit≤ tt))
+  score-low = rw score-is (low-more (low-add (low-add parents-low (low Child child) (lit≤ tt)) (finite-low heredity) (lit≤ tt)) (lit≤ tt))
 
   pub score-number : isNan (scoreOf n counts weights p) ≡ false
   score-number = low-number score-low
@@ -113,18 +112,17 @@ module _ (n : ℕ) (counts : List ℕ) (weights : List Float) (a : Accepted n co
 
   -- it is an f64, since it is a sum
   pub score-fits : T (fits binary64 (scoreOf n counts weights p))
-  score-fits = rw score-is (add-fits binary64 (of 1 father ⊕ of 2 mother ⊕ of 0 child) term)
+  score-fits = rw score-is (add-fits binary64 (of Father father ⊕ of Mother mother ⊕ of Child child) term)
 
   -- every animal has reads
-  pub score-within : ((s : ℕ) → s < 3 → 0 < columnTotal n counts s) → Within (2 ^ 42) (scoreOf n counts weights p)
+  pub score-within : ((s : Sample) → 0 < columnTotal n counts s) → Within (2 ^ 42) (scoreOf n counts weights p)
   score-within read =
-      let within : (s k : ℕ) → s < 3 → Within (2 ^ 40) (of s k) = λ s k h. sample-within n counts weights a s h k (read s h) in
-      let parents = within-add (within 1 father (lit< tt)) (within 2 mother (lit< tt)) (lit≤ tt) in
-      rw score-is (within-more (within-add (within-add parents (within 0 child (lit< tt)) (lit≤ tt)) heredity (lit≤ tt)) (lit≤ tt))
+      let within : (s : Sample) (k : ℕ) → Within (2 ^ 40) (of s k) = λ s k. sample-within n counts weights a s k (read s) in
+      let parents = within-add (within Father father) (within Mother mother) (lit≤ tt) in
+      rw score-is (within-more (within-add (within-add parents (within Child child) (lit≤ tt)) heredity (lit≤ tt)) (lit≤ tt))
 
   -- some animal has none: the sums swallow the rest
-  pub unread-least : (s : ℕ) → s < 3 → columnTotal n counts s ≡ 0 → scoreOf n counts weights p ≡ inf true
-  unread-least zero h z = score-is ∙ rw (none 0 child z, swallowed parents-low, swallows (finite-low heredity))
-  unread-least (suc zero) h z = score-is ∙ rw (none 1 father z, swallows (low 2 mother (lit< tt)), swallows (low 0 child (lit< tt)), swallows (finite-low heredity))
-  unread-least (suc (suc zero)) h z = score-is ∙ rw (none 2 mother z, swallowed (low 1 father (lit< tt)), swallows (low 0 child (lit< tt)), swallows (finite-low heredity))
-  unread-least (suc (suc (suc s))) h z = absurd (no-column s h)
+  pub unread-least : (s : Sample) → columnTotal n counts s ≡ 0 → scoreOf n counts weights p ≡ inf true
+  unread-least Child z = score-is ∙ rw (none Child child z, swallowed parents-low, swallows (finite-low heredity))
+  unread-least Father z = score-is ∙ rw (none Father father z, swallows (low Mother mother), swallows (low Child child), swallows (finite-low heredity))
+  unread-least Mother z = score-is ∙ rw (none Mother mother z, swallowed (low Father father), swallows (low Child child), swallows (finite-low heredity))

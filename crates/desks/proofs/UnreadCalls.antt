@@ -1,12 +1,12 @@
 -- T4, T10: the call of an unread trio of two or more clusters is the last triple of all, however the other animals' counts and the weights are.
-use Prim.Native.Nat.{ℕ, zero, suc, _+_, _*_, _-_, _≤_, _<_, zero-le}
+use Prim.Native.Nat.{ℕ, zero, suc, _+_, _*_, _-_, _≤_, zero-le}
 use mathlib.Core.Bool.{Bool, true, false, _||_}
 use mathlib.Core.List.{List, [], _∷_, map}
 use mathlib.Core.Path.{_≡_, refl, sym, ap, ap₂, subst, _∙_}
 use native.Mathlib.Nat.{mul-le-mul, le-trans, le-of-suc-le-suc, not-suc-le-zero}
 use native.Mathlib.Omega.{arith}
 use borrow.Author.Tests.{eqb-true, eq-eqb}
-use lib.Dec.{eqb, lit≤, lit<}
+use lib.Dec.{eqb, lit≤}
 use lib.ListN.{length, getD}
 use lib.Ieee.{Float, inf}
 use Rattle.floats.specs.F64.{nat}
@@ -18,9 +18,12 @@ use Rattle.search.specs.Work.{onePass, entryAt, allEntries}
 use Rattle.search.proofs.ShapeLaws.{and-both}
 use Rattle.parts.specs.declared.part.Part.{Part}
 use Rattle.parts.specs.declared.part.Stepped.{Stepped}
+use Rattle.family.specs.declared.sample.Sample.{Sample}
+use Rattle.family.specs.declared.sample.Sample.the-variants.{Child, Father, Mother}
+use Rattle.family.specs.Numbers.{sampleNumber}
 use Rattle.family.specs.Genotypes.{genotypeCount}
 use Rattle.trio.specs.Genotypes.{genotypeAt, rowWidth, tripleAt}
-use Rattle.trio.specs.Samples.{upFrom, reads, sum, columnTotal}
+use Rattle.samples.specs.Samples.{upFrom, inUse, reads, sum, columnTotal}
 use Rattle.parts.specs.Part.{inputRight, rowCount, rightPart, padded, freshPart}
 use Rattle.parts.specs.Opening.{openStep}
 use Rattle.trio.specs.Steps.{scoreIn, unread, groundOf, closedAs}
@@ -93,29 +96,29 @@ module _ (counts : List ℕ) (short : length counts ≤ 24) where
   column-padded s c zero = refl
   column-padded s c (suc n) = ap₂ _+_ (padded-get 24 (3 * c + s) counts short) (column-padded s (suc c) n)
 
-  total-padded : (n s : ℕ) → columnTotal n (padded 24 0 counts) s ≡ columnTotal n counts s
+  total-padded : (n : ℕ) (s : Sample) → columnTotal n (padded 24 0 counts) s ≡ columnTotal n counts s
   unfolding columnTotal
-  total-padded n s = column-padded s 0 n
+  total-padded n s = column-padded (sampleNumber s) 0 (inUse n)
 
   unread-padded : (n : ℕ) → unread n (padded 24 0 counts) ≡ unread n counts
   unfolding unread
-  unread-padded n = rw (total-padded n 0, total-padded n 1, total-padded n 2)
+  unread-padded n = rw (total-padded n Child, total-padded n Father, total-padded n Mother)
 
 -- some column has no reads
-unread-column : (n : ℕ) (counts : List ℕ) → unread n counts ≡ true → (s : ℕ) × (s < 3) × (columnTotal n counts s ≡ 0)
+unread-column : (n : ℕ) (counts : List ℕ) → unread n counts ≡ true → (s : Sample) × (columnTotal n counts s ≡ 0)
 unfolding unread
-unread-column n counts h = go (eqb (columnTotal n counts 0) 0) refl (eqb (columnTotal n counts 1) 0) refl h
+unread-column n counts h = go (eqb (columnTotal n counts Child) 0) refl (eqb (columnTotal n counts Father) 0) refl h
   where
-    go : (a : Bool) → eqb (columnTotal n counts 0) 0 ≡ a → (b : Bool) → eqb (columnTotal n counts 1) 0 ≡ b → (a || (b || eqb (columnTotal n counts 2) 0)) ≡ true
-        → (s : ℕ) × (s < 3) × (columnTotal n counts s ≡ 0)
-    go true e b f h = (0, lit< tt, eqb-true (columnTotal n counts 0) 0 e)
-    go false e true f h = (1, lit< tt, eqb-true (columnTotal n counts 1) 0 f)
-    go false e false f h = (2, lit< tt, eqb-true (columnTotal n counts 2) 0 h)
+    go : (a : Bool) → eqb (columnTotal n counts Child) 0 ≡ a → (b : Bool) → eqb (columnTotal n counts Father) 0 ≡ b → (a || (b || eqb (columnTotal n counts Mother) 0)) ≡ true
+        → (s : Sample) × (columnTotal n counts s ≡ 0)
+    go true e b f h = (Child, eqb-true (columnTotal n counts Child) 0 e)
+    go false e true f h = (Father, eqb-true (columnTotal n counts Father) 0 f)
+    go false e false f h = (Mother, eqb-true (columnTotal n counts Mother) 0 h)
 
 -- a mother without reads makes a trio unread
-pub unread-of : (n : ℕ) (counts : List ℕ) → columnTotal n counts 2 ≡ 0 → unread n counts ≡ true
+pub unread-of : (n : ℕ) (counts : List ℕ) → columnTotal n counts Mother ≡ 0 → unread n counts ≡ true
 unfolding unread
-unread-of n counts e = rw (eq-eqb (columnTotal n counts 2) 0 e) (go (eqb (columnTotal n counts 0) 0) (eqb (columnTotal n counts 1) 0))
+unread-of n counts e = rw (eq-eqb (columnTotal n counts Mother) 0 e) (go (eqb (columnTotal n counts Child) 0) (eqb (columnTotal n counts Father) 0))
   where
     go : (a b : Bool) → (a || (b || true)) ≡ true
     go true b = refl
@@ -135,4 +138,4 @@ module _ (n : ℕ) (counts : List ℕ) (weights : List Float) (accepted : number
       let a = input-accepted p r (padded-length 8 (nat 0) weights) in
       let c = unread-column n (p .counts) u in
       subst (λ (s : Stepped). LastUnread n (calledBy s)) (sym (opened-is n counts weights accepted))
-      (last-unread p many f (λ q. unread-least n (p .counts) (p .weights) a q (c .0) (c .1) (c .2)) u)
+      (last-unread p many f (λ q. unread-least n (p .counts) (p .weights) a q (c .0) (c .1)) u)

@@ -15,7 +15,8 @@ use Rattle.diploid.specs.Genotype.{genotypeBy}
 use Rattle.diploid_laws.proofs.WinnerLaws.{equal-scores}
 use Rattle.refusals.specs.Refusals.{numberOf}
 use Rattle.family.specs.Genotypes.{genotypeCount}
-use Rattle.trio.specs.Samples.{columnTotal}
+use Rattle.family.specs.declared.sample.Sample.the-variants.{Mother}
+use Rattle.samples.specs.Samples.{columnTotal}
 use Rattle.parts.specs.Opening.{openStep}
 use Rattle.desks.specs.Call.{callOf}
 use Rattle.models.specs.declared.params.Params.{Params}
@@ -27,7 +28,7 @@ use Rattle.desks.proofs.UnreadCalls.{unread-of, unread-call}
 use Rattle.examples.specs.Examples.{LastOfTwo, Examples}
 
 -- X2: the law of unread trios at two clusters, with its numbers worked out
-unread-mother : (counts : List ℕ) (weights : List Float) → numberOf (openStep 2 counts weights .refusal) ≡ 0 → columnTotal 2 counts 2 ≡ 0 → LastOfTwo (callOf 2 counts weights)
+unread-mother : (counts : List ℕ) (weights : List Float) → numberOf (openStep 2 counts weights .refusal) ≡ 0 → columnTotal 2 counts Mother ≡ 0 → LastOfTwo (callOf 2 counts weights)
 unfolding genotypeCount
 unread-mother counts weights accepted none =
     let l = unread-call 2 counts weights accepted (lit≤ tt) (unread-of 2 counts none) in

@@ -37,6 +37,8 @@ use Rattle.family.proofs.genotypes.genotype_count.Reads as genotype-count
 use Rattle.family.proofs.mendel.distinct_pairs.Reads as distinct-pairs
 use Rattle.family.proofs.mendel.mendelian_prior.Reads as mendelian-prior
 use Rattle.family.proofs.sample.sample_number.Reads as sample-number
+use Rattle.samples.proofs.samples.column_total.Reads as column-total
+use Rattle.samples.proofs.samples.compute_log_likelihood.Reads as compute-log-likelihood
 use Rattle.parts.proofs.part.Part.empty.Reads as part-empty
 use Rattle.parts.proofs.shape.right_part.Reads as right-part
 use Rattle.parts.proofs.shape.same_input.Reads as same-input
@@ -204,6 +206,12 @@ mendelian-prior-once κ a v w e f = only
 
 pub sample-number-once : OneAnswer sample-number.Post
 sample-number-once κ a v w e f = only
+
+pub column-total-once : OneAnswer column-total.Post
+column-total-once κ a v w e f = only
+
+pub compute-log-likelihood-once : OneAnswer compute-log-likelihood.Post
+compute-log-likelihood-once κ a v w e f = only
 
 pub part-empty-once : OneAnswer part-empty.Post
 part-empty-once κ a v w e f = only

@@ -17,8 +17,7 @@ use Rattle.family.specs.declared.sample.Sample.the-variants.{Mother}
 use Rattle.family.specs.Genotypes.{genotypeCount}
 use Rattle.trio.specs.Genotypes.{triples}
 use Rattle.family.specs.Mendel.{pair, childPairs}
-use Rattle.trio.specs.Samples.{columnTotal}
-use Rattle.family.specs.Numbers.{sampleNumber}
+use Rattle.samples.specs.Samples.{columnTotal}
 use Rattle.parts.specs.Opening.{openStep}
 use Rattle.desks.specs.Call.{callOf}
 use Rattle.models.specs.declared.params.Params.{Params}
@@ -41,7 +40,7 @@ pub record Examples : Type 0 where
   pub genotypes-number : (genotypeCount 1 ≡ 1) × (genotypeCount 2 ≡ 3) × (genotypeCount 3 ≡ 6) × (genotypeCount 8 ≡ 36)
   pub triples-number : (length (triples 1) ≡ 1) × (length (triples 2) ≡ 27) × (length (triples 3) ≡ 216) × (length (triples 8) ≡ 46656)
   -- X2: over all accepted counts and weights of two clusters whose mother has no reads
-  pub unread-mother : (counts : List ℕ) (weights : List Float) → numberOf (openStep 2 counts weights .refusal) ≡ 0 → columnTotal 2 counts (sampleNumber Mother) ≡ 0
+  pub unread-mother : (counts : List ℕ) (weights : List Float) → numberOf (openStep 2 counts weights .refusal) ≡ 0 → columnTotal 2 counts Mother ≡ 0
       → LastOfTwo (callOf 2 counts weights)
   -- X3 to X6: how many different pairs the parents can make
   pub one-pair : length (childPairs (pair 0 0) (pair 1 1)) ≡ 1

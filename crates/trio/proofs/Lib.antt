@@ -1,4 +1,3 @@
 -- What belongs to no one function of `trio`.
 pub mod GenotypesLaws
-pub mod SampleLaws
 pub mod RowCode

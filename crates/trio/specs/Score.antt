@@ -7,15 +7,14 @@ use Rattle.family.specs.declared.pair.Triple.{Triple}
 use Rattle.family.specs.declared.sample.Sample.the-variants.{Child, Father, Mother}
 use Rattle.trio.specs.Genotypes.{tripleAt}
 use Rattle.family.specs.Mendel.{mendelTerm}
-use Rattle.trio.specs.Samples.{sampleScore}
-use Rattle.family.specs.Numbers.{sampleNumber}
+use Rattle.samples.specs.Samples.{sampleScore}
 
 -- ((father + mother) + child) + term
 unfoldable pub tripleScore : ℕ → List ℕ → List Float → Triple → Float
 tripleScore n counts weights t =
-    sampleScore n counts weights (sampleNumber Father) (t .father)
-    ⊕ sampleScore n counts weights (sampleNumber Mother) (t .mother)
-    ⊕ sampleScore n counts weights (sampleNumber Child) (t .child)
+    sampleScore n counts weights Father (t .father)
+    ⊕ sampleScore n counts weights Mother (t .mother)
+    ⊕ sampleScore n counts weights Child (t .child)
     ⊕ mendelTerm (t .child) (t .father) (t .mother)
 
 -- of the triple at a position

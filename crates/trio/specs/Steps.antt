@@ -24,8 +24,7 @@ use Rattle.parts.specs.declared.part.Stepped.{Stepped}
 use Rattle.family.specs.declared.sample.Sample.the-variants.{Child, Father, Mother}
 use Rattle.trio.specs.Genotypes.{rowWidth, tripleAt}
 use Rattle.family.specs.Mendel.{pair}
-use Rattle.trio.specs.Samples.{columnTotal, sampleScore}
-use Rattle.family.specs.Numbers.{sampleNumber}
+use Rattle.samples.specs.Samples.{columnTotal, sampleScore}
 use Rattle.trio.specs.Score.{scoreOf}
 use Rattle.parts.specs.Part.{sameInput, rowCount, workIn, withWork, rightPart, gives}
 
@@ -35,7 +34,7 @@ use Rattle.parts.specs.Part.{sameInput, rowCount, workIn, withWork, rightPart, 
 unfoldable pub sampleStep : Part → Sample → Pair → AnimalScore
 sampleStep p s h =
     cond (rightPart p)
-    (record { refusal = Done; score = sampleScore (p .clusters) (p .counts) (p .weights) (sampleNumber s) h })
+    (record { refusal = Done; score = sampleScore (p .clusters) (p .counts) (p .weights) s h })
     (record { refusal = BadPart; score = nat 0 })
 
 -- ---- rows and merging
@@ -67,8 +66,7 @@ mergeStep a b =
 -- some column sums to 0
 unfoldable pub unread : ℕ → List ℕ → Bool
 unread n counts =
-    eqb (columnTotal n counts (sampleNumber Child)) 0
-    || (eqb (columnTotal n counts (sampleNumber Father)) 0 || eqb (columnTotal n counts (sampleNumber Mother)) 0)
+    eqb (columnTotal n counts Child) 0 || (eqb (columnTotal n counts Father) 0 || eqb (columnTotal n counts Mother) 0)
 
 -- is there a runner-up, and has it the key of the best?
 abbrev pub hasRunner : Held → Bool

@@ -1,13 +1,12 @@
 // The score of one animal of a part, for whoever checks a call by hand (docs/RULES.md, T2).
 ghost use mathlib.Core.Path.{_≡_};
 ghost use Rattle.trio.specs.Steps.{sampleStep};
-use crate::samples::compute_log_likelihood;
 use family::pair::Pair;
 use family::sample::Sample;
-use family::sample::sample_number;
 use parts::part::Part;
 use parts::shape::right_part;
 use refusals::Refusal;
+use samples::samples::compute_log_likelihood;
 
 // The log likelihood of an animal's reads under a genotype, or a refusal with zero.
 pub struct AnimalScore {
@@ -23,7 +22,7 @@ pub fn sample_score(p: Part, s: Sample, pair: Pair) -> AnimalScore
         let weights = p.weights;
         return AnimalScore {
             refusal: Refusal::Done,
-            score: compute_log_likelihood(p.clusters, counts, weights, sample_number(s), pair),
+            score: compute_log_likelihood(p.clusters, counts, weights, s, pair),
         };
     }
     AnimalScore {

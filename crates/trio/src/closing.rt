@@ -3,15 +3,16 @@ ghost use mathlib.Core.Path.{_≡_};
 ghost use Prim.Native.Nat.{_≤_};
 ghost use Rattle.trio.specs.Steps.{groundOf, unread, refusedClosing, closedAs, closeStep};
 use crate::genotypes::triple_at;
-use crate::samples::column_total;
 use family::genotypes::genotype_count;
 use family::ground::Ground;
 use family::pair::Pair;
 use family::pair::Triple;
+use family::sample::Sample;
 use floats::key::key;
 use parts::part::Part;
 use parts::shape::right_part;
 use refusals::Refusal;
+use samples::samples::column_total;
 use search::entry::Entry;
 use search::held::Held;
 use search::marks::all_marked;
@@ -29,20 +30,18 @@ pub struct Closed {
 
 // Has some animal no reads?
 fn is_unread(n: u64, counts: [u32; 24]) -> bool
-    requires { ⌜ n ≤ 8 ⌝ }
     ensures { λ r. ⌜ r ≡ unread n counts ⌝ }
 {
-    if column_total(n, counts, 0) == 0 {
+    if column_total(n, counts, Sample::Child) == 0 {
         return true;
     }
-    if column_total(n, counts, 1) == 0 {
+    if column_total(n, counts, Sample::Father) == 0 {
         return true;
     }
-    column_total(n, counts, 2) == 0
+    column_total(n, counts, Sample::Mother) == 0
 }
 
 fn ground_of(n: u64, counts: [u32; 24], h: Held) -> Ground
-    requires { ⌜ n ≤ 8 ⌝ }
     ensures { λ r. ⌜ r ≡ groundOf n counts h ⌝ }
 {
     if is_unread(n, counts) {

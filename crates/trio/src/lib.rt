@@ -4,5 +4,4 @@ pub mod closing;
 pub mod genotypes;
 pub mod merging;
 pub mod rows;
-pub mod samples;
 pub mod score;

@@ -3,8 +3,9 @@ ghost use mathlib.Core.Path.{_≡_};
 ghost use Prim.Native.Nat.{_≤_};
 ghost use Rattle.trio.specs.Score.{scoreOf};
 use crate::genotypes::triple_at;
-use crate::samples::compute_log_likelihood;
 use family::mendel::mendelian_prior;
+use family::sample::Sample;
+use samples::samples::compute_log_likelihood;
 
 // The score of the triple at a position.
 pub(crate) fn score_at(n: u64, counts: [u32; 24], weights: [f64; 8], position: u64) -> f64
@@ -15,9 +16,9 @@ pub(crate) fn score_at(n: u64, counts: [u32; 24], weights: [f64; 8], position: u
     let child = t.child;
     let father = t.father;
     let mother = t.mother;
-    let ll_c = compute_log_likelihood(n, counts, weights, 0, child);
-    let ll_f = compute_log_likelihood(n, counts, weights, 1, father);
-    let ll_m = compute_log_likelihood(n, counts, weights, 2, mother);
+    let ll_c = compute_log_likelihood(n, counts, weights, Sample::Child, child);
+    let ll_f = compute_log_likelihood(n, counts, weights, Sample::Father, father);
+    let ll_m = compute_log_likelihood(n, counts, weights, Sample::Mother, mother);
     let lp = mendelian_prior(child, father, mother);
     ll_f + ll_m + ll_c + lp
 }

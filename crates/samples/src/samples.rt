@@ -1,25 +1,46 @@
 // How well a genotype explains the reads of one animal (docs/RULES.md, T2).
 ghost use mathlib.Core.Path.{_≡_};
 ghost use mathlib.Core.Bool.{cond};
+ghost use mathlib.Core.List.{map};
 ghost use Prim.Native.Nat.{_^_, _≤_, _<_};
-ghost use Rattle.floats.specs.F64.{_⊘_};
-ghost use Rattle.trio.specs.Samples.{columnTotal, impossibleAt, logBinomial, named, expectation, expectationTotal, sampleScore, withLogs};
+ghost use Rattle.floats.specs.F64.{_⊘_, nat};
+ghost use Rattle.samples.specs.Samples.{inUse, upFrom, reads, sum, columnTotal, sumFrom, impossibleAt, logBinomial, named, expectation, sampleScore, withLogs};
 use family::pair::Pair;
+use family::sample::Sample;
+use family::sample::sample_number;
 use kernels::ln::ln;
 
-// The reads of an animal, column s, over n clusters.
-pub(crate) fn column_total(n: u64, counts: [u32; 24], s: u64) -> u64
-    requires { ⌜ (n ≤ 8) × (s < 3) ⌝ }
-    ensures { λ r. ⌜ r ≡ columnTotal n counts s ⌝ }
+// How many of n clusters have a place.
+fn in_use(n: u64) -> u64
+    ensures { λ r. ⌜ r ≡ inUse n ⌝ }
+{
+    if n <= 8 {
+        return n;
+    }
+    8
+}
+
+// The reads of a column over the first `many` clusters.
+fn column_sum(many: u64, counts: [u32; 24], column: u64) -> u64
+    requires { ⌜ (many ≤ 8) × (column < 3) ⌝ }
+    ensures { λ r. ⌜ r ≡ sum (map (reads counts column) (upFrom 0 many)) ⌝ }
     ensures { λ r. ⌜ r ≤ 2 ^ 35 ⌝ }
 {
     let mut total: u64 = 0;
     let mut c: u64 = 0;
-    while c < n {
-        total += counts[(3 * c + s) as usize] as u64;
+    while c < many {
+        total += counts[(3 * c + column) as usize] as u64;
         c += 1;
     }
     total
+}
+
+// The reads of an animal over n clusters.
+pub fn column_total(n: u64, counts: [u32; 24], s: Sample) -> u64
+    ensures { λ r. ⌜ r ≡ columnTotal n counts s ⌝ }
+{
+    let many = in_use(n);
+    column_sum(many, counts, sample_number(s))
 }
 
 // Whether k among n cannot be at p: some at 0, or not all at 1.
@@ -94,41 +115,42 @@ fn either(pair: Pair, c: u64, called: Share, other: Share) -> Share
     other
 }
 
-// The expectations of all clusters, summed in their order: the sum depends on where the alleles stand.
-fn expected_total(n: u64, pair: Pair) -> f64
-    ensures { λ r. ⌜ r ≡ expectationTotal n pair ⌝ }
+// The expectations of the first `many` clusters, summed in their order: the sum depends on where the alleles stand.
+fn expected_total(many: u64, pair: Pair) -> f64
+    ensures { λ r. ⌜ r ≡ sumFrom (nat 0) (map (expectation pair) (upFrom 0 many)) ⌝ }
 {
     let mut total = 0.0;
     let mut c: u64 = 0;
-    while c < n {
+    while c < many {
         total = total + expected(pair, c);
         c += 1;
     }
     total
 }
 
-// The log likelihood of column s under a genotype. The clusters that it names have one share, all others another: logarithms are taken of these two.
-pub(crate) fn compute_log_likelihood(
+// The log likelihood of an animal's reads under a genotype. The clusters that it names have one share, all others another: logarithms are taken of these two.
+pub fn compute_log_likelihood(
     n: u64,
     counts: [u32; 24],
     weights: [f64; 8],
-    s: u64,
+    s: Sample,
     pair: Pair,
 ) -> f64
-    requires { ⌜ (n ≤ 8) × (s < 3) ⌝ }
     ensures { λ r. ⌜ r ≡ sampleScore n counts weights s pair ⌝ }
 {
-    let total = column_total(n, counts, s);
+    let many = in_use(n);
+    let column = sample_number(s);
+    let total = column_sum(many, counts, column);
     if total == 0 {
         return -1.0 / 0.0;
     }
-    let whole = expected_total(n, pair);
+    let whole = expected_total(many, pair);
     let called = share_of(expected(pair, pair.low), whole);
     let other = share_of(1e-3, whole);
     let mut log_lik = 0.0;
     let mut c: u64 = 0;
-    while c < n {
-        let obs = counts[(3 * c + s) as usize] as u64;
+    while c < many {
+        let obs = counts[(3 * c + column) as usize] as u64;
         let exp = either(pair, c, called, other);
         let q = weights[c as usize];
         log_lik = log_lik + (log_binomial(obs, total, exp) + ln(q + 1e-3));

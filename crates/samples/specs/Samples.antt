@@ -2,33 +2,40 @@
 use Prim.Native.Nat.{ℕ, zero, suc, _+_, _-_, _*_}
 use mathlib.Core.Bool.{Bool, cond, true, _&&_, _||_}
 use mathlib.Core.List.{List, [], _∷_, map}
-use lib.Dec.{eqb, ltb}
+use lib.Dec.{eqb, leb, ltb}
 use lib.ListN.{getD}
 use lib.Ieee.{Float, nan, inf, le, eq}
 use Rattle.floats.specs.F64.{_⊕_, _⊖_, _⊗_, _⊘_, nat, decimal}
 use Rattle.kernels.specs.Ln.{lnOf}
 use Rattle.family.specs.declared.pair.Pair.{Pair}
-use Rattle.trio.specs.declared.samples.Share.{Share}
+use Rattle.family.specs.declared.sample.Sample.{Sample}
+use Rattle.family.specs.Numbers.{sampleNumber}
+use Rattle.samples.specs.declared.samples.Share.{Share}
 
--- n numbers from c on; the clusters are those from 0 on
+-- n numbers from c on
 abbrev pub upFrom : ℕ → ℕ → List ℕ
 upFrom c zero = []
 upFrom c (suc n) = c ∷ upFrom (suc c) n
 
-abbrev pub clusters : ℕ → List ℕ
-clusters n = upFrom 0 n
+-- L2: the smaller of n and 8, since there are eight places and no more
+abbrev pub inUse : ℕ → ℕ
+inUse n = cond (leb n 8) n 8
 
--- the reads of animal s in cluster c: each cluster has three counts, by column
+-- the numbers of n clusters, from 0 on
+abbrev pub clusters : ℕ → List ℕ
+clusters n = upFrom 0 (inUse n)
+
+-- the reads in cluster c of the animal of a column: each cluster has three counts
 abbrev pub reads : List ℕ → ℕ → ℕ → ℕ
-reads counts s c = getD counts (3 * c + s) 0
+reads counts column c = getD counts (3 * c + column) 0
 
 abbrev pub sum : List ℕ → ℕ
 sum [] = 0
 sum (x ∷ l) = x + sum l
 
 -- all reads of an animal
-unfoldable pub columnTotal : ℕ → List ℕ → ℕ → ℕ
-columnTotal n counts s = sum (map (reads counts s) (clusters n))
+unfoldable pub columnTotal : ℕ → List ℕ → Sample → ℕ
+columnTotal n counts s = sum (map (reads counts (sampleNumber s)) (clusters n))
 
 -- a running sum of floats, left to right
 abbrev pub sumFrom : Float → List Float → Float
@@ -59,12 +66,12 @@ unfoldable pub expectationTotal : ℕ → Pair → Float
 expectationTotal n h = sumFrom (nat 0) (map (expectation h) (clusters n))
 
 -- what cluster c adds: its bracket is summed first
-unfoldable pub clusterTerm : ℕ → List ℕ → List Float → ℕ → Pair → ℕ → Float
+unfoldable pub clusterTerm : ℕ → List ℕ → List Float → Sample → Pair → ℕ → Float
 clusterTerm n counts weights s h c =
-    logBinomial (reads counts s c) (columnTotal n counts s) (expectation h c ⊘ expectationTotal n h) ⊕ lnOf (getD weights c nan ⊕ decimal 1 3)
+    logBinomial (reads counts (sampleNumber s) c) (columnTotal n counts s) (expectation h c ⊘ expectationTotal n h) ⊕ lnOf (getD weights c nan ⊕ decimal 1 3)
 
 -- without reads minus infinity, else the sum over the clusters in order
-unfoldable pub sampleScore : ℕ → List ℕ → List Float → ℕ → Pair → Float
+unfoldable pub sampleScore : ℕ → List ℕ → List Float → Sample → Pair → Float
 sampleScore n counts weights s h =
     cond (eqb (columnTotal n counts s) 0) (inf true) (sumFrom (nat 0) (map (clusterTerm n counts weights s h) (clusters n)))
 

@@ -1,4 +1,4 @@
--- `trio::samples::column_total` meets its contract. The loop's invariant: the total and what the clusters left add are the column's sum. Assumes nothing.
+-- `samples::samples::column_sum` meets its contract. The loop's invariant: the total and what the clusters left add are the column's sum. Assumes nothing.
 use mathlib.Core.Path.{_≡_}
 use mathlib.Core.List.{List, map}
 use Prim.Native.Nat.{ℕ, _+_, _-_, _*_, _^_, _≤_, _<_}
@@ -7,33 +7,32 @@ use native.Mathlib.Omega.{arith}
 use borrow.Author.Needs.{needs}
 use mir.Syntax.{w32}
 use mir.Val.{Fits}
-use Rattle.trio.specs.Samples.{sum, upFrom, reads, columnTotal}
-use Rattle.trio.proofs.SampleLaws.{up-next, up-done}
-use Rattle.trio.proofs.samples.column_total.Statement.{statement}
-use Rattle.trio.proofs.samples.column_total.Tie as tie
+use Rattle.samples.specs.Samples.{sum, upFrom, reads}
+use Rattle.samples.proofs.SampleLaws.{up-next, up-done}
+use Rattle.samples.proofs.samples.column_sum.Statement.{statement}
+use Rattle.samples.proofs.samples.column_sum.Tie as tie
 
 -- what the clusters from c on add
 abbrev left : ℕ → List ℕ → ℕ → ℕ → ℕ
 left n counts s c = sum (map (reads counts s) (upFrom c (n - c)))
 
 abbrev Inv-loop : tie.InvT-loop
-Inv-loop n s counts total₀ c₀ total c = (c ≤ n) × (total ≤ c * 2 ^ 32) × (total + left n counts s c ≡ columnTotal n counts s)
+Inv-loop n column counts total₀ c₀ total c = (c ≤ n) × (total ≤ c * 2 ^ 32) × (total + left n counts column c ≡ sum (map (reads counts column) (upFrom 0 n)))
 
 abbrev μ-loop : tie.MeasureT-loop
-μ-loop n s counts total₀ c₀ total c = n - c
+μ-loop n column counts total₀ c₀ total c = n - c
 
 -- the cluster at hand, and that its count is a u32
 left-next : (n : ℕ) (counts : List ℕ) (s c : ℕ) → c < n → left n counts s c ≡ reads counts s c + left n counts s (c + 1)
 left-next n counts s c h = rw (up-next c n h)
 
 abbrev taken : (c : tie.In-loop Inv-loop μ-loop) → ℕ
-taken c = reads (c .before .before .args .t2) (c .before .before .args .s) (c .before .loop .c)
+taken c = reads (c .before .before .args .t2) (c .before .before .args .column) (c .before .loop .c)
 
 small : (c : tie.In-loop Inv-loop μ-loop) → Fits w32 (taken c)
 small c = search needs
 
 loop-holds : tie.Need-loop-holds Inv-loop μ-loop
-unfolding columnTotal
 loop-holds c = (search needs, search needs, rw (zero-add, sub-zero))
 
 mul-total : tie.Need-mul-total Inv-loop μ-loop
@@ -64,16 +63,16 @@ loop-again : tie.Need-loop-again Inv-loop μ-loop
 loop-again c =
     let start = c .before .before .args in
     let now = c .before .loop in
-    (omega arith, omega (arith, small c), omega (arith, left-next (start .n) (start .t2) (start .s) (now .c) (c .loop-test .taken)))
+    (omega arith, omega (arith, small c), omega (arith, left-next (start .many) (start .t2) (start .column) (now .c) (c .loop-test .taken)))
 
 returns : tie.Need-returns Inv-loop μ-loop
 returns c =
     let start = c .before .before .args in
     let now = c .before .loop in
-    (rw (up-done (now .c) (start .n) (c .loop-test .left), add-zero) at (now .inv .2), omega arith)
+    (rw (up-done (now .c) (start .many) (c .loop-test .left), add-zero) at (now .inv .2), omega arith)
 
-pub column-total-spec : {M : Type 1} → statement M
-column-total-spec =
+pub column-sum-spec : {M : Type 1} → statement M
+column-sum-spec =
     tie.close
     (tie.spec
     Inv-loop

@@ -1,4 +1,4 @@
--- The clusters that a loop has still to walk; that a count is at most its column's sum; that the clusters of a kind have one share. Assumes nothing.
+-- The clusters that are looked at, and those that a loop has still to walk; the columns; that a count is at most its column's sum; that the clusters of a kind have one share. Assumes nothing.
 use mathlib.Core.Path.{_≡_, refl, sym, ap, _∙_}
 use mathlib.Core.Bool.{Bool, true, false, cond, _&&_, _||_}
 use mathlib.Core.List.{List, [], _∷_, map}
@@ -6,12 +6,30 @@ use Prim.Native.Nat.{ℕ, zero, suc, _+_, _-_, _≤_, _<_}
 use native.Mathlib.Nat.{zero-add, add-zero, add-suc, suc-add}
 use native.Mathlib.Numerals.{add-one}
 use native.Mathlib.Omega.{arith}
-use borrow.Author.Tests.{eq-eqb, ne-eqb, eqb-true, eqb-false}
-use lib.Dec.{eqb}
+use borrow.Author.Tests.{eq-eqb, ne-eqb, eqb-true, eqb-false, le-leb, leb-true}
+use lib.Dec.{eqb, leb, lit≤, lit<}
 use lib.Ieee.{Float}
 use Rattle.floats.specs.F64.{_⊘_, nat, decimal}
 use Rattle.family.specs.declared.pair.Pair.{Pair}
-use Rattle.trio.specs.Samples.{upFrom, sum, reads, columnTotal, named, expectation, withLogs}
+use Rattle.family.specs.declared.sample.Sample.{Sample}
+use Rattle.family.specs.declared.sample.Sample.the-variants.{Child, Father, Mother}
+use Rattle.family.specs.Numbers.{sampleNumber}
+use Rattle.samples.specs.Samples.{upFrom, inUse, sum, reads, columnTotal, named, expectation, withLogs}
+
+pub in-use : (n : ℕ) → n ≤ 8 → inUse n ≡ n
+in-use n h = rw (le-leb n 8 h)
+
+pub in-use-few : (n : ℕ) → inUse n ≤ 8
+in-use-few n = go (leb n 8) refl
+  where
+    go : (t : Bool) → leb n 8 ≡ t → cond t n 8 ≤ 8
+    go true e = leb-true n 8 e
+    go false e = lit≤ tt
+
+pub sample-below : (s : Sample) → sampleNumber s < 3
+sample-below Child = lit< tt
+sample-below Father = lit< tt
+sample-below Mother = lit< tt
 
 pub up-next : (c n : ℕ) → c < n → upFrom c (n - c) ≡ c ∷ upFrom (c + 1) (n - (c + 1))
 up-next c n h = let one : n - c ≡ suc (n - (c + 1)) = omega arith in rw (one, add-one)
@@ -31,9 +49,12 @@ part-at-most f i (suc m) (suc d) h =
     let later = part-at-most f (suc i) m d k in
     rw (add-suc, ← suc-add) (omega arith)
 
-pub count-at-most : (n : ℕ) (counts : List ℕ) (s c : ℕ) → c < n → reads counts s c ≤ columnTotal n counts s
+pub count-in-column : (counts : List ℕ) (column m c : ℕ) → c < m → reads counts column c ≤ sum (map (reads counts column) (upFrom 0 m))
+count-in-column counts column m c h = rw zero-add at (part-at-most (reads counts column) 0 m c h)
+
+pub count-at-most : (n : ℕ) (counts : List ℕ) (s : Sample) (c : ℕ) → c < inUse n → reads counts (sampleNumber s) c ≤ columnTotal n counts s
 unfolding columnTotal
-count-at-most n counts s c h = rw zero-add at (part-at-most (reads counts s) 0 n c h)
+count-at-most n counts s c h = count-in-column counts (sampleNumber s) (inUse n) c h
 
 expectation-by : (h : Pair) (c : ℕ) (a b : Bool) → eqb c (h .low) ≡ a → eqb c (h .high) ≡ b → expectation h c ≡ cond (a && b) (nat 1) (cond (a || b) (decimal 5 1) (decimal 1 3))
 unfolding expectation
