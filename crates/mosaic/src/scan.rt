@@ -3,7 +3,7 @@ ghost use mathlib.Core.Path.{_≡_};
 ghost use Prim.Native.Nat.{_≤_, _<_};
 ghost use lib.ListN.{length};
 ghost use Rattle.mosaic.specs.Choice.{winner};
-ghost use Rattle.mosaic.specs.Inner.{bothSeen, pushed, scanStep, scannedBy};
+ghost use Rattle.mosaic.specs.Inner.{bothSeen, pushed, scannedBy};
 use crate::counts::seen;
 use crate::hypotheses::Pair;
 use crate::hypotheses::pair_at;
@@ -40,19 +40,8 @@ fn both_seen(counts: &[u32], g: Pair) -> bool
     seen(counts, g.first) && seen(counts, g.second)
 }
 
-// The pair of number t is a hypothesis where its alleles are seen.
-fn scan_pair(counts: &[u32], site: Site, scan: Scan, t: usize) -> Scan
-    requires { ⌜ (length (now counts) ≤ 8) × (t < 36) × (scan .count ≤ t) ⌝ }
-    ensures { λ r. ⌜ r ≡ scanStep (now (counts .entry)) site t scan ⌝ }
-{
-    let g = pair_at(t);
-    if both_seen(counts, g) {
-        let found = find(counts, g, site);
-        return push(scan, g, found.posterior);
-    }
-    scan
-}
-
+// Each pair whose alleles are seen is a hypothesis. The others are passed by here and not in a function of their own, to which the scan would be
+// copied for each.
 pub(crate) fn scan_all(counts: &[u32], site: Site) -> Scan
     requires { ⌜ length (now counts) ≤ 8 ⌝ }
     ensures { λ r. ⌜ r ≡ scannedBy (now (counts .entry)) site ⌝ }
@@ -68,7 +57,11 @@ pub(crate) fn scan_all(counts: &[u32], site: Site) -> Scan
     };
     let mut t = 0;
     while t < 36 {
-        scan = scan_pair(counts, site, scan, t);
+        let g = pair_at(t);
+        if both_seen(counts, g) {
+            let found = find(counts, g, site);
+            scan = push(scan, g, found.posterior);
+        }
         t += 1;
     }
     scan
