@@ -1,8 +1,4 @@
 // Hypotheses: which alleles are germline.
-ghost use mathlib.Core.Path.{_≡_};
-ghost use Prim.Native.Nat.{_<_};
-ghost use lib.ListN.{getD};
-ghost use Rattle.mosaic.specs.Hypotheses.{pair, allPairs};
 
 // One germline allele, then both numbers are its own, or two.
 pub struct Pair {
@@ -10,7 +6,8 @@ pub struct Pair {
     pub second: usize,
 }
 
-const FIRSTS: [usize; 36] = [
+// Every pair of eight alleles, each allele alone and then two, both rising: its first number, and its second.
+pub(crate) const FIRSTS: [usize; 36] = [
     0,
     1,
     2,
@@ -49,7 +46,7 @@ const FIRSTS: [usize; 36] = [
     6,
 ];
 
-const SECONDS: [usize; 36] = [
+pub(crate) const SECONDS: [usize; 36] = [
     0,
     1,
     2,
@@ -87,14 +84,3 @@ const SECONDS: [usize; 36] = [
     7,
     7,
 ];
-
-// Every pair of eight alleles by its number: each allele alone, then two, both rising.
-pub(crate) fn pair_at(t: usize) -> Pair
-    requires { ⌜ t < 36 ⌝ }
-    ensures { λ r. ⌜ r ≡ getD allPairs t (pair 0 0) ⌝ }
-{
-    Pair {
-        first: FIRSTS[t],
-        second: SECONDS[t],
-    }
-}

@@ -5,8 +5,9 @@ ghost use lib.ListN.{length};
 ghost use Rattle.mosaic.specs.Choice.{winner};
 ghost use Rattle.mosaic.specs.Inner.{bothSeen, pushed, scannedBy};
 use crate::counts::seen;
+use crate::hypotheses::FIRSTS;
 use crate::hypotheses::Pair;
-use crate::hypotheses::pair_at;
+use crate::hypotheses::SECONDS;
 use crate::order::at_most;
 use crate::search::find;
 use crate::site::Site;
@@ -46,6 +47,8 @@ pub(crate) fn scan_all(counts: &[u32], site: Site) -> Scan
     requires { ⌜ length (now counts) ≤ 8 ⌝ }
     ensures { λ r. ⌜ r ≡ scannedBy (now (counts .entry)) site ⌝ }
 {
+    let firsts = FIRSTS;
+    let seconds = SECONDS;
     let none = Pair {
         first: 0,
         second: 0,
@@ -57,7 +60,10 @@ pub(crate) fn scan_all(counts: &[u32], site: Site) -> Scan
     };
     let mut t = 0;
     while t < 36 {
-        let g = pair_at(t);
+        let g = Pair {
+            first: firsts[t],
+            second: seconds[t],
+        };
         if both_seen(counts, g) {
             let found = find(counts, g, site);
             scan = push(scan, g, found.posterior);

@@ -1,9 +1,13 @@
--- `mosaic::scan::scan_all` meets its contract. The loop's invariant: the first `t` pairs have been looked at. Assumes nothing.
+-- `mosaic::scan::scan_all` meets its contract. The loop's invariant: the two tables are the list of pairs, and the first `t` pairs have been looked at.
+-- Assumes nothing.
 use mathlib.Core.Path.{_≡_, refl, ap, _∙_}
 use mathlib.Core.Logic.{⊎-elim}
-use Prim.Native.Nat.{_+_, _-_, _≤_}
+use Prim.Native.Nat.{ℕ, _+_, _-_, _≤_}
+use lib.ListN.{getD}
 use lib.Ieee.{ofInt, ofBits}
+use Rattle.mosaic.specs.Hypotheses.{pair, allPairs}
 use Rattle.mosaic.specs.Inner.{scanStep, scanOver, scannedBy}
+use Rattle.mosaic.proofs.PairTable.{pair-table}
 use Rattle.mosaic.proofs.ScanLaws.{scanned-low}
 use borrow.Author.Needs.{needs}
 use native.Mathlib.Omega.{arith}
@@ -12,17 +16,27 @@ use Rattle.mosaic.proofs.scan.scan_all.Statement.{statement}
 use Rattle.mosaic.proofs.scan.scan_all.Tie as tie
 
 abbrev Inv-loop : tie.InvT-loop
-Inv-loop counts site scan₀ t₀ scan t = (t ≤ 36) × (scan .count ≤ t) × (scan ≡ scanOver counts site t)
+Inv-loop counts site firsts seconds scan₀ t₀ scan t =
+    (t ≤ 36) × (scan .count ≤ t) × (scan ≡ scanOver counts site t) × ((i : ℕ) → pair (getD firsts i 0) (getD seconds i 0) ≡ getD allPairs i (pair 0 0))
 
 abbrev μ-loop : tie.MeasureT-loop
-μ-loop counts site scan₀ t₀ scan t = 36 - t
+μ-loop counts site firsts seconds scan₀ t₀ scan t = 36 - t
 
 loop-holds : tie.Need-loop-holds Inv-loop μ-loop
 unfolding ofInt ofBits
-loop-holds c = (search needs, search needs, refl)
+loop-holds c = (search needs, search needs, refl, pair-table)
 
-pair-at-requires : tie.Need-pair-at-requires Inv-loop μ-loop
-pair-at-requires c κs = search needs
+mul-t14 : tie.Need-mul-t14 Inv-loop μ-loop
+mul-t14 c = search needs
+
+array-read-t17 : tie.Need-array-read-t17 Inv-loop μ-loop
+array-read-t17 c = search needs
+
+mul-t18 : tie.Need-mul-t18 Inv-loop μ-loop
+mul-t18 c = search needs
+
+array-read-t21 : tie.Need-array-read-t21 Inv-loop μ-loop
+array-read-t21 c = search needs
 
 both-seen-requires : tie.Need-both-seen-requires Inv-loop μ-loop
 both-seen-requires c κs = search needs
@@ -42,12 +56,12 @@ loop-less c = search needs
 loop-again : tie.Need-loop-again Inv-loop μ-loop
 unfolding scanStep
 loop-again c =
-    let loop = c .before .before .before .before .loop in
-    let a = c .before .before .before .before .before .before .args in
+    let loop = c .before .before .before .loop in
+    let a = c .before .before .before .before .before .args in
     let e : c .if1 .scan ≡ scanOver (a .counts .now) (a .site) (loop .t + 1) =
-    rw (add-one, ← loop .inv .2, ← c .before .before .pair-at .ensures, ← c .before .both-seen .ensures)
+    rw (add-one, ← loop .inv .2, ← loop .inv .3 (loop .t), ← c .before .both-seen .ensures)
     (⊎-elim (λ w. rw (w .0 .taken, ← w .1 .ensures) (w .3 ∙ w .2 .ensures)) (λ w. rw (w .0 .left) (w .1)) (c .if1 .came)) in
-    (search needs, rw e (scanned-low (a .counts .now) (a .site) (loop .t + 1)), e)
+    (search needs, rw e (scanned-low (a .counts .now) (a .site) (loop .t + 1)), e, loop .inv .3)
 
 returns : tie.Need-returns Inv-loop μ-loop
 unfolding scannedBy
@@ -56,4 +70,18 @@ returns c = let a = c .before .before .before .args in let e : c .before .loop .
 pub scan-all-spec : {M : Type 1} → statement M
 scan-all-spec =
     tie.close
-    (tie.spec Inv-loop μ-loop loop-holds pair-at-requires both-seen-requires find-requires push-requires add-t loop-less loop-again returns)
+    (tie.spec
+    Inv-loop
+    μ-loop
+    loop-holds
+    mul-t14
+    array-read-t17
+    mul-t18
+    array-read-t21
+    both-seen-requires
+    find-requires
+    push-requires
+    add-t
+    loop-less
+    loop-again
+    returns)
