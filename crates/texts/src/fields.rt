@@ -1,5 +1,6 @@
 // The fields of a line, which one byte parts (docs/RULES.md, A1).
 ghost use mathlib.Core.Path.{_≡_};
+ghost use Prim.Native.Nat.{_+_};
 ghost use lib.ListN.{drop};
 ghost use Rattle.texts.specs.Fields.{upTo, fieldEnd};
 
@@ -29,4 +30,11 @@ pub fn field(line: &[u8], start: usize, separator: u8) -> &[u8]
         return &line[end..end];
     }
     &line[start..end]
+}
+
+// Where the field behind it starts: past the line's end where there is none.
+pub fn next_field(line: &[u8], start: usize, separator: u8) -> usize
+    ensures { λ r. ⌜ r ≡ fieldEnd separator start (now (line .entry)) + 1 ⌝ }
+{
+    field_end(line, start, separator) + 1
 }

@@ -1,6 +1,8 @@
 -- Which genotype stands where, and the triples in the order of the search. Definitions only (RULES.md, T1).
 use Prim.Native.Nat.{ℕ, _*_, _/_, _%_}
 use mathlib.Core.List.{List, [], _∷_, _++_, map}
+use mathlib.Core.Bool.{cond, _&&_}
+use lib.Dec.{leb}
 use lib.ListN.{getD}
 use Rattle.family.specs.declared.pair.Pair.{Pair}
 use Rattle.family.specs.declared.pair.Triple.{Triple}
@@ -31,3 +33,7 @@ each f (x ∷ l) = f x ++ each f l
 abbrev pub triples : ℕ → List Triple
 triples n =
     each (λ (f : Pair). each (λ (m : Pair). map (λ (c : Pair). record { child = c; father = f; mother = m }) (genotypes n)) (genotypes n)) (genotypes n)
+
+-- the same for any n: zeros where it is none of 1 to 8
+unfoldable pub tripleOf : ℕ → ℕ → Triple
+tripleOf n p = let none = pair 0 0 in cond (leb 1 n && leb n 8) (tripleAt n p) (record { child = none; father = none; mother = none })

@@ -1,7 +1,7 @@
 // The genotype at a place of the list, and the triple at a position (docs/RULES.md, T1).
 ghost use mathlib.Core.Path.{_≡_};
 ghost use Prim.Native.Nat.{_≤_};
-ghost use Rattle.trio.specs.Genotypes.{genotypeAt, tripleAt};
+ghost use Rattle.trio.specs.Genotypes.{genotypeAt, tripleAt, tripleOf};
 use family::genotypes::genotype_count;
 use family::pair::Pair;
 use family::pair::Triple;
@@ -38,5 +38,20 @@ pub(crate) fn triple_at(n: u64, position: u64) -> Triple
         child,
         father,
         mother,
+    }
+}
+
+// The triple at a position, for whoever reads an answer: pairs of zeros where n is no number of clusters.
+pub fn triple_of(n: u64, position: u64) -> Triple
+    ensures { λ r. ⌜ r ≡ tripleOf n position ⌝ }
+{
+    if 1 <= n && n <= 8 {
+        return triple_at(n, position);
+    }
+    let none = Pair { low: 0, high: 0 };
+    Triple {
+        child: none,
+        father: none,
+        mother: none,
     }
 }

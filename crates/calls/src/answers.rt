@@ -1,0 +1,41 @@
+// Answers as text.
+use crate::sites::TAB;
+use family::pair::Pair;
+use family::pair::Triple;
+use refusals::Refusal;
+use texts::fields::field;
+use texts::laying::lay;
+use texts::laying::lay_whole;
+
+pub fn unreadable(text: &mut [u8], at: usize, number: u64) -> usize {
+    let numbered = lay(text, at, b"?\tline ");
+    let said = lay_whole(text, numbered, number);
+    lay(text, said, b" cannot be read")
+}
+
+// How every answer to a line that can be read starts: the site, and the number and name of its refusal.
+pub fn head(line: &[u8], site: usize, text: &mut [u8], at: usize, refusal: Refusal) -> usize {
+    let named = lay(text, at, field(line, site, TAB));
+    let to_number = lay(text, named, b"\t");
+    let numbered = lay_whole(text, to_number, refusals::number(refusal) as u64);
+    let to_name = lay(text, numbered, b"\t");
+    let name = refusals::name(refusal);
+    lay(text, to_name, field(&name, 0, 0))
+}
+
+// Two alleles, behind a tab.
+pub fn pair(text: &mut [u8], at: usize, p: Pair) -> usize {
+    let to_low = lay(text, at, b"\t");
+    let to_slash = lay_whole(text, to_low, p.low);
+    let to_high = lay(text, to_slash, b"/");
+    lay_whole(text, to_high, p.high)
+}
+
+pub fn triple(text: &mut [u8], at: usize, t: Triple) -> usize {
+    let child = t.child;
+    let father = t.father;
+    let mother = t.mother;
+    let to_father = pair(text, at, child);
+    let to_mother = pair(text, to_father, father);
+    pair(text, to_mother, mother)
+}

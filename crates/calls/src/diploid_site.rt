@@ -1,0 +1,60 @@
+// A diploid site: `diploid SITE REF ALT1 ALT2`, with the default model.
+use crate::answers;
+use crate::numbers::Many;
+use crate::numbers::Read;
+use crate::numbers::how_many;
+use crate::numbers::read_counts;
+use crate::sites::End;
+use crate::sites::TAB;
+use diploid::genotype::GenotypeResult;
+use diploid::genotype::genotype;
+use models::model::Model;
+use models::state::State;
+use texts::fields::next_field;
+use texts::figures::lay_figure;
+use texts::laying::lay;
+
+fn state(text: &mut [u8], at: usize, s: State) -> usize {
+    match s {
+        State::Ref => lay(text, at, b"\tRef\t"),
+        State::Het => lay(text, at, b"\tHet\t"),
+        State::Hom => lay(text, at, b"\tHom\t"),
+        State::Non => lay(text, at, b"\tNon\t"),
+    }
+}
+
+fn called(line: &[u8], site: usize, text: &mut [u8], at: usize, r: GenotypeResult) -> usize {
+    let refusal = r.refusal;
+    let to_state = answers::head(line, site, text, at, refusal);
+    if refusals::number(refusal) != 0 {
+        return to_state;
+    }
+    let s = r.state;
+    let to_gq = state(text, to_state, s);
+    let to_tab = lay_figure(text, to_gq, r.gq);
+    let to_sq = lay(text, to_tab, b"\t");
+    lay_figure(text, to_sq, r.sq)
+}
+
+pub fn diploid(line: &[u8], site: usize, text: &mut [u8], at: usize) -> End {
+    let start = next_field(line, site, TAB);
+    let Many::Are(many) = how_many(line, start) else {
+        return End::Unread;
+    };
+    if many != 3 {
+        return End::Unread;
+    }
+    let mut counts = [0u32; 3];
+    let Read::To(_) = read_counts(line, start, 3, &mut counts) else {
+        return End::Unread;
+    };
+    let no_table = [0.0f64; 1];
+    let r = genotype(
+        Model::default(),
+        &no_table[..0],
+        counts[0],
+        counts[1],
+        counts[2],
+    );
+    End::At(called(line, site, text, at, r))
+}

@@ -1,0 +1,96 @@
+// A trio: `trio SITE N`, then 3·N counts and N weights.
+ghost use Prim.Native.Nat.{_≤_};
+use crate::answers;
+use crate::numbers::Many;
+use crate::numbers::Read;
+use crate::numbers::how_many;
+use crate::numbers::read_counts;
+use crate::numbers::read_weights;
+use crate::numbers::short_whole;
+use crate::sites::End;
+use crate::sites::TAB;
+use desks::call::call;
+use family::ground::Ground;
+use texts::fields::field;
+use texts::fields::next_field;
+use texts::laying::lay;
+use texts::wholes::Whole;
+use trio::closing::Closed;
+use trio::genotypes::triple_of;
+
+fn ground(text: &mut [u8], at: usize, g: Ground) -> usize {
+    match g {
+        Ground::NoGround => lay(text, at, b"\t-"),
+        Ground::Won => lay(text, at, b"\tWon"),
+        Ground::Tied => lay(text, at, b"\tTied"),
+        Ground::Unread => lay(text, at, b"\tUnread"),
+    }
+}
+
+// The answer to n clusters.
+fn closed(line: &[u8], site: usize, text: &mut [u8], at: usize, n: u64, c: Closed) -> usize {
+    let refusal = c.refusal;
+    let to_call = answers::head(line, site, text, at, refusal);
+    if refusals::number(refusal) != 0 {
+        return to_call;
+    }
+    let called = c.triple;
+    let g = c.ground;
+    let runner = c.runner;
+    let to_ground = answers::triple(text, to_call, called);
+    let to_runner = ground(text, to_ground, g);
+    if c.has_runner {
+        return answers::triple(text, to_runner, triple_of(n, runner.position));
+    }
+    lay(text, to_runner, b"\t-")
+}
+
+// The refusal of a cluster number that is not allowed, or of the wrong number of counts and weights.
+fn refused(line: &[u8], site: usize, text: &mut [u8], at: usize, n: u64) -> usize {
+    let counts = [0u32; 1];
+    let weights = [0.0f64; 1];
+    let c = call(n, &counts[..0], &weights[..0]);
+    closed(line, site, text, at, n, c)
+}
+
+// The answer to n clusters whose numbers, as many as they must be, start at a place of the line.
+fn counted(line: &[u8], site: usize, start: usize, text: &mut [u8], at: usize, n: u64) -> End
+    requires { ⌜ n ≤ 8 ⌝ }
+{
+    let mut counts = [0u32; 24];
+    let mut weights = [0.0f64; 8];
+    let clusters = n as usize;
+    let places = 3 * clusters;
+    let Read::To(to_weights) = read_counts(line, start, places, &mut counts) else {
+        return End::Unread;
+    };
+    let Read::To(_) = read_weights(line, to_weights, clusters, &mut weights) else {
+        return End::Unread;
+    };
+    if counts.len() < places {
+        return End::Unread;
+    }
+    if weights.len() < clusters {
+        return End::Unread;
+    }
+    let c = call(n, &counts[..places], &weights[..clusters]);
+    End::At(closed(line, site, text, at, n, c))
+}
+
+pub fn trio(line: &[u8], site: usize, text: &mut [u8], at: usize) -> End {
+    let first = next_field(line, site, TAB);
+    let Whole::Is(n) = short_whole(field(line, first, TAB)) else {
+        return End::Unread;
+    };
+    let start = next_field(line, first, TAB);
+    let Many::Are(many) = how_many(line, start) else {
+        return End::Unread;
+    };
+    if n > 8 {
+        return End::At(refused(line, site, text, at, n));
+    }
+    if many as u64 != 4 * n {
+        return End::At(refused(line, site, text, at, n));
+    }
+    counted(line, site, start, text, at, n)
+}
