@@ -24,6 +24,7 @@ mod mosaic_walks;
 mod pairs;
 mod part;
 mod port;
+mod site_cases;
 mod step_cases;
 mod tally;
 mod trio;
@@ -47,7 +48,7 @@ fn main() -> ExitCode {
         "compare" if compare::run() => {}
         "compare" => return ExitCode::FAILURE,
         "cases" => {
-            if let Err(error) = cases::write() {
+            if let Err(error) = cases::write().and_then(|()| site_cases::write()) {
                 eprintln!("the cases were not written: {error}");
                 return ExitCode::FAILURE;
             }
