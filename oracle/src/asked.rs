@@ -1,13 +1,13 @@
-//! The program `vectors` as another process: lines to its standard input, lines from its standard output. It is target/bin/vectors, or what
-//! the variable VECTORS names.
+//! The programs `vectors` and `calls` as other processes: lines to their standard input, lines from their standard output. They are those of target/bin,
+//! or what the variables VECTORS and CALLS name.
 use std::env;
 use std::io::{self, Read, Write};
 use std::process::{Command, Stdio};
 use std::thread;
 
-/// The program's answers, a line each, to these questions. It starts with registers of all zeros.
-pub fn answers(questions: &[String]) -> io::Result<Vec<String>> {
-    let program = env::var("VECTORS").unwrap_or_else(|_| "target/bin/vectors".to_string());
+/// The answers of the program with this name, a line each, to these questions. `vectors` starts with registers of all zeros.
+fn answers(name: &str, questions: &[String]) -> io::Result<Vec<String>> {
+    let program = env::var(name.to_uppercase()).unwrap_or_else(|_| format!("target/bin/{name}"));
     let mut child = Command::new(program).stdin(Stdio::piped()).stdout(Stdio::piped()).spawn()?;
     let mut input = child.stdin.take().expect("its input is piped");
     let text = questions.join("\n");
@@ -32,9 +32,9 @@ impl Exchange {
         self.expected.push(answer);
     }
 
-    /// The questions whose answers differ from what is expected, with both. A missing answer differs from every other.
-    pub fn differences(&self) -> Vec<(String, String, String)> {
-        let answers = answers(&self.questions).unwrap_or_else(|error| panic!("`vectors` could not be asked: {error}"));
+    /// The questions whose answers by a program differ from what is expected, with both. A missing answer differs from every other.
+    pub fn differences(&self, program: &str) -> Vec<(String, String, String)> {
+        let answers = answers(program, &self.questions).unwrap_or_else(|error| panic!("`{program}` could not be asked: {error}"));
         let answer = |i: usize| answers.get(i).map_or("nothing".to_string(), String::clone);
         let differs = |&i: &usize| answer(i) != self.expected[i];
         let one = |i: usize| (self.questions[i].clone(), answer(i), self.expected[i].clone());

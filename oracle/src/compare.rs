@@ -1,11 +1,13 @@
 //! Runs the port and the plain Rust on the same inputs and compares every bit; any NaN equals any NaN. A line for each kind of docs/VECTORS.md, and
-//! one for the histories of parts. Calls go through the C functions, and some of each kind through the program `vectors` as text too.
+//! one each for the histories of parts and for the sites of docs/CALLS.md. Calls go through the C functions, and some of each kind through the program `vectors` as text too.
 use crate::asked::Exchange;
 use crate::cases::{self, word};
 use crate::diploid::{self, Input};
 use crate::inputs::{self, Random, Trial};
 use crate::tally::Tally;
-use crate::{diploid_cases, diploid_inputs, histories, kanpig, kernels, mosaic, mosaic_cases, mosaic_inputs, port, trio_compare};
+use crate::{
+    diploid_cases, diploid_inputs, histories, kanpig, kernels, mosaic, mosaic_cases, mosaic_inputs, port, site_cases, trio_compare,
+};
 
 /// Of the inputs of a kind, so many are asked as text.
 const AS_TEXT: usize = 50_000;
@@ -16,7 +18,7 @@ fn same(a: f64, b: f64) -> bool {
 
 /// The answers to an exchange, compared.
 pub fn asked(name: &str, exchange: &Exchange) -> Tally {
-    Tally::shown(&format!("{name}, as text"), exchange.questions.len(), &exchange.differences())
+    Tally::shown(&format!("{name}, as text"), exchange.questions.len(), &exchange.differences("vectors"))
 }
 
 fn asked_all<T>(name: &str, inputs: &[T], case: impl Fn(&T) -> (String, String)) -> Tally {
@@ -80,6 +82,16 @@ fn mosaics() -> Tally {
     (few + many + mosaic((0..100_000).map(|_| mosaic_inputs::disturbed(random)))).line("mosaic")
 }
 
+/// Sites of all three kinds, through the program `calls`.
+fn sites() -> Tally {
+    let lines = site_cases::random_lines(91, 4_000);
+    let mut exchange = Exchange::default();
+    for (line, answer) in lines.iter().zip(site_cases::answers(&lines)) {
+        exchange.add(line.clone(), answer);
+    }
+    Tally::shown("calls", lines.len(), &exchange.differences("calls")).line("sites through calls")
+}
+
 /// What needs kanpig's own text.
 fn genotypers(xs: &[f64]) -> Vec<Tally> {
     if !kanpig::FOUND {
@@ -88,7 +100,7 @@ fn genotypers(xs: &[f64]) -> Vec<Tally> {
     }
     let mut all = vec![float_kernel("stirling", xs, port::stirling, mosaic::short_log_gamma), diploids()];
     all.extend(trio_compare::run());
-    all.extend([histories::run(), mosaics()]);
+    all.extend([histories::run(), mosaics(), sites()]);
     all
 }
 

@@ -8,9 +8,8 @@ use crate::trio;
 use std::fs;
 use std::io;
 
-const REFUSALS: [&str; 13] = [
-    "done", "NoCluster", "TooMany", "Shape", "Count", "Weight", "Model", "Table", "Row", "OtherTrio", "NotComplete", "NoCall", "BadPart",
-];
+const REFUSALS: [&str; 13] =
+    ["done", "NoCluster", "TooMany", "Shape", "Count", "Weight", "Model", "Table", "Row", "OtherTrio", "NotComplete", "NoCall", "BadPart"];
 const GROUNDS: [&str; 4] = ["-", "Won", "Tied", "Unread"];
 const STATES: [&str; 4] = ["Ref", "Het", "Hom", "Non"];
 
@@ -122,23 +121,24 @@ fn joined(kind: &str, site: &str, numbers: &[String]) -> String {
     [&[kind.to_string(), site.to_string()], numbers].concat().join("\t")
 }
 
-fn random_lines() -> Vec<String> {
-    let random = &mut Random::new(90);
+/// So many of each kind.
+pub fn random_lines(seed: u64, each: u32) -> Vec<String> {
+    let random = &mut Random::new(seed);
     let mut lines = vec![];
-    for i in 0..160 {
-        let n = if i < 40 { 2 } else { random.below(8) + 1 };
+    for i in 0..each {
+        let n = if i % 4 == 0 { 2 } else { random.below(8) + 1 };
         let most = [3, 12, 40][random.below(3) as usize];
         let mut numbers = vec![n.to_string()];
         numbers.extend((0..3 * n).map(|_| random.below(most).to_string()));
         numbers.extend((0..n).map(|_| weight(random)));
         lines.push(joined("trio", &format!("t{i}"), &numbers));
     }
-    for i in 0..160 {
+    for i in 0..each {
         let most = [4, 30, 300, 1_000_001][random.below(4) as usize];
         let numbers: Vec<String> = (0..3).map(|_| random.below(most).to_string()).collect();
         lines.push(joined("diploid", &format!("d{i}"), &numbers));
     }
-    for i in 0..160 {
+    for i in 0..each {
         let alleles = random.below(9) + u64::from(i % 20 == 0);
         let most = [4, 30, 300, 2_000][random.below(4) as usize];
         let numbers: Vec<String> = (0..alleles).map(|_| (random.below(most) / (random.below(9) + 1)).to_string()).collect();
@@ -246,17 +246,21 @@ fn long_lines() -> Vec<String> {
     [4095, 4096, 4097, 9000].iter().map(|&length| format!("diploid\t{}\t1\t2\t3", "s".repeat(length - 14))).collect()
 }
 
+/// The answers to these lines.
+pub fn answers(lines: &[String]) -> Vec<String> {
+    let unread = |number: usize| format!("?\tline {number} cannot be read");
+    lines.iter().enumerate().map(|(i, line)| answer(line).unwrap_or_else(|| unread(i + 1))).collect()
+}
+
 /// The last line has no newline, as an input's last line may.
 pub fn write() -> io::Result<()> {
     let sample = fs::read_to_string("docs/sites.txt")?;
     let mut lines: Vec<String> = sample.lines().chain(REFUSED).chain(SPELLED).map(String::from).collect();
     lines.extend(edges());
     lines.extend(long_lines());
-    lines.extend(random_lines());
-    let unread = |number: usize| format!("?\tline {number} cannot be read");
-    let answers: Vec<String> = lines.iter().enumerate().map(|(i, line)| answer(line).unwrap_or_else(|| unread(i + 1))).collect();
+    lines.extend(random_lines(90, 160));
     fs::write("crates/calls/stdin", lines.join("\n"))?;
-    fs::write("crates/calls/stdout", answers.join("\n") + "\n")?;
+    fs::write("crates/calls/stdout", answers(&lines).join("\n") + "\n")?;
     println!("{} sites written to crates/calls/stdin and crates/calls/stdout", lines.len());
     Ok(())
 }
