@@ -41,20 +41,24 @@ module _ (e : Edition) (p : Params) (counts : List ℕ) (g : Pair) where
   abbrev start : Best
   start = record { vafs = startVafs counts g; value = inf true }
 
-  module _ (all : (i : ℕ) → i < length counts → somaticIn counts g i ≡ true → (x : Float) → valueOf e p counts g (set (startVafs counts g) i x) ≡ inf true) where
-    tried-start : (i : ℕ) → i < length counts → somaticIn counts g i ≡ true → (x : Float) (b : Best) → b ≡ start → tried e p counts g i x b ≡ start
-    tried-start i l s x b h = ap (tried e p counts g i x) h ∙ least-stays i x start (unfold fits in tt) (unfold isNan in refl) (all i l s x)
+  abbrev Least : ℕ → Float → Type 0
+  Least i x = valueOf e p counts g (set (startVafs counts g) i x) ≡ inf true
 
-    either : (t : Bool) (a b : Best) → a ≡ start → b ≡ start → cond t a b ≡ start
-    either true a b h k = h
-    either false a b h k = k
+  module _ (shares : (i : ℕ) → i < length counts → somaticIn counts g i ≡ true → Least i (observedShare e p counts g i))
+      (steps : (i : ℕ) → i < length counts → somaticIn counts g i ≡ true → (s : ℕ) → s < 21 → lt (decimal 1 3) (stepOf e p counts g s) ≡ true → Least i (stepOf e p counts g s)) where
+    tried-start : (i : ℕ) (x : Float) → Least i x → (b : Best) → b ≡ start → tried e p counts g i x b ≡ start
+    tried-start i x v b h = ap (tried e p counts g i x) h ∙ least-stays i x start (unfold fits in tt) (unfold isNan in refl) v
+
+    step-start : (i : ℕ) → i < length counts → somaticIn counts g i ≡ true → (s : ℕ) → s < 21 → (b : Best) → b ≡ start → (t : Bool) → lt (decimal 1 3) (stepOf e p counts g s) ≡ t → cond t (tried e p counts g i (stepOf e p counts g s) b) b ≡ start
+    step-start i l o s m b h true q = tried-start i (stepOf e p counts g s) (steps i l o s m q) b h
+    step-start i l o s m b h false q = h
 
     allele-start : (i : ℕ) → i < length counts → somaticIn counts g i ≡ true → (b : Best) → b ≡ start → searchedAllele e p counts g i b ≡ start
     unfolding searchedAllele
-    allele-start i l s b h =
+    allele-start i l o b h =
         over-keeps (λ b. b ≡ start) (triedStep e p counts g i) (tried e p counts g i (observedShare e p counts g i) b) 21
-        (λ k m b q. either (lt (decimal 1 3) (stepOf e p counts g k)) (tried e p counts g i (stepOf e p counts g k) b) b (tried-start i l s (stepOf e p counts g k) b q) q)
-        (tried-start i l s (observedShare e p counts g i) b h)
+        (λ s m b q. step-start i l o s m b q (lt (decimal 1 3) (stepOf e p counts g s)) refl)
+        (tried-start i (observedShare e p counts g i) (shares i l o) b h)
 
     offered-start : (i : ℕ) → i < length counts → (t : Bool) → somaticIn counts g i ≡ t → (b : Best) → b ≡ start → cond t (searchedAllele e p counts g i b) b ≡ start
     offered-start i l true s b h = allele-start i l s b h
