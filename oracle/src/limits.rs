@@ -1,7 +1,7 @@
 //! What kanpig does outside the limits, and what the port refuses with: a Markdown table, worked out by running both.
 use crate::diploid::{Answer, Input};
 use crate::kanpig::with_ours;
-use crate::{port, trio_limits};
+use crate::{mosaic_limits, port, trio_limits};
 use std::panic::{self, UnwindSafe};
 
 fn default_with(mode: u32, change: impl FnOnce(&mut Input)) -> Input {
@@ -94,5 +94,7 @@ pub fn run() {
     println!("their sum is not checked.");
     println!();
     trio_limits::run();
+    println!();
+    mosaic_limits::run();
     panic::set_hook(hook);
 }

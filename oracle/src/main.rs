@@ -20,6 +20,7 @@ mod limits;
 mod mosaic;
 mod mosaic_cases;
 mod mosaic_inputs;
+mod mosaic_limits;
 mod mosaic_walks;
 mod pairs;
 mod part;

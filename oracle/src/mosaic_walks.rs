@@ -8,13 +8,22 @@ use crate::mosaic_inputs;
 const INPUTS: usize = 20_000;
 const TIMES: usize = 4;
 
-/// Of answers that should be equal: how many differ in a bit, how many in the call, and the first input whose call differs.
+/// The largest distance of two answers that make the same call, by some of their numbers.
+fn largest(called: &[&(Input, Answer, Answer)], numbers: fn(&Answer) -> Vec<f64>) -> f64 {
+    let same = called.iter().filter(|(_, a, b)| a.call() == b.call());
+    same.flat_map(|(_, a, b)| numbers(a).into_iter().zip(numbers(b))).map(|(x, y)| (x - y).abs()).fold(0.0, f64::max)
+}
+
+/// Of answers that should be equal: how many differ in a bit, how many in the call, how far they are apart where the call is the same, and the first
+/// input whose call differs.
 fn row(name: &str, answers: &[(Input, Answer, Answer)]) {
     let called: Vec<_> = answers.iter().filter(|(_, a, _)| a.number == 0).collect();
     let bits = called.iter().filter(|(_, a, b)| !a.same(b)).count();
     let calls: Vec<_> = called.iter().filter(|(_, a, b)| a.call() != b.call()).collect();
-    let quality = called.iter().map(|(_, a, b)| (a.quality - b.quality).abs()).fold(0.0, f64::max);
-    println!("| {name} | {} | {bits} | {} | {quality:.1e} |", called.len(), calls.len());
+    let posterior = largest(&called, |a| vec![a.posterior]);
+    let vaf = largest(&called, |a| a.vafs.to_vec());
+    let quality = largest(&called, |a| vec![a.quality]);
+    println!("| {name} | {} | {bits} | {} | {posterior:.1e} | {vaf:.1e} | {quality:.1e} |", called.len(), calls.len());
     if let Some((input, a, b)) = calls.first() {
         println!();
         println!("The first input whose call differs: {input:?}; {:?} and {:?}", a.call(), b.call());
@@ -48,8 +57,13 @@ fn unsteady(alleles: u64) {
 }
 
 pub fn run() {
-    println!("| beside kanpig's text with the kernels of the rules and alleles in rising order | calls | differ in a bit | call differs | quality: largest difference |");
-    println!("|---|---|---|---|---|");
+    println!(
+        "Beside kanpig's text with the kernels of the rules and alleles in rising order; the last three columns are largest distances where"
+    );
+    println!("the call is the same.");
+    println!();
+    println!("| other | calls | differ in a bit | call differs | log posterior | VAF | quality |");
+    println!("|---|---|---|---|---|---|---|");
     for alleles in [4, 8] {
         row(&format!("hash maps, up to {alleles} alleles"), &answers(alleles, with_ours::call, with_hash_map::call));
         row(&format!("standard library's functions, up to {alleles} alleles"), &answers(alleles, with_ours::call, with_std::call));
