@@ -68,6 +68,17 @@ use Rattle.kernel_exports.proofs.admulfas_stirling.Reads as c-stirling
 use Rattle.exports.proofs.diploid_call.admulfas_diploid.Reads as c-diploid
 use Rattle.exports.proofs.trio_call.admulfas_trio.Reads as c-trio
 use Rattle.exports.proofs.mosaic_call.admulfas_mosaic.Reads as c-mosaic
+use Rattle.trio.proofs.genotypes.triple_of.Reads as triple-of
+use Rattle.texts.proofs.fields.field_end.Reads as field-end
+use Rattle.texts.proofs.fields.field.Reads as field
+use Rattle.texts.proofs.fields.next_field.Reads as next-field
+use Rattle.texts.proofs.names.packed.Reads as packed
+use Rattle.texts.proofs.wholes.read_whole.Reads as read-whole
+use Rattle.texts.proofs.decimals.read_decimal.Reads as read-decimal
+use Rattle.texts.proofs.figures.hundredths.Reads as hundredths
+use Rattle.texts.proofs.figures.lay_figure.Reads as lay-figure
+use Rattle.texts.proofs.laying.lay.Reads as lay
+use Rattle.texts.proofs.laying.lay_whole.Reads as lay-whole
 
 -- Whatever the lifetimes and the arguments, and whatever these refer to at the end of either call, at most one result meets the contract.
 abbrev pub OneAnswer : {K : Type 0} {A R E : K → Type 0} → ((κ : K) → A κ → R κ → E κ → Type 0) → Type 0
@@ -197,6 +208,9 @@ work-right-once κ a v w e f = only
 
 pub genotype-count-once : OneAnswer genotype-count.Post
 genotype-count-once κ a v w e f = only
+
+pub triple-of-once : OneAnswer triple-of.Post
+triple-of-once κ a v w e f = only
 
 pub distinct-pairs-once : OneAnswer distinct-pairs.Post
 distinct-pairs-once κ a v w e f = only
@@ -336,3 +350,46 @@ pub c-mosaic-ends : (κ : _) (a : _) (v w : _) (e f : _) → c-mosaic.Post κ a 
     × (e .1 .1 .1 .1 .1 .1 .1 .1 .1 .1 .1 .1 .1 .0 .now ≡ f .1 .1 .1 .1 .1 .1 .1 .1 .1 .1 .1 .1 .1 .0 .now)
     × (e .1 .1 .1 .1 .1 .1 .1 .1 .1 .1 .1 .1 .1 .1 .0 .now ≡ f .1 .1 .1 .1 .1 .1 .1 .1 .1 .1 .1 .1 .1 .1 .0 .now)
 c-mosaic-ends κ a v w e f p q = (only (p .ploidy-is) (q .ploidy-is), only (p .germline-is) (q .germline-is), only (p .somatic-is) (q .somatic-is), only (p .vafs-is) (q .vafs-is), only (p .seen-is) (q .seen-is), only (p .observed-is) (q .observed-is), only (p .posterior-is) (q .posterior-is), only (p .quality-is) (q .quality-is), only (p .hypotheses-is) (q .hypotheses-is), only (p .probabilities-is) (q .probabilities-is))
+
+-- ---- texts
+
+pub field-end-once : OneAnswer field-end.Post
+field-end-once κ a v w e f = only
+
+-- the bytes of the field that it lends
+pub field-once : (κ : _) (a : _) (v w : _) (e f : _) → field.Post κ a v e → field.Post κ a w f → v .now ≡ w .now
+field-once κ a v w e f = only
+
+pub next-field-once : OneAnswer next-field.Post
+next-field-once κ a v w e f = only
+
+pub packed-once : OneAnswer packed.Post
+packed-once κ a v w e f = only
+
+pub read-whole-once : OneAnswer read-whole.Post
+read-whole-once κ a v w e f = only
+
+pub read-decimal-once : OneAnswer read-decimal.Post
+read-decimal-once κ a v w e f = only
+
+pub hundredths-once : OneAnswer hundredths.Post
+hundredths-once κ a v w e f = only
+
+pub lay-once : OneAnswer lay.Post
+lay-once κ a v w e f p q = only (p .0) (q .0)
+
+-- and the buffer, its first parameter
+pub lay-ends : (κ : _) (a : _) (v w : _) (e f : _) → lay.Post κ a v e → lay.Post κ a w f → e .0 .now ≡ f .0 .now
+lay-ends κ a v w e f p q = only (p .1) (q .1)
+
+pub lay-whole-once : OneAnswer lay-whole.Post
+lay-whole-once κ a v w e f p q = only (p .0) (q .0)
+
+pub lay-whole-ends : (κ : _) (a : _) (v w : _) (e f : _) → lay-whole.Post κ a v e → lay-whole.Post κ a w f → e .0 .now ≡ f .0 .now
+lay-whole-ends κ a v w e f p q = only (p .1) (q .1)
+
+pub lay-figure-once : OneAnswer lay-figure.Post
+lay-figure-once κ a v w e f p q = only (p .0) (q .0)
+
+pub lay-figure-ends : (κ : _) (a : _) (v w : _) (e f : _) → lay-figure.Post κ a v e → lay-figure.Post κ a w f → e .0 .now ≡ f .0 .now
+lay-figure-ends κ a v w e f p q = only (p .1) (q .1)

@@ -8,13 +8,16 @@ use crate::registers::Answered;
 use crate::registers::Registers;
 use crate::step_cases;
 use crate::trio_cases;
-use crate::words;
 use crate::words::Cursor;
+use crate::words::SPACE;
 use crate::write;
 use crate::write::Out;
 use crate::write::Text;
+use texts::fields::field;
+use texts::fields::next_field;
+use texts::names::packed;
 
-// The names, as `words::packed` has them: their bytes in ASCII.
+// The names, as `packed` has them: their bytes in ASCII.
 const LN: u64 = 0x6c6e;
 
 const EXP: u64 = 0x657870;
@@ -77,9 +80,10 @@ fn plain(name: u64, line: &[u8], c: Cursor, text: &mut Text, out: Out) -> Out {
 
 // The answer to a line, without its newline, and the registers after it.
 pub fn answer(line: &[u8], text: &mut Text, out: Out, registers: Registers) -> Answered {
-    let at = words::word_end(line, 0);
-    let name = words::packed(&line[..at]);
-    let c = Cursor { at };
+    let name = packed(field(line, 0, SPACE));
+    let c = Cursor {
+        at: next_field(line, 0, SPACE),
+    };
     match name {
         OPEN => step_cases::open(line, c, text, out, registers),
         PART => step_cases::part(line, c, text, out, registers),

@@ -1,6 +1,4 @@
 // Lines out of pieces of input: each line is gathered in a lent buffer until it ends, and then answered.
-ghost use Prim.Native.Nat.{_≤_};
-ghost use lib.ListN.{length};
 use crate::kinds;
 use crate::registers;
 use crate::registers::Answered;
@@ -8,6 +6,9 @@ use crate::registers::Registers;
 use crate::write;
 use crate::write::Out;
 use crate::write::Text;
+use texts::fields::field;
+use texts::fields::field_end;
+use texts::laying::lay;
 
 // What is kept between two pieces: how many bytes of an unended line have come, the answers that wait, and the registers.
 // A line that does not fit the buffer counts as one byte more than the buffer has, however long it is.
@@ -17,41 +18,12 @@ pub struct Held {
     pub registers: Registers,
 }
 
-// How far a piece was read for one line, and how many bytes that line has then.
-struct Gathered {
-    at: usize,
-    count: usize,
-}
-
 pub fn nothing_held() -> Held {
     Held {
         count: 0,
         out: write::empty(),
         registers: registers::zeros(),
     }
-}
-
-// Puts a byte more into the line, where it fits, and answers how many bytes the line has then.
-fn added(line: &mut [u8], count: usize, b: u8) -> usize {
-    if count < line.len() {
-        line[count] = b;
-        return count + 1;
-    }
-    line.len() + 1
-}
-
-// Gathers the bytes of the piece from `from` on, to its next newline or its end.
-fn gather(piece: &[u8], from: usize, line: &mut [u8], count: usize) -> Gathered
-    requires { ⌜ from ≤ length (now piece) ⌝ }
-    ensures { λ r. ⌜ (from ≤ r .at) × (r .at ≤ length (now (piece .entry))) ⌝ }
-{
-    let mut i = from;
-    let mut n = count;
-    while i < piece.len() && piece[i] != b'\n' {
-        n = added(line, n, piece[i]);
-        i += 1;
-    }
-    Gathered { at: i, count: n }
 }
 
 // Answers a line that has ended.
@@ -84,9 +56,8 @@ pub fn feed(piece: &[u8], line: &mut [u8], text: &mut Text, held: Held) -> Held 
     let mut out = held.out;
     let mut registers = held.registers;
     while i < piece.len() {
-        let g = gather(piece, i, line, count);
-        let at = g.at;
-        count = g.count;
+        let at = field_end(piece, i, b'\n');
+        count = lay(line, count, field(piece, i, b'\n'));
         if piece.len() <= at {
             return Held {
                 count,

@@ -1,7 +1,9 @@
-// Answers as text, into a lent buffer that is written out when it is full.
+// Answers as text, into a lent buffer that is written out when it is half full, which is more than an answer takes.
 ghost use mathlib.Core.Path.{_≡_};
 ghost use lib.IntN.{natAbs};
-use libc::STDOUT_FILENO;
+use texts::laying::lay;
+use texts::laying::lay_whole;
+use texts::output::write_out;
 
 pub type Text = [u8; 65536];
 
@@ -21,14 +23,11 @@ pub fn empty() -> Out {
 
 // Writes what waits.
 pub fn flush(text: &[u8], out: Out) -> Out {
-    let n = out.count;
     if out.open {
-        if n <= text.len() {
-            return Out {
-                count: 0,
-                open: io::write_all(STDOUT_FILENO, &text[..n]),
-            };
-        }
+        return Out {
+            count: 0,
+            open: write_out(text, out.count),
+        };
     }
     Out {
         count: 0,
@@ -36,46 +35,31 @@ pub fn flush(text: &[u8], out: Out) -> Out {
     }
 }
 
-pub fn byte(text: &mut Text, out: Out, b: u8) -> Out {
-    let at = out.count;
-    if at < text.len() {
-        text[at] = b;
-        return Out {
-            count: at + 1,
-            open: out.open,
-        };
-    }
-    let emptied = flush(text, out);
-    text[0] = b;
-    Out {
-        count: 1,
-        open: emptied.open,
-    }
-}
-
 pub fn bytes(text: &mut Text, out: Out, s: &[u8]) -> Out {
-    let mut put = out;
-    let mut i = 0;
-    while i < s.len() {
-        put = byte(text, put, s[i]);
-        i += 1;
+    Out {
+        count: lay(text, out.count, s),
+        open: out.open,
     }
-    put
 }
 
 pub fn end_line(text: &mut Text, out: Out) -> Out {
-    byte(text, out, b'\n')
+    let ended = bytes(text, out, b"\n");
+    if ended.count > 32768 {
+        return flush(text, ended);
+    }
+    ended
 }
 
 // The answer to a line that cannot be read.
 pub fn unread(text: &mut Text, out: Out) -> Out {
-    byte(text, out, b'?')
+    bytes(text, out, b"?")
 }
 
 pub fn whole(text: &mut Text, out: Out, n: u64) -> Out {
-    let mut digits = [0u8; 20];
-    let k = io::decimal(n, &mut digits);
-    bytes(text, out, &digits[..k])
+    Out {
+        count: lay_whole(text, out.count, n),
+        open: out.open,
+    }
 }
 
 // The number of a refusal, a state or a place.
@@ -84,7 +68,7 @@ pub fn number(text: &mut Text, out: Out, n: u32) -> Out {
 }
 
 pub fn space(text: &mut Text, out: Out) -> Out {
-    byte(text, out, b' ')
+    bytes(text, out, b" ")
 }
 
 // The number without its sign.
@@ -100,7 +84,7 @@ fn size(z: i64) -> u64
 
 pub fn signed(text: &mut Text, out: Out, z: i64) -> Out {
     if z < 0 {
-        let minus = byte(text, out, b'-');
+        let minus = bytes(text, out, b"-");
         return whole(text, minus, size(z));
     }
     whole(text, out, size(z))

@@ -1,8 +1,10 @@
 -- `vectors::lines::feed` is safe and ends: its place in the piece rises with each line. Assumes nothing.
 use Prim.Native.Nat.{_≤_, _-_}
 use mathlib.Core.Path.{_≡_}
+use native.Mathlib.Omega.{arith}
 use lib.ListN.{length}
 use borrow.Author.Needs.{needs}
+use Rattle.texts.proofs.FieldLaws.{end-there}
 use Rattle.vectors.proofs.lines.feed.Statement.{statement}
 use Rattle.vectors.proofs.lines.feed.Tie as tie
 
@@ -15,8 +17,14 @@ abbrev μ-loop : tie.MeasureT-loop
 loop-holds : tie.Need-loop-holds Inv-loop μ-loop
 loop-holds c = search needs
 
-gather-requires : tie.Need-gather-requires Inv-loop μ-loop
-gather-requires c κs = search needs
+field-end-requires : tie.Need-field-end-requires Inv-loop μ-loop
+field-end-requires c κs = search needs
+
+field-requires : tie.Need-field-requires Inv-loop μ-loop
+field-requires c κs = search needs
+
+lay-requires : tie.Need-lay-requires Inv-loop μ-loop
+lay-requires c κs = search needs
 
 same-length : tie.Need-same-length Inv-loop μ-loop
 same-length c = search needs
@@ -31,7 +39,7 @@ add-i : tie.Need-add-i Inv-loop μ-loop
 add-i c = search needs
 
 loop-less : tie.Need-loop-less Inv-loop μ-loop
-loop-less c = search needs
+loop-less c = omega (arith, c .before .before .before .before .before .before .before .before .before .before .before .field-end .ensures, end-there 10 (c .before .before .before .before .before .before .before .before .before .before .before .before .before .loop .i) (c .before .before .before .before .before .before .before .before .before .before .before .before .before .before .before .before .before .before .args .piece .now) (omega arith))
 
 loop-again : tie.Need-loop-again Inv-loop μ-loop
 loop-again c = search needs
@@ -49,7 +57,9 @@ feed-spec =
     Inv-loop
     μ-loop
     loop-holds
-    gather-requires
+    field-end-requires
+    field-requires
+    lay-requires
     same-length
     returns
     answered-requires
