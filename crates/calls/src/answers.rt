@@ -2,10 +2,10 @@
 use crate::sites::TAB;
 use family::pair::Pair;
 use family::pair::Triple;
+use reading::fields::field;
 use refusals::Refusal;
-use texts::fields::field;
-use texts::laying::lay;
-use texts::laying::lay_whole;
+use writing::laying::lay;
+use writing::laying::lay_whole;
 
 pub fn unreadable(text: &mut [u8], at: usize, number: u64) -> usize {
     let numbered = lay(text, at, b"?\tline ");

@@ -10,9 +10,9 @@ use diploid::genotype::GenotypeResult;
 use diploid::genotype::genotype;
 use models::model::Model;
 use models::state::State;
-use texts::fields::next_field;
-use texts::figures::lay_figure;
-use texts::laying::lay;
+use reading::fields::next_field;
+use writing::figures::lay_figure;
+use writing::laying::lay;
 
 fn state(text: &mut [u8], at: usize, s: State) -> usize {
     match s {

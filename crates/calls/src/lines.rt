@@ -2,10 +2,10 @@
 use crate::answers;
 use crate::sites;
 use crate::sites::End;
-use texts::fields::field;
-use texts::fields::field_end;
-use texts::laying::lay;
-use texts::output::write_out;
+use reading::fields::field;
+use reading::fields::field_end;
+use writing::laying::lay;
+use writing::output::write_out;
 
 // What is kept between two pieces: how many bytes of an unended line have come, past its buffer's end where it is too long; how many lines have
 // ended; where the answers that wait end; and whether every write so far went well, since after one that failed nothing more is written.

@@ -10,10 +10,10 @@ use family::pair::Pair;
 use models::params::Params;
 use mosaic::genotype::MosaicResult;
 use mosaic::genotype::genotype;
-use texts::fields::next_field;
-use texts::figures::lay_figure;
-use texts::laying::lay;
-use texts::laying::lay_whole;
+use reading::fields::next_field;
+use writing::figures::lay_figure;
+use writing::laying::lay;
+use writing::laying::lay_whole;
 
 // One germline allele is written as a pair of itself.
 fn germline(ploidy: usize, alleles: [usize; 2]) -> Pair {

@@ -1,11 +1,11 @@
 // The numbers of a line.
 use crate::sites::TAB;
-use texts::decimals::Decimal;
-use texts::decimals::read_decimal;
-use texts::fields::field;
-use texts::fields::next_field;
-use texts::wholes::Whole;
-use texts::wholes::read_whole;
+use reading::decimals::Decimal;
+use reading::decimals::read_decimal;
+use reading::fields::field;
+use reading::fields::next_field;
+use reading::wholes::Whole;
+use reading::wholes::read_whole;
 
 pub enum Count {
     Is(u32),

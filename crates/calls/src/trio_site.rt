@@ -11,12 +11,12 @@ use crate::sites::End;
 use crate::sites::TAB;
 use desks::call::call;
 use family::ground::Ground;
-use texts::fields::field;
-use texts::fields::next_field;
-use texts::laying::lay;
-use texts::wholes::Whole;
+use reading::fields::field;
+use reading::fields::next_field;
+use reading::wholes::Whole;
 use trio::closing::Closed;
 use trio::genotypes::triple_of;
+use writing::laying::lay;
 
 fn ground(text: &mut [u8], at: usize, g: Ground) -> usize {
     match g {

@@ -69,16 +69,16 @@ use Rattle.exports.proofs.diploid_call.admulfas_diploid.Reads as c-diploid
 use Rattle.exports.proofs.trio_call.admulfas_trio.Reads as c-trio
 use Rattle.exports.proofs.mosaic_call.admulfas_mosaic.Reads as c-mosaic
 use Rattle.trio.proofs.genotypes.triple_of.Reads as triple-of
-use Rattle.texts.proofs.fields.field_end.Reads as field-end
-use Rattle.texts.proofs.fields.field.Reads as field
-use Rattle.texts.proofs.fields.next_field.Reads as next-field
-use Rattle.texts.proofs.names.packed.Reads as packed
-use Rattle.texts.proofs.wholes.read_whole.Reads as read-whole
-use Rattle.texts.proofs.decimals.read_decimal.Reads as read-decimal
-use Rattle.texts.proofs.figures.hundredths.Reads as hundredths
-use Rattle.texts.proofs.figures.lay_figure.Reads as lay-figure
-use Rattle.texts.proofs.laying.lay.Reads as lay
-use Rattle.texts.proofs.laying.lay_whole.Reads as lay-whole
+use Rattle.reading.proofs.fields.field_end.Reads as field-end
+use Rattle.reading.proofs.fields.field.Reads as field
+use Rattle.reading.proofs.fields.next_field.Reads as next-field
+use Rattle.reading.proofs.names.packed.Reads as packed
+use Rattle.reading.proofs.wholes.read_whole.Reads as read-whole
+use Rattle.reading.proofs.decimals.read_decimal.Reads as read-decimal
+use Rattle.writing.proofs.figures.hundredths.Reads as hundredths
+use Rattle.writing.proofs.figures.lay_figure.Reads as lay-figure
+use Rattle.writing.proofs.laying.lay.Reads as lay
+use Rattle.writing.proofs.laying.lay_whole.Reads as lay-whole
 
 -- Whatever the lifetimes and the arguments, and whatever these refer to at the end of either call, at most one result meets the contract.
 abbrev pub OneAnswer : {K : Type 0} {A R E : K → Type 0} → ((κ : K) → A κ → R κ → E κ → Type 0) → Type 0
@@ -351,7 +351,7 @@ pub c-mosaic-ends : (κ : _) (a : _) (v w : _) (e f : _) → c-mosaic.Post κ a 
     × (e .1 .1 .1 .1 .1 .1 .1 .1 .1 .1 .1 .1 .1 .1 .0 .now ≡ f .1 .1 .1 .1 .1 .1 .1 .1 .1 .1 .1 .1 .1 .1 .0 .now)
 c-mosaic-ends κ a v w e f p q = (only (p .ploidy-is) (q .ploidy-is), only (p .germline-is) (q .germline-is), only (p .somatic-is) (q .somatic-is), only (p .vafs-is) (q .vafs-is), only (p .seen-is) (q .seen-is), only (p .observed-is) (q .observed-is), only (p .posterior-is) (q .posterior-is), only (p .quality-is) (q .quality-is), only (p .hypotheses-is) (q .hypotheses-is), only (p .probabilities-is) (q .probabilities-is))
 
--- ---- texts
+-- ---- reading, writing
 
 pub field-end-once : OneAnswer field-end.Post
 field-end-once κ a v w e f = only

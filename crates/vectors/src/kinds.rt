@@ -13,9 +13,9 @@ use crate::words::SPACE;
 use crate::write;
 use crate::write::Out;
 use crate::write::Text;
-use texts::fields::field;
-use texts::fields::next_field;
-use texts::names::packed;
+use reading::fields::field;
+use reading::fields::next_field;
+use reading::names::packed;
 
 // The names, as `packed` has them: their bytes in ASCII.
 const LN: u64 = 0x6c6e;

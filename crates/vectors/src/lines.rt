@@ -6,9 +6,9 @@ use crate::registers::Registers;
 use crate::write;
 use crate::write::Out;
 use crate::write::Text;
-use texts::fields::field;
-use texts::fields::field_end;
-use texts::laying::lay;
+use reading::fields::field;
+use reading::fields::field_end;
+use writing::laying::lay;
 
 // What is kept between two pieces: how many bytes of an unended line have come, the answers that wait, and the registers.
 // A line that does not fit the buffer counts as one byte more than the buffer has, however long it is.

@@ -1,9 +1,9 @@
 // Answers as text, into a lent buffer that is written out when it is half full, which is more than an answer takes.
 ghost use mathlib.Core.Path.{_≡_};
 ghost use lib.IntN.{natAbs};
-use texts::laying::lay;
-use texts::laying::lay_whole;
-use texts::output::write_out;
+use writing::laying::lay;
+use writing::laying::lay_whole;
+use writing::output::write_out;
 
 pub type Text = [u8; 65536];
 

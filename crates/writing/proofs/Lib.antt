@@ -1,0 +1,3 @@
+-- The laws of `writing`.
+pub mod FigureLaws
+pub mod LayingLaws

@@ -1,0 +1,3 @@
+-- The definitions of `writing`: texts laid into a buffer, figures.
+pub mod Laying
+pub mod Figures
