@@ -6,8 +6,8 @@ use lib.Dec.{T}
 use lib.Ieee.{Float, nan, inf, fin, lt, le}
 use lib.Ieee.Scale.{finite}
 
--- The larger and the smaller as this crate takes them. Where two zeros of unlike sign meet, Rust does not say which of them its max and min give, so the
--- definitions that use one stand over any `Pick`, and a law says that no answer depends on it (proofs/AnyPick.antt).
+-- The larger and the smaller as this crate takes them. Where two zeros of unlike sign meet, Rust does not say which of them its max and min give, so
+-- diploid's definitions stand over any `Pick`, and a law says that no answer depends on it (`genotype-any`, diploid_laws/proofs/AnyPick.antt).
 abbrev pub Pick : Type 0
 Pick = Float → Float → Float
 
