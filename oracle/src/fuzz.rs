@@ -134,8 +134,8 @@ fn fuzz(name: &str, seconds: u64) -> bool {
     failed == 0
 }
 
-/// Each program in turn, for the seconds that the command names, or ten minutes.
+/// Both programs at once, for the seconds that the command names, or ten minutes.
 pub fn run(seconds: Option<u64>) -> bool {
-    let all = ["vectors", "calls"].map(|name| fuzz(name, seconds.unwrap_or(600)));
-    all.iter().all(|&fine| fine)
+    let programs = ["vectors", "calls"].map(|name| thread::spawn(move || fuzz(name, seconds.unwrap_or(600))));
+    programs.map(|program| program.join().unwrap_or(false)) == [true, true]
 }
