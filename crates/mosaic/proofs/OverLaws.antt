@@ -57,3 +57,14 @@ placed-at places f d (suc n) h i l =
 
     below : (i n : ℕ) → i < suc n → (i ≡ n → ⊥) → i < n
     below i n l e = omega arith
+
+-- a place beyond them is as it was
+pub placed-beyond : {A : Type 0} (places : List A) (f : ℕ → A) (d : A) (n i : ℕ) → n ≤ i → getD (placed places f n) i d ≡ getD places i d
+placed-beyond places f d zero i h = refl
+placed-beyond places f d (suc n) i h = getD-set-other (placed places f n) n i (f n) d (unlike n i h) ∙ placed-beyond places f d n i (less n i h)
+  where
+    unlike : (n i : ℕ) → suc n ≤ i → i ≡ n → ⊥
+    unlike n i h e = omega arith
+
+    less : (n i : ℕ) → suc n ≤ i → n ≤ i
+    less n i h = omega arith

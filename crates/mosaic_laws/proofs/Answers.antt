@@ -1,33 +1,43 @@
--- On accepted inputs with a read there is a hypothesis, at most 36 of them, and nothing in the answer is a NaN or an infinity: `finite-answer`. Assumes nothing.
+-- On accepted inputs with a read there is a hypothesis, and nothing in the answer is a NaN or an infinity: `finite-answer`. With the refusals, the same of
+-- every answer: `every-answer`. Assumes nothing.
 use mathlib.Core.Path.{_≡_, refl, sym, ap, _∙_, subst}
-use mathlib.Core.Bool.{Bool, true, false, cond}
+use mathlib.Core.Bool.{Bool, true, false, not, _||_, cond, true≢false}
 use mathlib.Core.List.{List, [], _∷_, map}
 use Prim.Native.Nat.{ℕ, zero, suc, pred, _-_, _^_, _≤_, _<_}
 use native.Mathlib.Omega.{arith}
-use borrow.Author.Tests.{ltb-false}
-use lib.Dec.{ltb}
-use lib.ListN.{length, getD, replicate, length-append, length-map, List·getD-append}
-use lib.Ieee.{Float, nan}
+use borrow.Author.Tests.{ltb-true, ltb-false, leb-true, eqb-false}
+use lib.Dec.{T, leb, ltb, eqb, lit≤}
+use lib.ListN.{length, getD, replicate, getD-replicate, length-append, length-map, List·getD-append}
+use lib.Ieee.{Float, nan, binary64, lt, fits}
+use lib.Ieee.Positive.{positive}
 use Rattle.floats.specs.F64.{nat}
-use Rattle.floats.specs.Within.{Within}
+use Rattle.floats.specs.Within.{Within, NotBelow}
+use Rattle.floats.proofs.Bounds.{within-more, positive-not-below}
+use Rattle.refusals.specs.declared.Refusal.{Refusal}
+use Rattle.refusals.specs.declared.Refusal.the-variants.{TooMany, Count, Model, NoCall}
+use Rattle.limits.specs.Limits.{countsAllowed}
 use Rattle.probabilities.specs.Quality.{wholeOf, probabilityOf, probabilities}
 use Rattle.probabilities.proofs.InUse.{in-use-all}
 use Rattle.mosaic.specs.Lists.{numbers, passing}
 use Rattle.mosaic.specs.Edition.{first}
-use Rattle.mosaic.specs.Hypotheses.{countAt, seenIn, seenAlleles, totalOver, totalOf, pair, singles, pairs, hypotheses, allPairs}
+use Rattle.mosaic.specs.Allowed.{paramsAllowed}
+use Rattle.mosaic.specs.Hypotheses.{countAt, seenIn, seenAlleles, germlineIn, somaticIn, totalOver, totalOf, pair, singles, pairs, hypotheses, allPairs}
+use Rattle.mosaic.specs.Likelihood.{vafAt}
 use Rattle.mosaic.specs.Search.{foundOf}
 use Rattle.mosaic.specs.Choice.{posteriors, winner}
-use Rattle.mosaic.specs.Genotype.{calledOf}
+use Rattle.mosaic.specs.Genotype.{blank, flagsOf, calledOf, genotypeBy, genotypeOf}
 use Rattle.mosaic.specs.Inner.{bothSeen}
 use Rattle.models.specs.declared.params.Params.{Params}
 use Rattle.mosaic.specs.declared.hypotheses.Pair.{Pair}
 use Rattle.mosaic.specs.declared.genotype.MosaicResult.{MosaicResult}
-use Rattle.mosaic.proofs.OverLaws.{placed-at}
+use Rattle.mosaic.proofs.OverLaws.{placed-at, placed-beyond}
 use Rattle.mosaic.proofs.WinnerLaws.{winner-low}
 use Rattle.mosaic.proofs.Scanned.{all-seen, at-most-36, number-at}
 use Rattle.mosaic_laws.specs.Accepted.{Accepted}
-use Rattle.mosaic_laws.proofs.Finite.{posterior-within}
-use Rattle.mosaic_laws.proofs.Chances.{Chance, chance, quality-within}
+use Rattle.mosaic_laws.proofs.Seen.{seen-in}
+use Rattle.mosaic_laws.proofs.Places.{flag-at, found-rest}
+use Rattle.mosaic_laws.proofs.Finite.{left-true, posterior-within, found-vafs}
+use Rattle.mosaic_laws.proofs.Chances.{Chance, chance-more, nothing, chance, quality-within}
 
 -- ---- the members of a list that pass a test
 
@@ -103,10 +113,23 @@ some-hypothesis counts few h =
 
 -- ---- the answer
 
+-- the VAF at the place of an allele: finite and not below zero; above zero and below 1 where its flag is true, and 0.0 where it is not
+pub record VafOf (flag : Bool) (v : Float) : Type 0 where
+  pub not-negative : NotBelow v
+  pub of-somatic : flag ≡ true → T (positive v) × (lt v (nat 1) ≡ true)
+  pub of-other : flag ≡ false → v ≡ nat 0
+
+-- no float of an answer is a NaN or an infinity
 pub record FiniteAnswer (a : MosaicResult) : Type 0 where
   pub posterior-is : Within (2 ^ 47) (a .posterior)
   pub quality-is : Within (2 ^ 16) (a .quality)
-  pub chances-are : (i : ℕ) → i < a .hypotheses → Chance 2 (getD (a .probabilities) i nan)
+  pub vafs-are : (i : ℕ) → i < 8 → VafOf (getD (a .somatic) i false) (getD (a .vafs) i nan)
+  pub chances-are : (i : ℕ) → i < 36 → Chance 2 (getD (a .probabilities) i nan)
+  -- beyond the hypotheses stands 0.0
+  pub beyond-are : (i : ℕ) → a .hypotheses ≤ i → i < 36 → getD (a .probabilities) i nan ≡ nat 0
+
+nothing-here : VafOf false (nat 0)
+nothing-here = record { not-negative = nothing .not-negative; of-somatic = λ e. absurd (true≢false (sym e)); of-other = λ e. refl }
 
 module _ (p : Params) (counts : List ℕ) (ok : Accepted p counts) where
   abbrev n : ℕ
@@ -134,6 +157,31 @@ module _ (p : Params) (counts : List ℕ) (ok : Accepted p counts) where
   unfolding probabilities
   chance-at i h = rw (in-use-all n (at-most-36 counts)) (placed-at (replicate 36 (nat 0)) (λ i. probabilityOf (wholeOf posts n) (getD posts i nan)) nan n (at-most-36 counts) i h)
 
+  chance-beyond : (i : ℕ) → n ≤ i → i < 36 → getD (probabilities posts n) i nan ≡ nat 0
+  unfolding probabilities
+  chance-beyond i h m =
+      rw (in-use-all n (at-most-36 counts))
+      (placed-beyond (replicate 36 (nat 0)) (λ i. probabilityOf (wholeOf posts n) (getD posts i nan)) nan n i h ∙ getD-replicate 36 i (nat 0) nan m)
+
+  chance-there : 0 < n → (i : ℕ) → i < n → Chance 2 (getD (probabilities posts n) i nan)
+  chance-there some i h = subst (Chance 2) (sym (chance-at i h)) (chance posts n some (at-most-36 counts) posteriors-within i h)
+
+  chance-each : 0 < n → (i : ℕ) → i < 36 → Chance 2 (getD (probabilities posts n) i nan)
+  chance-each some i m = go (ltb i n) refl
+    where
+      go : (t : Bool) → ltb i n ≡ t → Chance 2 (getD (probabilities posts n) i nan)
+      go true e = chance-there some i (ltb-true i n e)
+      go false e = subst (Chance 2) (sym (chance-beyond i (ltb-false i n e) m)) (chance-more nothing (lit≤ tt))
+
+  vaf-each : (g : Pair) → bothSeen counts g ≡ true → (i : ℕ) → i < 8 → VafOf (getD (flagsOf counts g) i false) (vafAt (foundOf first p counts g .vafs) i)
+  vaf-each g both i m = rw (flag-at counts (ok .few) g i m) (go (somaticIn counts g i) refl)
+    where
+      go : (t : Bool) → somaticIn counts g i ≡ t → VafOf t (vafAt (foundOf first p counts g .vafs) i)
+      go true e =
+          let f = found-vafs p counts ok g both i (seen-in counts i (left-true (seenIn counts i) (not (germlineIn g i)) e)) e in
+          record { not-negative = positive-not-below (vafAt (foundOf first p counts g .vafs) i) (f .0 .above-zero); of-somatic = λ q. (f .0 .above-zero, f .1); of-other = λ q. absurd (true≢false q) }
+      go false e = subst (VafOf false) (sym (found-rest counts (ok .few) g first p i m e)) nothing-here
+
   pub finite-answer : 0 < totalOf counts → FiniteAnswer (calledOf first p counts)
   unfolding calledOf
   finite-answer read =
@@ -141,13 +189,42 @@ module _ (p : Params) (counts : List ℕ) (ok : Accepted p counts) where
       let few = at-most-36 counts in
       let best = winner posts n in
       let probs = probabilities posts n in
-      let chances : (i : ℕ) → i < n → Chance 2 (getD probs i nan) =
-      (λ i h. subst (Chance 2) (sym (chance-at i h)) (chance posts n some few posteriors-within i h)) in
+      let m = low n best some (winner-low posts n (pred n) (omega arith)) in
       record {
-        posterior-is = each-within best (low n best some (winner-low posts n (pred n) (omega arith)));
-        quality-is = rw (in-use-all n few) (quality-within probs n few chances best);
-        chances-are = chances;
+        posterior-is = each-within best m;
+        quality-is = rw (in-use-all n few) (quality-within probs n few (chance-there some) best);
+        vafs-are = vaf-each (getD (hypotheses counts) best (pair 0 0)) (both-seen counts best m);
+        chances-are = chance-each some;
+        beyond-are = chance-beyond;
       }
     where
       low : (n b : ℕ) → 0 < n → b ≤ pred n → b < n
       low n b h k = omega arith
+
+-- ---- every answer
+
+blank-finite : (r : Refusal) → FiniteAnswer (blank r)
+blank-finite r = record {
+  posterior-is = within-more (nothing .within) (lit≤ tt);
+  quality-is = within-more (nothing .within) (lit≤ tt);
+  vafs-are = λ i m. rw (getD-replicate 8 i false false m, getD-replicate 8 i (nat 0) nan m) nothing-here;
+  chances-are = λ i m. rw (getD-replicate 36 i (nat 0) nan m) (chance-more nothing (lit≤ tt));
+  beyond-are = λ i h m. getD-replicate 36 i (nat 0) nan m;
+}
+
+-- a call or a refusal, whatever the counts and the parameters, which are f64
+pub every-answer : (p : Params) (counts : List ℕ) → T (fits binary64 (p .alpha)) → T (fits binary64 (p .beta)) → FiniteAnswer (genotypeOf p counts)
+unfolding genotypeBy
+every-answer p counts f h =
+    go (leb (length counts) 8) (paramsAllowed p) (countsAllowed counts) (ltb (totalOf counts) (p .depth)) (eqb (totalOf counts) 0) refl refl refl refl
+  where
+    go : (a b c d e : Bool) → leb (length counts) 8 ≡ a → paramsAllowed p ≡ b → countsAllowed counts ≡ c → eqb (totalOf counts) 0 ≡ e
+        → FiniteAnswer (cond a (cond b (cond c (cond (d || e) (blank NoCall) (calledOf first p counts)) (blank Count)) (blank Model)) (blank TooMany))
+    go false b c d e q r s t = blank-finite TooMany
+    go true false c d e q r s t = blank-finite Model
+    go true true false d e q r s t = blank-finite Count
+    go true true true true e q r s t = blank-finite NoCall
+    go true true true false true q r s t = blank-finite NoCall
+    go true true true false false q r s t =
+        let some = eqb-false (totalOf counts) 0 t in
+        finite-answer p counts (record { params-are = r; alpha-is-f64 = f; beta-is-f64 = h; counts-are = s; few = leb-true (length counts) 8 q }) (omega arith)

@@ -39,11 +39,11 @@ pub record Chance (n : ℕ) (x : Float) : Type 0 where
 chance-add : {a b : ℕ} {x y : Float} → Chance a x → Chance b y → a + b ≤ 2 ^ 53 → Chance (a + b) (x ⊕ y)
 chance-add {x = x} {y = y} h k l = let w = within-add (h .within) (k .within) l in record { within = w; not-negative = not-below-add x y (h .not-negative) (k .not-negative) (w .is-finite) }
 
-nothing : Chance 0 (nat 0)
+pub nothing : Chance 0 (nat 0)
 unfolding ofInt
 nothing = record { within = within-whole (pos 0) 0 (lit≤ tt) (lit≤ tt); not-negative = record { not-below = tt } }
 
-chance-more : {a b : ℕ} {x : Float} → Chance a x → a ≤ b → Chance b x
+pub chance-more : {a b : ℕ} {x : Float} → Chance a x → a ≤ b → Chance b x
 chance-more h l = record { within = within-more (h .within) l; not-negative = h .not-negative }
 
 -- at most 0

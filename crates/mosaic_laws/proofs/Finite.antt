@@ -42,7 +42,7 @@ use Rattle.mosaic_laws.proofs.Sums.{over-keeps, grows}
 use Rattle.mosaic_laws.proofs.Least.{under-finite, least-stays}
 use Rattle.mosaic_laws.proofs.Seen.{seen-some, seen-in, counts-in}
 
-left-true : (a b : Bool) → (a && b) ≡ true → a ≡ true
+pub left-true : (a b : Bool) → (a && b) ≡ true → a ≡ true
 left-true true b h = refl
 left-true false b h = h
 
@@ -262,10 +262,6 @@ module _ (p : Params) (counts : List ℕ) (ok : Accepted p counts) (g : Pair) (b
   fit none = unfold fits in tt
   fit (some w f) = f
 
-  either-best : (P : Best → Type 0) (t : Bool) (a b : Best) → P a → P b → P (cond t a b)
-  either-best P true a b h k = h
-  either-best P false a b h k = k
-
   -- a candidate from 1 on is not kept
   pub beyond : (b : Best) → Kept b → (i : ℕ) → i < n → somaticIn counts g i ≡ true → (x : Float) → Vaf x → le (nat 1) x ≡ true → tried first p counts g i x b ≡ b
   beyond b h i m s x v e =
@@ -294,7 +290,7 @@ module _ (p : Params) (counts : List ℕ) (ok : Accepted p counts) (g : Pair) (b
     where
       go : (t : Bool) → le (nat 1) x ≡ t → Some (tried first p counts g i x b)
       go true e = subst Some (sym (beyond b (h .kept) i m s x v e)) h
-      go false e = subst Some (tried-is i x b) (either-best Some (larger i x b) (better i x b) b (made b (h .kept) i m x v (not-one x v e)) h)
+      go false e = subst Some (tried-is i x b) (either Some (larger i x b) (better i x b) b (λ q. made b (h .kept) i m x v (not-one x v e)) (λ q. h))
 
   -- a candidate below 1 leaves a finite value, whatever stood before
   pub first-some : (i : ℕ) → i < n → somaticIn counts g i ≡ true → (x : Float) → Vaf x → lt x (nat 1) ≡ true → (b : Best) → Kept b → Some (tried first p counts g i x b)

@@ -4,6 +4,7 @@ pub mod Terms
 pub mod Sums
 pub mod Seen
 pub mod Least
+pub mod Places
 pub mod Finite
 pub mod Chances
 pub mod Answers

@@ -12,13 +12,16 @@ use Rattle.mosaic.specs.Hypotheses.{countAt, seenIn, totalOver}
 pub seen-some : (counts : List ℕ) (i : ℕ) → seenIn counts i ≡ true → 0 < countAt counts i
 seen-some counts i h = ltb-true 0 (countAt counts i) h
 
--- an allele that is seen has a count
+-- an allele beyond the counts is not seen, so one that is seen has a count
+pub unseen : (counts : List ℕ) (i : ℕ) → length counts ≤ i → seenIn counts i ≡ false
+unseen counts i h = ap (ltb 0) (List·getD-eq-default counts 0 h)
+
 pub seen-in : (counts : List ℕ) (i : ℕ) → seenIn counts i ≡ true → i < length counts
 seen-in counts i h = go (ltb i (length counts)) refl
   where
     go : (b : Bool) → ltb i (length counts) ≡ b → i < length counts
     go true e = ltb-true i (length counts) e
-    go false e = absurd (true≢false (sym h ∙ ap (ltb 0) (List·getD-eq-default counts 0 (ltb-false i (length counts) e))))
+    go false e = absurd (true≢false (sym h ∙ unseen counts i (ltb-false i (length counts) e)))
 
 count-in : (counts : List ℕ) (i n : ℕ) → i < n → countAt counts i ≤ totalOver counts n
 count-in counts i zero l = absurd (none i l)

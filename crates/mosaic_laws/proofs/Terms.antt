@@ -48,7 +48,7 @@ from-one-within x f p w =
     (within-add (within-sub (within-mul (within-sub w (within-reciprocal 2 (lit< tt)) (lit≤ tt)) (within-ln x f p) (lit≤ tt)) w (lit≤ tt)) half-pi-within (lit≤ tt))
     (lit≤ tt)
 
-pub either : (P : Float → Type 0) (t : Bool) (a b : Float) → (t ≡ true → P a) → (t ≡ false → P b) → P (cond t a b)
+pub either : {A : Type 0} (P : A → Type 0) (t : Bool) (a b : A) → (t ≡ true → P a) → (t ≡ false → P b) → P (cond t a b)
 either P true a b h k = h refl
 either P false a b h k = k refl
 
