@@ -73,7 +73,8 @@ calledOf e p counts =
       probabilities = probs;
     }
 
--- O1: too many alleles, then the parameters, then the counts, then R11: a total below the least depth, or no allele seen, so that the total is 0
+-- O1: too many alleles, then the parameters, then the counts, then R11: a total below the least depth, or no allele seen, which is a total of 0
+-- (`none-seen`, mosaic_laws/proofs/Answers.antt)
 unfoldable pub genotypeBy : Edition → Params → List ℕ → MosaicResult
 genotypeBy e p counts =
     cond (leb (length counts) 8)

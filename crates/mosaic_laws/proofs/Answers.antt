@@ -6,7 +6,7 @@ use mathlib.Core.List.{List, [], _∷_, map}
 use Prim.Native.Nat.{ℕ, zero, suc, pred, _-_, _^_, _≤_, _<_}
 use native.Mathlib.Omega.{arith}
 use borrow.Author.Tests.{ltb-true, ltb-false, leb-true, eqb-false}
-use lib.Dec.{T, leb, ltb, eqb, lit≤}
+use lib.Dec.{T, leb, ltb, eqb, lit≤, eqb·suc-zero}
 use lib.ListN.{length, getD, replicate, getD-replicate, length-append, length-map, List·getD-append}
 use lib.Ieee.{Float, nan, binary64, lt, fits}
 use lib.Ieee.Positive.{positive}
@@ -34,7 +34,7 @@ use Rattle.mosaic.proofs.OverLaws.{placed-at, placed-beyond}
 use Rattle.mosaic.proofs.WinnerLaws.{winner-low}
 use Rattle.mosaic.proofs.Scanned.{all-seen, at-most-36, number-at}
 use Rattle.mosaic_laws.specs.Accepted.{Accepted}
-use Rattle.mosaic_laws.proofs.Seen.{seen-in}
+use Rattle.mosaic_laws.proofs.Seen.{seen-some, seen-in, count-in}
 use Rattle.mosaic_laws.proofs.Places.{flag-at, found-rest}
 use Rattle.mosaic_laws.proofs.Finite.{left-true, posterior-within, found-vafs}
 use Rattle.mosaic_laws.proofs.Chances.{Chance, chance-more, nothing, chance, quality-within}
@@ -100,16 +100,39 @@ read counts (suc k) h = go (ltb 0 (countAt counts k)) refl (λ m. read counts k 
     go true e r = record { allele = k; below = omega arith; is-seen = e }
     go false e r = let z = ltb-false 0 (countAt counts k) e in let q = r (omega arith) in record { allele = q .allele; below = omega (arith, q .below); is-seen = q .is-seen }
 
-pub some-hypothesis : (counts : List ℕ) → length counts ≤ 8 → 0 < totalOf counts → 0 < length (hypotheses counts)
-unfolding hypotheses
-some-hypothesis counts few h =
+some-seen : (counts : List ℕ) → length counts ≤ 8 → 0 < totalOf counts → 0 < length (seenAlleles counts)
+some-seen counts few h =
     let r = read counts (length counts) h in
     let i = r .allele in
     let m : i < 8 = omega (arith, r .below) in
     let at : getD (numbers 0 8) i 0 ≡ i = number-at 0 8 i m ∙ omega arith in
-    let some = some-pass (seenIn counts) 0 (numbers 0 8) i m (ap (seenIn counts) at ∙ r .is-seen) in
+    some-pass (seenIn counts) 0 (numbers 0 8) i m (ap (seenIn counts) at ∙ r .is-seen)
+
+-- and where an allele is seen, there is a read
+some-read : (counts : List ℕ) → 0 < length (seenAlleles counts) → 0 < totalOf counts
+some-read counts h =
+    let i = getD (seenAlleles counts) 0 0 in
+    let s = passed (seenIn counts) 0 (numbers 0 8) 0 h in
+    omega (arith, seen-some counts i s, count-in counts i (length counts) (seen-in counts i s))
+
+-- R11: of at most eight counts no allele is seen exactly when the total is 0
+pub none-seen : (counts : List ℕ) → length counts ≤ 8 → eqb (length (seenAlleles counts)) 0 ≡ eqb (totalOf counts) 0
+none-seen counts few = same (length (seenAlleles counts)) (totalOf counts) (some-read counts) (some-seen counts few)
+  where
+    none : 0 < 0 → ⊥
+    none h = omega arith
+
+    same : (s t : ℕ) → (0 < s → 0 < t) → (0 < t → 0 < s) → eqb s 0 ≡ eqb t 0
+    same zero zero h k = refl
+    same zero (suc t) h k = absurd (none (k (omega arith)))
+    same (suc s) zero h k = absurd (none (h (omega arith)))
+    same (suc s) (suc t) h k = eqb·suc-zero s ∙ sym (eqb·suc-zero t)
+
+pub some-hypothesis : (counts : List ℕ) → length counts ≤ 8 → 0 < totalOf counts → 0 < length (hypotheses counts)
+unfolding hypotheses
+some-hypothesis counts few h =
     let l = seenAlleles counts in
-    omega (arith, some, length-append (singles l) (pairs l), length-map l (λ i. pair i i))
+    omega (arith, some-seen counts few h, length-append (singles l) (pairs l), length-map l (λ i. pair i i))
 
 -- ---- the answer
 

@@ -23,7 +23,7 @@ seen-in counts i h = go (ltb i (length counts)) refl
     go true e = ltb-true i (length counts) e
     go false e = absurd (true≢false (sym h ∙ unseen counts i (ltb-false i (length counts) e)))
 
-count-in : (counts : List ℕ) (i n : ℕ) → i < n → countAt counts i ≤ totalOver counts n
+pub count-in : (counts : List ℕ) (i n : ℕ) → i < n → countAt counts i ≤ totalOver counts n
 count-in counts i zero l = absurd (none i l)
   where
     none : (i : ℕ) → i < 0 → ⊥
