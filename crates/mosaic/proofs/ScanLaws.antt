@@ -4,8 +4,8 @@ use mathlib.Core.List.{List}
 use Prim.Native.Nat.{ℕ, zero, suc, _≤_}
 use native.Mathlib.Omega.{arith}
 use lib.ListN.{getD}
-use Rattle.mosaic.specs.Hypotheses.{pair, allPairs}
-use Rattle.mosaic.specs.Inner.{bothSeen, foundBy, pushed, scanStep, scanOver, scannedBy}
+use Rattle.mosaic.specs.Hypotheses.{pair, allPairs, bothSeen}
+use Rattle.mosaic.specs.Inner.{foundBy, pushed, scanStep, scanOver, scannedBy}
 use Rattle.mosaic.specs.declared.site.Site.{Site}
 use Rattle.mosaic.specs.declared.scan.Scan.{Scan}
 

@@ -11,8 +11,8 @@ use lib.Seq.{take-suc, set-append-seam}
 use lib.Ieee.{Float}
 use Rattle.floats.specs.F64.{nat}
 use Rattle.mosaic.specs.Lists.{numbers, passing, padded}
-use Rattle.mosaic.specs.Hypotheses.{seenIn, seenAlleles, pair, singles, pairs, hypotheses, allPairs}
-use Rattle.mosaic.specs.Inner.{bothSeen, foundBy, pushed, scanStep, scanOver, scannedBy, listStep, listOver, listedBy}
+use Rattle.mosaic.specs.Hypotheses.{seenIn, seenAlleles, pair, singles, pairs, hypotheses, allPairs, bothSeen}
+use Rattle.mosaic.specs.Inner.{foundBy, pushed, scanStep, scanOver, scannedBy, listStep, listOver, listedBy}
 use Rattle.mosaic.specs.declared.hypotheses.Pair.{Pair}
 use Rattle.mosaic.specs.declared.site.Site.{Site}
 use Rattle.mosaic.specs.declared.scan.Scan.{Scan}

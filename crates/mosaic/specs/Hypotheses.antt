@@ -37,6 +37,10 @@ alone g = eqb (g .first) (g .second)
 abbrev pub germlineIn : Pair → ℕ → Bool
 germlineIn g i = eqb i (g .first) || eqb i (g .second)
 
+-- a hypothesis has germline alleles that are seen
+abbrev pub bothSeen : List ℕ → Pair → Bool
+bothSeen counts g = seenIn counts (g .first) && seenIn counts (g .second)
+
 -- every other allele that is seen is somatic
 abbrev pub somaticIn : List ℕ → Pair → ℕ → Bool
 somaticIn counts g i = seenIn counts i && not (germlineIn g i)

@@ -1,7 +1,7 @@
 -- What private functions work with: the terms that are kept from candidate to candidate, and the sums made of them. Definitions only; that they give what
 -- the definitions of the rules give is proved in proofs/Terms.antt and proofs/Scanned.antt.
 use Prim.Native.Nat.{ℕ, _+_}
-use mathlib.Core.Bool.{Bool, true, _&&_, cond}
+use mathlib.Core.Bool.{true, cond}
 use mathlib.Core.List.{List}
 use lib.ListN.{length, getD, replicate, set}
 use lib.Signed.{ltZ}
@@ -12,7 +12,7 @@ use Rattle.kernels.specs.Ln.{lnOf}
 use Rattle.stirlings.specs.Stirling.{stirlingOf, lnFactorial}
 use Rattle.probabilities.specs.Over.{over, placed}
 use Rattle.mosaic.specs.Edition.{first}
-use Rattle.mosaic.specs.Hypotheses.{countAt, seenIn, germlineIn, somaticIn, anySomatic, alone, totalOf, pair, allPairs}
+use Rattle.mosaic.specs.Hypotheses.{countAt, seenIn, germlineIn, somaticIn, anySomatic, alone, totalOf, pair, allPairs, bothSeen}
 use Rattle.mosaic.specs.Likelihood.{massOf, germlineShare}
 use Rattle.mosaic.specs.Prior.{densityOf, gainOf, forOne, forTwo}
 use Rattle.mosaic.specs.Search.{startVafs}
@@ -114,9 +114,6 @@ module _ (counts : List ℕ) (g : Pair) (site : Site) where
 -- the hypotheses so far, with one more
 unfoldable pub pushed : Scan → Pair → Float → Scan
 pushed scan g x = record { count = scan .count + 1; pairs = set (scan .pairs) (scan .count) g; posteriors = set (scan .posteriors) (scan .count) x }
-
-abbrev pub bothSeen : List ℕ → Pair → Bool
-bothSeen counts g = seenIn counts (g .first) && seenIn counts (g .second)
 
 unfoldable pub scanStep : List ℕ → Site → ℕ → Scan → Scan
 scanStep counts site t scan =

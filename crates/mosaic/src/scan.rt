@@ -2,8 +2,9 @@
 ghost use mathlib.Core.Path.{_≡_};
 ghost use Prim.Native.Nat.{_≤_, _<_};
 ghost use lib.ListN.{length};
+ghost use Rattle.mosaic.specs.Hypotheses.{bothSeen};
 ghost use Rattle.mosaic.specs.Choice.{winner};
-ghost use Rattle.mosaic.specs.Inner.{bothSeen, pushed, scannedBy};
+ghost use Rattle.mosaic.specs.Inner.{pushed, scannedBy};
 use crate::counts::seen;
 use crate::hypotheses::FIRSTS;
 use crate::hypotheses::Pair;

@@ -21,12 +21,11 @@ use Rattle.probabilities.proofs.InUse.{in-use-all}
 use Rattle.mosaic.specs.Lists.{numbers, passing}
 use Rattle.mosaic.specs.Edition.{first}
 use Rattle.mosaic.specs.Allowed.{paramsAllowed}
-use Rattle.mosaic.specs.Hypotheses.{countAt, seenIn, seenAlleles, germlineIn, somaticIn, totalOver, totalOf, pair, singles, pairs, hypotheses, allPairs}
+use Rattle.mosaic.specs.Hypotheses.{countAt, seenIn, seenAlleles, germlineIn, somaticIn, totalOver, totalOf, pair, singles, pairs, hypotheses, allPairs, bothSeen}
 use Rattle.mosaic.specs.Likelihood.{vafAt}
 use Rattle.mosaic.specs.Search.{foundOf}
 use Rattle.mosaic.specs.Choice.{posteriors, winner}
 use Rattle.mosaic.specs.Genotype.{blank, flagsOf, calledOf, genotypeBy, genotypeOf}
-use Rattle.mosaic.specs.Inner.{bothSeen}
 use Rattle.models.specs.declared.params.Params.{Params}
 use Rattle.mosaic.specs.declared.hypotheses.Pair.{Pair}
 use Rattle.mosaic.specs.declared.genotype.MosaicResult.{MosaicResult}

@@ -26,11 +26,10 @@ use Rattle.kernels.specs.Ln.{lnOf}
 use Rattle.stirlings.specs.Stirling.{stirlingOf, lnFactorial}
 use Rattle.probabilities.specs.Over.{over}
 use Rattle.mosaic.specs.Edition.{first}
-use Rattle.mosaic.specs.Hypotheses.{countAt, seenIn, germlineIn, somaticIn, anyOver, anySomatic, alone, totalOf}
+use Rattle.mosaic.specs.Hypotheses.{countAt, seenIn, germlineIn, somaticIn, anyOver, anySomatic, alone, totalOf, bothSeen}
 use Rattle.mosaic.specs.Likelihood.{vafAt, massOf, germlineShare, shareOf, likelihoodOf}
 use Rattle.mosaic.specs.Prior.{densityOf, gainOf, forOne, forTwo, priorOf}
 use Rattle.mosaic.specs.Search.{Best, startVafs, valueOf, tried, triedStep, stepOf, observedShare, searchedAllele, searchedAll, foundOf}
-use Rattle.mosaic.specs.Inner.{bothSeen}
 use Rattle.models.specs.declared.params.Params.{Params}
 use Rattle.mosaic.specs.declared.hypotheses.Pair.{Pair}
 use Rattle.mosaic.proofs.CountLaws.{count-bound, total-bound}
