@@ -119,15 +119,16 @@ module _ (p : Params) (counts : List ℕ) (few : length counts ≤ 8) (g : Pair)
   step-follows : (i : ℕ) → i < length counts → (s : ℕ) (k : Kept) (b : Best) → Follows k b → Follows (stepTried counts g site i s k) (triedStep first p counts g i s b)
   unfolding siteOf stepTried
   step-follows i l s k b h =
-      let x = stepOf first p counts g s in
+      let x = stepOf (p .highest) s in
       follows-cond (lt (decimal 1 3) x) (attempted counts g site k i x) k (tried first p counts g i x b) b (attempt-follows i l x k b h) h
 
   allele-follows : (i : ℕ) → i < length counts → (k : Kept) (b : Best) → Follows k b → Follows (alleleSearched counts g site i k) (searchedAllele first p counts g i b)
   unfolding siteOf alleleSearched searchedAllele
   allele-follows i l k b h =
-      over-related Follows (stepTried counts g site i) (triedStep first p counts g i) (attempted counts g site k i (observedShare first p counts g i)) (tried first p counts g i (observedShare first p counts g i) b) 21
+      let x = observedShare (countAt counts i) (nat (totalOf counts)) in
+      over-related Follows (stepTried counts g site i) (triedStep first p counts g i) (attempted counts g site k i x) (tried first p counts g i x b) 21
       (λ s m k b h. step-follows i l s k b h)
-      (attempt-follows i l (observedShare first p counts g i) k b h)
+      (attempt-follows i l x k b h)
 
   offer-follows : (i : ℕ) → i < length counts → (k : Kept) (b : Best) → Follows k b → Follows (offered counts g site i k) (cond (somaticIn counts g i) (searchedAllele first p counts g i b) b)
   unfolding offered

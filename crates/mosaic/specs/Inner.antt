@@ -6,7 +6,7 @@ use mathlib.Core.List.{List}
 use lib.ListN.{length, getD, replicate, set}
 use lib.Signed.{ltZ}
 use lib.Ieee.{Float, nan, inf, lt}
-use Rattle.floats.specs.F64.{_⊕_, _⊖_, _⊗_, _⊘_, nat, decimal}
+use Rattle.floats.specs.F64.{_⊕_, _⊖_, _⊗_, nat, decimal}
 use Rattle.floats.specs.Key.{keyOf}
 use Rattle.kernels.specs.Ln.{lnOf}
 use Rattle.stirlings.specs.Stirling.{stirlingOf, lnFactorial}
@@ -15,7 +15,7 @@ use Rattle.mosaic.specs.Edition.{first}
 use Rattle.mosaic.specs.Hypotheses.{countAt, seenIn, germlineIn, somaticIn, anySomatic, alone, totalOf, pair, allPairs, bothSeen}
 use Rattle.mosaic.specs.Likelihood.{massOf, germlineShare}
 use Rattle.mosaic.specs.Prior.{densityOf, gainOf, forOne, forTwo}
-use Rattle.mosaic.specs.Search.{startVafs}
+use Rattle.mosaic.specs.Search.{startVafs, observedShare, stepOf}
 use Rattle.models.specs.declared.params.Params.{Params}
 use Rattle.mosaic.specs.declared.hypotheses.Pair.{Pair}
 use Rattle.mosaic.specs.declared.site.Site.{Site}
@@ -93,10 +93,10 @@ module _ (counts : List ℕ) (g : Pair) (site : Site) where
   attempted kept i x = cond (ltZ (keyOf (kept .value)) (keyOf (changed kept i x .value))) (changed kept i x) kept
 
   unfoldable pub stepTried : ℕ → ℕ → Kept → Kept
-  stepTried i s kept = let x = site .highest ⊗ (nat s ⊘ nat 20) in cond (lt (decimal 1 3) x) (attempted kept i x) kept
+  stepTried i s kept = let x = stepOf (site .highest) s in cond (lt (decimal 1 3) x) (attempted kept i x) kept
 
   unfoldable pub alleleSearched : ℕ → Kept → Kept
-  alleleSearched i kept = over (stepTried i) (attempted kept i (nat (countAt counts i) ⊘ site .total)) 21
+  alleleSearched i kept = over (stepTried i) (attempted kept i (observedShare (countAt counts i) (site .total))) 21
 
   unfoldable pub offered : ℕ → Kept → Kept
   offered i kept = cond (somaticIn counts g i) (alleleSearched i kept) kept

@@ -28,6 +28,14 @@ startOver counts g = placed (replicate 8 (nat 0)) (λ i. cond (somaticIn counts 
 unfoldable pub startVafs : List ℕ → Pair → List Float
 startVafs counts g = startOver counts g (length counts)
 
+-- the observed share, count / total, which no limit touches
+abbrev pub observedShare : ℕ → Float → Float
+observedShare count total = nat count ⊘ total
+
+-- step s of the highest VAF, the quotient rounded first
+abbrev pub stepOf : Float → ℕ → Float
+stepOf highest s = highest ⊗ (nat s ⊘ nat 20)
+
 module _ (e : Edition) (p : Params) (counts : List ℕ) (g : Pair) where
   -- likelihood plus prior
   abbrev pub valueOf : List Float → Float
@@ -39,20 +47,13 @@ module _ (e : Edition) (p : Params) (counts : List ℕ) (g : Pair) where
       let vafs = set (kept .vafs) i x in
       cond (ltZ (keyOf (kept .value)) (keyOf (valueOf vafs))) (record { vafs = vafs; value = valueOf vafs }) kept
 
-  -- the observed share, count / total, which no limit touches
-  abbrev pub observedShare : ℕ → Float
-  observedShare i = nat (countAt counts i) ⊘ nat (totalOf counts)
-
-  -- step s of the highest VAF, the quotient rounded first: a candidate where it is above 0.001
-  abbrev pub stepOf : ℕ → Float
-  stepOf s = p .highest ⊗ (nat s ⊘ nat 20)
-
+  -- a step is a candidate where it is above 0.001
   abbrev pub triedStep : ℕ → ℕ → Best → Best
-  triedStep i s kept = cond (lt (decimal 1 3) (stepOf s)) (tried i (stepOf s) kept) kept
+  triedStep i s kept = let x = stepOf (p .highest) s in cond (lt (decimal 1 3) x) (tried i x kept) kept
 
   -- the candidates of allele i: the observed share, then the steps 0 to 20
   unfoldable pub searchedAllele : ℕ → Best → Best
-  searchedAllele i kept = over (triedStep i) (tried i (observedShare i) kept) 21
+  searchedAllele i kept = over (triedStep i) (tried i (observedShare (countAt counts i) (nat (totalOf counts))) kept) 21
 
   -- the somatic alleles in rising order, each from what the earlier ones left; the value starts at minus infinity
   unfoldable pub searchedAll : Best

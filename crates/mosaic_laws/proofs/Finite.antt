@@ -319,14 +319,14 @@ module _ (p : Params) (counts : List ℕ) (ok : Accepted p counts) (g : Pair) (b
       clash true b c q h = true≢false (sym (sym (ap (λ (b : Bool). not (b || c)) q) ∙ h))
       clash false b c q h = true≢false (sym h)
 
-  observed : (i : ℕ) → i < n → somaticIn counts g i ≡ true → Vaf (observedShare first p counts g i) × (lt (observedShare first p counts g i) (nat 1) ≡ true)
+  observed : (i : ℕ) → i < n → somaticIn counts g i ≡ true → let x = observedShare (countAt counts i) (nat (totalOf counts)) in Vaf x × (lt x (nat 1) ≡ true)
   observed i m s =
       let v = observed-share (countAt counts i) (totalOf counts) (seen-some counts i (left-true (seenIn counts i) (not (germlineIn g i)) s)) (other-seen i m s) (omega (arith, total-small)) in
       (record { above-zero = v .above-zero; is-f64 = v .is-f64; within = within-more (v .within) (lit≤ tt) }, v .below-one)
 
-  step-vaf : (s : ℕ) → s ≤ 20 → lt (decimal 1 3) (stepOf first p counts g s) ≡ true → Vaf (stepOf first p counts g s)
+  step-vaf : (s : ℕ) → s ≤ 20 → lt (decimal 1 3) (stepOf (p .highest) s) ≡ true → Vaf (stepOf (p .highest) s)
   step-vaf s h e =
-      let x = stepOf first p counts g s in
+      let x = stepOf (p .highest) s in
       let w = within-mul (highest-within p (ok .params-are)) (within-div (within-whole (pos s) 20 h (lit≤ tt)) (above-whole 20 (lit< tt) (lit≤ tt)) (lit≤ tt)) (lit≤ tt) in
       let low = above-fraction 1 1000 1 10 (lit< tt) (lit≤ tt) (lit≤ tt) (lit≤ tt) (lit≤ tt) in
       record {
@@ -336,17 +336,18 @@ module _ (p : Params) (counts : List ℕ) (ok : Accepted p counts) (g : Pair) (b
       }
 
   step-some : (i : ℕ) → i < n → somaticIn counts g i ≡ true → (s : ℕ) → s < 21 → (b : Best) → Some b → Some (triedStep first p counts g i s b)
-  step-some i m t s l b h = go (lt (decimal 1 3) (stepOf first p counts g s)) refl
+  step-some i m t s l b h = go (lt (decimal 1 3) (stepOf (p .highest) s)) refl
     where
-      go : (c : Bool) → lt (decimal 1 3) (stepOf first p counts g s) ≡ c → Some (cond c (tried first p counts g i (stepOf first p counts g s) b) b)
-      go true e = tried-some i m t (stepOf first p counts g s) (step-vaf s (omega arith) e) b h
+      go : (c : Bool) → lt (decimal 1 3) (stepOf (p .highest) s) ≡ c → Some (cond c (tried first p counts g i (stepOf (p .highest) s) b) b)
+      go true e = tried-some i m t (stepOf (p .highest) s) (step-vaf s (omega arith) e) b h
       go false e = h
 
   allele-some : (i : ℕ) → i < n → somaticIn counts g i ≡ true → (b : Best) → Kept b → Some (searchedAllele first p counts g i b)
   unfolding searchedAllele
   allele-some i m s b h =
+      let x = observedShare (countAt counts i) (nat (totalOf counts)) in
       let o = observed i m s in
-      over-keeps Some (triedStep first p counts g i) (tried first p counts g i (observedShare first p counts g i) b) 21 (step-some i m s) (first-some i m s (observedShare first p counts g i) (o .0) (o .1) b h)
+      over-keeps Some (triedStep first p counts g i) (tried first p counts g i x b) 21 (step-some i m s) (first-some i m s x (o .0) (o .1) b h)
 
   -- ---- the search, and the posterior
 

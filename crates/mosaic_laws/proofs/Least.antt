@@ -8,11 +8,11 @@ use lib.Dec.{T}
 use lib.ListN.{length, set}
 use lib.Ieee.{Float, nan, inf, fin, binary64, lt, isNan, fits}
 use lib.Ieee.Scale.{finite}
-use Rattle.floats.specs.F64.{decimal}
+use Rattle.floats.specs.F64.{nat, decimal}
 use Rattle.floats.proofs.KeyOrder.{key-order}
 use Rattle.models.specs.declared.params.Params.{Params}
 use Rattle.mosaic.specs.Edition.{Edition}
-use Rattle.mosaic.specs.Hypotheses.{somaticIn}
+use Rattle.mosaic.specs.Hypotheses.{countAt, somaticIn, totalOf}
 use Rattle.mosaic.specs.Search.{Best, startVafs, valueOf, tried, triedStep, stepOf, observedShare, searchedAllele, searchedAll}
 use Rattle.mosaic.specs.declared.hypotheses.Pair.{Pair}
 use Rattle.mosaic_laws.proofs.Sums.{over-keeps}
@@ -44,21 +44,22 @@ module _ (e : Edition) (p : Params) (counts : List ℕ) (g : Pair) where
   abbrev Least : ℕ → Float → Type 0
   Least i x = valueOf e p counts g (set (startVafs counts g) i x) ≡ inf true
 
-  module _ (shares : (i : ℕ) → i < length counts → somaticIn counts g i ≡ true → Least i (observedShare e p counts g i))
-      (steps : (i : ℕ) → i < length counts → somaticIn counts g i ≡ true → (s : ℕ) → s < 21 → lt (decimal 1 3) (stepOf e p counts g s) ≡ true → Least i (stepOf e p counts g s)) where
+  module _ (shares : (i : ℕ) → i < length counts → somaticIn counts g i ≡ true → Least i (observedShare (countAt counts i) (nat (totalOf counts))))
+      (steps : (i : ℕ) → i < length counts → somaticIn counts g i ≡ true → (s : ℕ) → s < 21 → lt (decimal 1 3) (stepOf (p .highest) s) ≡ true → Least i (stepOf (p .highest) s)) where
     tried-start : (i : ℕ) (x : Float) → Least i x → (b : Best) → b ≡ start → tried e p counts g i x b ≡ start
     tried-start i x v b h = ap (tried e p counts g i x) h ∙ least-stays i x start (unfold fits in tt) (unfold isNan in refl) v
 
-    step-start : (i : ℕ) → i < length counts → somaticIn counts g i ≡ true → (s : ℕ) → s < 21 → (b : Best) → b ≡ start → (t : Bool) → lt (decimal 1 3) (stepOf e p counts g s) ≡ t → cond t (tried e p counts g i (stepOf e p counts g s) b) b ≡ start
-    step-start i l o s m b h true q = tried-start i (stepOf e p counts g s) (steps i l o s m q) b h
+    step-start : (i : ℕ) → i < length counts → somaticIn counts g i ≡ true → (s : ℕ) → s < 21 → (b : Best) → b ≡ start → (t : Bool) → lt (decimal 1 3) (stepOf (p .highest) s) ≡ t → cond t (tried e p counts g i (stepOf (p .highest) s) b) b ≡ start
+    step-start i l o s m b h true q = tried-start i (stepOf (p .highest) s) (steps i l o s m q) b h
     step-start i l o s m b h false q = h
 
     allele-start : (i : ℕ) → i < length counts → somaticIn counts g i ≡ true → (b : Best) → b ≡ start → searchedAllele e p counts g i b ≡ start
     unfolding searchedAllele
     allele-start i l o b h =
-        over-keeps (λ b. b ≡ start) (triedStep e p counts g i) (tried e p counts g i (observedShare e p counts g i) b) 21
-        (λ s m b q. step-start i l o s m b q (lt (decimal 1 3) (stepOf e p counts g s)) refl)
-        (tried-start i (observedShare e p counts g i) (shares i l o) b h)
+        let x = observedShare (countAt counts i) (nat (totalOf counts)) in
+        over-keeps (λ b. b ≡ start) (triedStep e p counts g i) (tried e p counts g i x b) 21
+        (λ s m b q. step-start i l o s m b q (lt (decimal 1 3) (stepOf (p .highest) s)) refl)
+        (tried-start i x (shares i l o) b h)
 
     offered-start : (i : ℕ) → i < length counts → (t : Bool) → somaticIn counts g i ≡ t → (b : Best) → b ≡ start → cond t (searchedAllele e p counts g i b) b ≡ start
     offered-start i l true s b h = allele-start i l s b h

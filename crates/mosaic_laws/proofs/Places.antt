@@ -12,7 +12,7 @@ use lib.Ieee.{Float, nan, inf, lt}
 use Rattle.floats.specs.F64.{nat, decimal}
 use Rattle.floats.specs.Key.{keyOf}
 use Rattle.mosaic.specs.Edition.{Edition}
-use Rattle.mosaic.specs.Hypotheses.{germlineIn, somaticIn, anySomatic}
+use Rattle.mosaic.specs.Hypotheses.{countAt, germlineIn, somaticIn, anySomatic, totalOf}
 use Rattle.mosaic.specs.Likelihood.{vafAt, likelihoodOf}
 use Rattle.mosaic.specs.Search.{Best, startVafs, valueOf, tried, triedStep, stepOf, observedShare, searchedAllele, searchedAll, foundOf}
 use Rattle.mosaic.specs.Genotype.{flagsOf}
@@ -69,13 +69,13 @@ module _ (counts : List ℕ) (few : length counts ≤ 8) (g : Pair) where
 
     step-rest : (i : ℕ) → somaticIn counts g i ≡ true → (s : ℕ) (b : Best) → Keeps b → Keeps (triedStep e p counts g i s b)
     step-rest i o s b h =
-        let x = stepOf e p counts g s in
+        let x = stepOf (p .highest) s in
         either Keeps (lt (decimal 1 3) x) (tried e p counts g i x b) b (λ q. tried-rest i o x b h) (λ q. h)
 
     allele-rest : (i : ℕ) → somaticIn counts g i ≡ true → (b : Best) → Keeps b → Keeps (searchedAllele e p counts g i b)
     unfolding searchedAllele
     allele-rest i o b h =
-        let x = observedShare e p counts g i in
+        let x = observedShare (countAt counts i) (nat (totalOf counts)) in
         over-keeps Keeps (triedStep e p counts g i) (tried e p counts g i x b) 21 (λ s m. step-rest i o s) (tried-rest i o x b h)
 
     search-rest : Keeps (searchedAll e p counts g)

@@ -2,7 +2,6 @@
 -- `step-at-most`. Assumes nothing.
 use mathlib.Core.Path.{_≡_, refl, sym, _∙_, subst}
 use mathlib.Core.Bool.{Bool, true, false}
-use mathlib.Core.List.{List}
 use Prim.Native.Nat.{ℕ, zero, suc, _+_, _*_, _^_, _≤_, _<_}
 use native.Mathlib.Nat.{le-trans, le-of-eq, mul-pos, mul-le-mul-left, mul-le-mul-right, mul-assoc, mul-comm, mul-one, one-mul, zero-mul, add-zero}
 use native.Mathlib.Omega.{arith}
@@ -20,9 +19,7 @@ use Rattle.floats.proofs.Bounds.{above-whole, within-ratio}
 use Rattle.floats.proofs.Zeros.{zeroOf, zero-fits, plus-zero}
 use Rattle.models.specs.declared.params.Params.{Params}
 use Rattle.mosaic.specs.Allowed.{paramsAllowed}
-use Rattle.mosaic.specs.Edition.{Edition}
 use Rattle.mosaic.specs.Search.{stepOf}
-use Rattle.mosaic.specs.declared.hypotheses.Pair.{Pair}
 use Rattle.mosaic_laws.proofs.Quotients.{quotient, whole-size}
 use Rattle.mosaic_laws.proofs.Terms.{highest-not-below}
 
@@ -90,7 +87,7 @@ share-at-most : (s : ℕ) → s ≤ 20 → Within 1 (nat s ⊘ nat 20) × T (cle
 share-at-most zero h = (record { is-finite = unfold div round ofInt in tt; small = unfold div round ofInt in (lit≤ tt) }, unfold div round ofInt in tt)
 share-at-most (suc k) h = share-within (suc k) 20 (omega arith) h (lit< tt)
 
-pub step-at-most : (e : Edition) (p : Params) (counts : List ℕ) (g : Pair) → paramsAllowed p ≡ true → T (fits binary64 (p .highest)) → (s : ℕ) → s ≤ 20 → T (le (stepOf e p counts g s) (p .highest))
-step-at-most e p counts g allowed f s h =
+pub step-at-most : (p : Params) → paramsAllowed p ≡ true → T (fits binary64 (p .highest)) → (s : ℕ) → s ≤ 20 → T (le (stepOf (p .highest) s) (p .highest))
+step-at-most p allowed f s h =
     let q = share-at-most s h in
     not-above (p .highest) (nat s ⊘ nat 20) (highest-not-below p allowed) f (q .1) (q .0)
