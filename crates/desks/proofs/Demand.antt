@@ -10,7 +10,7 @@ use Rattle.floats.specs.F64.{nat}
 use Rattle.refusals.specs.Refusals.{numberOf}
 use Rattle.search.specs.Shape.{workRight}
 use Rattle.search.specs.Work.{noWork}
-use Rattle.search.proofs.ShapeLaws.{and-both}
+use Rattle.search_laws.proofs.ShapeLaws.{and-both}
 use Rattle.parts.specs.declared.part.Part.{Part}
 use Rattle.parts.specs.declared.part.Stepped.{Stepped}
 use Rattle.parts.specs.Part.{inputRight, rowCount, withWork, rightPart, freshPart}

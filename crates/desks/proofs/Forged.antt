@@ -22,13 +22,14 @@ use Rattle.search.specs.Held.{inUse, heldOf, heldList, fresh, mergedHeld}
 use Rattle.search.specs.Marks.{isMarked, markCount, fullMarks}
 use Rattle.search.specs.Rank.{beatsOf}
 use Rattle.search.specs.Shape.{inMarked, workRight}
-use Rattle.search.specs.Work.{Work, IsEntry, joined, rowWork, rowsFrom, workedAll, wholeWork, Within}
+use Rattle.search.specs.Work.{Work, IsEntry, joined, rowWork, wholeWork, Within}
 use Rattle.search.proofs.HeldLaws.{in-use-back, all-kept-whole}
-use Rattle.search.proofs.KeepLaws.{joined-right}
 use Rattle.search.proofs.MarksLaws.{unmarked-above}
-use Rattle.search.proofs.ReworkLaws.{worked-last, reworked-rising}
-use Rattle.search.proofs.ShapeLaws.{and-true, and-both, Shaped, right-shaped, full-holds, held-back, work-right}
-use Rattle.search.proofs.WorkLaws.{row-sound}
+use Rattle.search_laws.specs.Sound.{rowsFrom, workedAll}
+use Rattle.search_laws.proofs.KeepLaws.{joined-right}
+use Rattle.search_laws.proofs.ReworkLaws.{worked-last, reworked-rising}
+use Rattle.search_laws.proofs.ShapeLaws.{and-true, and-both, Shaped, right-shaped, full-holds, held-back, work-right}
+use Rattle.search_laws.proofs.WorkLaws.{row-sound}
 use Rattle.trio.specs.declared.closing.Closed.{Closed}
 use Rattle.family.specs.declared.pair.Triple.{Triple}
 use Rattle.family.specs.declared.sample.Sample.the-variants.{Child}

@@ -9,7 +9,7 @@ use borrow.Author.Tests.{leb-true, ltb-true, ltb-false}
 use lib.Dec.{ltb, leb, lit≤}
 use lib.ListN.{length, getD, List·getD-eq-default}
 use lib.Ieee.{nan, isNan}
-use Rattle.search.proofs.ShapeLaws.{and-both}
+use Rattle.search_laws.proofs.ShapeLaws.{and-both}
 use Rattle.parts.specs.declared.part.Part.{Part}
 use Rattle.limits.specs.Limits.{countAllowed}
 use Rattle.parts.specs.Part.{noCount, weightAllowed, noWeight, placesRight, inputRight}

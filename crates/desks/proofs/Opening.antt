@@ -15,8 +15,8 @@ use Rattle.refusals.specs.Refusals.{numberOf}
 use Rattle.search.specs.Held.{heldOf}
 use Rattle.search.specs.Shape.{workRight}
 use Rattle.search.specs.Work.{noWork}
-use Rattle.search.proofs.ShapeLaws.{and-true, and-both, work-right}
-use Rattle.search.proofs.WorkLaws.{none-sound}
+use Rattle.search_laws.proofs.ShapeLaws.{and-true, and-both, work-right}
+use Rattle.search_laws.proofs.WorkLaws.{none-sound}
 use Rattle.parts.specs.declared.part.Stepped.{Stepped}
 use Rattle.family.specs.Genotypes.{genotypeCount}
 use Rattle.limits.specs.Limits.{countAllowed}

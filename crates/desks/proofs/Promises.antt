@@ -13,10 +13,11 @@ use Rattle.search.specs.Held.{heldList}
 use Rattle.search.specs.Marks.{isMarked, fullMarks}
 use Rattle.search.specs.Rank.{beatsOf}
 use Rattle.search.specs.Shape.{workRight}
-use Rattle.search.specs.Work.{Work, joined, noWork, rowWork, Within, wholeWork, Sound}
-use Rattle.search.proofs.JoinLaws.{sound-unique}
-use Rattle.search.proofs.ShapeLaws.{and-true, and-both, Shaped, right-shaped, held-back, work-right}
-use Rattle.search.proofs.WorkLaws.{none-sound, row-sound, joined-sound, sound-full, sound-not-full, sound-all}
+use Rattle.search.specs.Work.{Work, joined, noWork, rowWork, Within, wholeWork}
+use Rattle.search_laws.specs.Sound.{Sound}
+use Rattle.search_laws.proofs.JoinLaws.{sound-unique}
+use Rattle.search_laws.proofs.ShapeLaws.{and-true, and-both, Shaped, right-shaped, held-back, work-right}
+use Rattle.search_laws.proofs.WorkLaws.{none-sound, row-sound, joined-sound, sound-full, sound-not-full, sound-all}
 use Rattle.parts.specs.declared.part.Part.{Part}
 use Rattle.parts.specs.declared.part.Stepped.{Stepped}
 use Rattle.trio.specs.Genotypes.{rowWidth}

@@ -15,7 +15,7 @@ use Rattle.search.specs.declared.entry.Entry.{Entry}
 use Rattle.search.specs.Held.{heldOf}
 use Rattle.search.specs.Shape.{workRight}
 use Rattle.search.specs.Work.{onePass, entryAt, allEntries}
-use Rattle.search.proofs.ShapeLaws.{and-both}
+use Rattle.search_laws.proofs.ShapeLaws.{and-both}
 use Rattle.parts.specs.declared.part.Part.{Part}
 use Rattle.parts.specs.declared.part.Stepped.{Stepped}
 use Rattle.family.specs.declared.sample.Sample.{Sample}

@@ -2,4 +2,3 @@
 pub mod PlacesLaws
 pub mod SameLaws
 pub mod OpenLaws
-pub mod ShapeCode

@@ -2,13 +2,11 @@
 use Prim.Native.Nat.{ℕ, zero, suc}
 use mathlib.Core.Bool.{Bool, false, cond, _||_}
 use mathlib.Core.List.{List, [], _∷_}
-use mathlib.Core.Logic.{_⊎_, _≢_}
-use mathlib.Core.Path.{_≡_}
-use lib.Dec.{T, eqb}
+use lib.Dec.{eqb}
 use lib.Ieee.{binary64, ofBits}
 use Rattle.search.specs.declared.entry.Entry.{Entry}
 use Rattle.search.specs.declared.held.Held.{Held}
-use Rattle.search.specs.Best.{In, allOffered}
+use Rattle.search.specs.Best.{allOffered}
 use Rattle.search.specs.Rank.{beatsOf}
 
 abbrev pub noEntry : Entry
@@ -39,17 +37,6 @@ abbrev pub fresh : List Entry → List Entry → List Entry
 fresh own [] = []
 fresh own (b ∷ bs) = cond (holdsAt own (b .position)) (fresh own bs) (b ∷ fresh own bs)
 
--- the best two by distinct position; at a shared position the first list's entry stays. That this is the best of `Both`, then the best of the rest: `merged-two-best`
+-- the best two by distinct position; at a shared position the first list's entry stays. That this is the best of `Both`, then the best of the rest: `merged-two-best` (search_laws)
 abbrev pub mergedHeld : List Entry → List Entry → List Entry
 mergedHeld own given = allOffered beatsOf 2 own (fresh own given)
-
--- the entries of both: all of `own`, and those of `given` at positions that `own` does not hold
-abbrev pub Both : List Entry → List Entry → Entry → Type 0
-Both own given e = In own e ⊎ (In given e × (holdsAt own (e .position) ≡ false))
-
--- at most two entries, at different positions, the better one first
-abbrev pub Ordered : List Entry → Type 0
-Ordered [] = Unit {0}
-Ordered (a ∷ []) = Unit {0}
-Ordered (a ∷ b ∷ []) = (a .position ≢ b .position) × T (beatsOf a b)
-Ordered (a ∷ b ∷ c ∷ l) = ⊥

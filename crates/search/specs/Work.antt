@@ -1,5 +1,5 @@
 -- Scored positions: one pass over all of them, and partial results that have some rows of them. Over any score. Definitions only (RULES.md, T5, T6, T8, D3).
-use Prim.Native.Nat.{ℕ, zero, suc, _*_, _/_, _^_, _<_}
+use Prim.Native.Nat.{ℕ, zero, suc, _*_, _/_, _^_}
 use mathlib.Core.Bool.{Bool, cond}
 use mathlib.Core.List.{List, [], _∷_}
 use mathlib.Core.Path.{_≡_}
@@ -8,11 +8,9 @@ use lib.Dec.{T, eqb}
 use lib.Ieee.{Float}
 use lib.Signed.{ltZ}
 use Rattle.search.specs.declared.entry.Entry.{Entry}
-use Rattle.search.specs.Best.{In, Best}
 use Rattle.search.specs.Held.{mergedHeld}
-use Rattle.search.specs.Marks.{isMarked, fullMarks}
+use Rattle.search.specs.Marks.{fullMarks}
 use Rattle.floats.specs.Key.{keyOf}
-use Rattle.search.specs.Rank.{beatsOf}
 
 -- ---- one pass
 
@@ -47,16 +45,6 @@ module _ (score : ℕ → Float) where
   entriesFrom p zero = []
   entriesFrom p (suc n) = entryAt p ∷ entriesFrom (suc p) n
 
--- rows r, r + 1 and so on, n of them
-abbrev pub rowsFrom : ℕ → ℕ → List ℕ
-rowsFrom r zero = []
-rowsFrom r (suc n) = r ∷ rowsFrom (suc r) n
-
--- every row stands in the list, in any order and any number of times, and nothing else does
-pub record Covers (rows : ℕ) (l : List ℕ) : Type 0 where
-  pub none-past : (r : ℕ) → In l r → r < rows
-  pub every : (r : ℕ) → r < rows → In l r
-
 -- ---- partial results
 
 -- a mark for each row worked, and the best two entries of those rows
@@ -78,11 +66,6 @@ module _ (width : ℕ) (score : ℕ → Float) where
   abbrev pub rowWork : ℕ → Work
   rowWork r = record { marks = 2 ^ r; held = onePass 2 (rowEntries r) }
 
-  -- v once the rows of the list have been worked into it, one after the other
-  abbrev pub workedAll : List ℕ → Work → Work
-  workedAll [] v = v
-  workedAll (r ∷ more) v = workedAll more (joined v (rowWork r))
-
   -- the entries in rows of w
   abbrev pub Within : (ℕ → Bool) → Entry → Type 0
   Within w e = IsEntry score e × T (w (e .position / width))
@@ -94,9 +77,3 @@ module _ (rows width : ℕ) (score : ℕ → Float) where
   -- every mark, and what one pass over all positions keeps
   abbrev pub wholeWork : Work
   wholeWork = record { marks = fullMarks rows; held = onePass 2 allEntries }
-
-  -- v is marked with exactly the rows of w, and holds the best two of their entries, or as many as they have
-  pub record Sound (w : ℕ → Bool) (v : Work) : Type 0 where
-    pub marks-are : (r : ℕ) → isMarked (v .marks) r ≡ w r
-    pub marks-below : v .marks < 2 ^ rows
-    pub held-best : Best beatsOf 2 (Within width score w) (v .held)

@@ -9,7 +9,7 @@ use lib.Bits.{or-zero-l}
 use Rattle.refusals.specs.declared.Refusal.the-variants.{Done}
 use Rattle.search.specs.Marks.{marked}
 use Rattle.search.specs.Work.{Work, joined, rowWork}
-use Rattle.search.proofs.BestCode.{pass-back}
+use Rattle.search_laws.proofs.BestCode.{pass-back}
 use Rattle.parts.specs.declared.part.Part.{Part}
 use Rattle.trio.specs.Genotypes.{rowWidth}
 use Rattle.parts.specs.Part.{rowCount, workIn, withWork, rightPart, gives}

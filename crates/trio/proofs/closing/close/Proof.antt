@@ -8,7 +8,7 @@ use lib.Dec.{eqb}
 use Rattle.search.specs.Marks.{fullMarks}
 use Rattle.parts.specs.Part.{rowCount, rightPart}
 use Rattle.trio.specs.Steps.{closeStep}
-use Rattle.parts.proofs.ShapeCode.{some-clusters, few-clusters}
+use Rattle.trio.proofs.ShapeCode.{some-clusters, few-clusters}
 use Rattle.trio.proofs.closing.close.Statement.{statement}
 use Rattle.trio.proofs.closing.close.Tie as tie
 

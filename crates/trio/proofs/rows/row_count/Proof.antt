@@ -5,7 +5,7 @@ use native.Mathlib.Omega.{arith}
 use borrow.Author.Needs.{needs}
 use Rattle.parts.specs.Part.{rightPart}
 use Rattle.trio.specs.Steps.{rowsIn}
-use Rattle.parts.proofs.ShapeCode.{few-clusters}
+use Rattle.trio.proofs.ShapeCode.{few-clusters}
 use Rattle.trio.proofs.rows.row_count.Statement.{statement}
 use Rattle.trio.proofs.rows.row_count.Tie as tie
 

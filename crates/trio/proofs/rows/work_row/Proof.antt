@@ -9,7 +9,7 @@ use Rattle.parts.specs.Part.{rowCount, rightPart}
 use Rattle.trio.specs.Steps.{rowStep}
 use Rattle.trio.proofs.RowCode.{row-done}
 use Rattle.family.proofs.GenotypesLaws.{genotypes-few}
-use Rattle.parts.proofs.ShapeCode.{some-clusters, few-clusters}
+use Rattle.trio.proofs.ShapeCode.{some-clusters, few-clusters}
 use Rattle.trio.proofs.rows.work_row.Statement.{statement}
 use Rattle.trio.proofs.rows.work_row.Tie as tie
 

@@ -5,13 +5,14 @@ use mathlib.Core.List.{List}
 use mathlib.Core.Path.{_≡_, sym, ap₂, subst, _∙_}
 use lib.Dec.{T}
 use lib.Ieee.{Float}
 use Rattle.search.specs.declared.entry.Entry.{Entry}
 use Rattle.search.specs.Rank.{beatsOf}
-use Rattle.search.specs.Work.{IsEntry, Work, joined, Within, Sound}
-use Rattle.search.proofs.BestLaws.{best-ext, best-unique}
-use Rattle.search.proofs.MarksLaws.{marked-same}
-use Rattle.search.proofs.RankLaws.{ranks}
-use Rattle.search.proofs.WorkLaws.{joined-sound}
+use Rattle.search.specs.Work.{IsEntry, Work, joined, Within}
+use Rattle.search_laws.specs.Sound.{Sound}
+use Rattle.search_laws.proofs.BestLaws.{best-ext, best-unique}
+use Rattle.search_laws.proofs.WordLaws.{marked-same}
+use Rattle.search_laws.proofs.RankLaws.{ranks}
+use Rattle.search_laws.proofs.WorkLaws.{joined-sound}
 
 module _ {rows width : ℕ} {score : ℕ → Float} where
   -- the marks are equal bit by bit, and the best two of a set are unique

@@ -4,10 +4,10 @@ use mathlib.Core.Bool.{true}
 use mathlib.Core.Path.{_≡_}
 use borrow.Author.Tests.{leb-true}
 use lib.Dec.{leb}
-use Rattle.search.proofs.ShapeLaws.{and-both}
 use Rattle.search.specs.Shape.{workRight}
+use Rattle.search_laws.proofs.ShapeLaws.{and-both}
 use Rattle.parts.specs.declared.part.Part.{Part}
 use Rattle.parts.specs.Part.{inputRight, rowCount, rightPart}
 
 module _ (p : Part) (right : rightPart p ≡ true) where
   right-input : inputRight p ≡ true

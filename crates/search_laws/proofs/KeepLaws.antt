@@ -8,16 +8,17 @@ use native.Mathlib.Nat.{not-suc-le-zero, le-of-suc-le-suc}
 use native.Mathlib.Omega.{arith}
 use lib.Bits.{bitOr, or-lt}
 use lib.Ieee.{isNan}
 use Rattle.search.specs.declared.entry.Entry.{Entry}
 use Rattle.search.specs.declared.held.Held.{Held}
 use Rattle.search.specs.Best.{In}
-use Rattle.search.specs.Held.{inUse, heldOf, heldList, holdsAt, mergedHeld, Both, Ordered}
+use Rattle.search.specs.Held.{inUse, heldOf, heldList, holdsAt, mergedHeld}
 use Rattle.search.specs.Marks.{isMarked}
 use Rattle.search.specs.Shape.{heldCount, inMarked, scoredInMarked, workRight}
 use Rattle.search.proofs.CountLaws.{held-none, held-two}
-use Rattle.search.proofs.MarksLaws.{marked-or}
-use Rattle.search.proofs.MergeLaws.{both-one, merged-two-best}
-use Rattle.search.proofs.ShapeLaws.{and-true, and-both, Shaped, right-shaped, marked-holds, Fills, best-right}
+use Rattle.search_laws.specs.Both.{Both, Ordered}
+use Rattle.search_laws.proofs.WordLaws.{marked-or}
+use Rattle.search_laws.proofs.MergeLaws.{both-one, merged-two-best}
+use Rattle.search_laws.proofs.ShapeLaws.{and-true, and-both, Shaped, right-shaped, marked-holds, Fills, best-right}
 
 -- ---- the entries in use
 

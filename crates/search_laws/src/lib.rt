@@ -1,0 +1,1 @@
+// No code: the theory of searching in rows, over any score.
