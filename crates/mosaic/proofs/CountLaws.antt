@@ -1,8 +1,9 @@
--- What is known of counts that are allowed. Assumes nothing.
-use mathlib.Core.Path.{_≡_, subst, sym}
+-- What is known of counts that are allowed, and of the number of pairs of s. Assumes nothing.
+use mathlib.Core.Path.{_≡_, refl, subst, sym}
 use mathlib.Core.Bool.{true}
 use mathlib.Core.List.{List, [], _∷_}
-use Prim.Native.Nat.{ℕ, zero, suc, _*_, _≤_}
+use Prim.Native.Nat.{ℕ, zero, suc, _+_, _-_, _*_, _≤_}
+use native.Mathlib.Nat.{mul-suc}
 use native.Mathlib.Omega.{arith}
 use lib.Dec.{T, leb→le}
 use lib.Ieee.Fits.{and-l, and-r}
@@ -24,3 +25,8 @@ count-bound counts h = at-most counts (subst T (sym h) tt)
 
 pub total-bound : (counts : List ℕ) → countsAllowed counts ≡ true → (k : ℕ) → totalOver counts k ≤ 1000000 * k
 total-bound counts h = total-at-most counts (subst T (sym h) tt)
+
+-- s² = s·(s − 1) + s
+pub square : (s : ℕ) → s * s ≡ s * (s - 1) + s
+square zero = refl
+square (suc k) = let less : suc k - 1 ≡ k = omega arith in rw less (mul-suc (suc k) k)

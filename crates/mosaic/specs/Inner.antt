@@ -40,13 +40,13 @@ startsOf counts = startsOver counts (length counts)
 unfoldable pub siteOf : Params → List ℕ → Site
 siteOf p counts = record {
   total = nat (totalOf counts);
-  whole = lnFactorial stirlingOf (totalOf counts);
+  «of_total» = lnFactorial stirlingOf (totalOf counts);
   factorials = factorialsOf counts;
   starts = startsOf counts;
   density = densityOf first p;
   highest = p .highest;
-  one = forOne (length counts);
-  two = forTwo (length counts);
+  «for_one» = forOne (length counts);
+  «for_two» = forTwo (length counts);
 }
 
 module _ (counts : List ℕ) (g : Pair) where
@@ -68,12 +68,12 @@ module _ (counts : List ℕ) (g : Pair) where
   priorBy gains ofGermline = priorByOver gains (length counts) ⊕ ofGermline
 
 abbrev pub ofGermline : Site → Pair → Float
-ofGermline site g = cond (alone g) (site .one) (site .two)
+ofGermline site g = cond (alone g) (site .«for_one») (site .«for_two»)
 
 module _ (counts : List ℕ) (g : Pair) (site : Site) where
   -- the likelihood of VAFs whose terms are given
   abbrev pub likelihoodHere : List Float → List Float → Float
-  likelihoodHere vafs terms = likelihoodBy counts g (site .whole) (site .factorials) terms (lnOf (germlineShare g (massOf counts g vafs)))
+  likelihoodHere vafs terms = likelihoodBy counts g (site .«of_total») (site .factorials) terms (lnOf (germlineShare g (massOf counts g vafs)))
 
   abbrev pub priorHere : List Float → Float
   priorHere gains = priorBy counts g gains (ofGermline site g)

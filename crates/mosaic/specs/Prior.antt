@@ -19,14 +19,14 @@ unfoldable pub densityOf : Edition → Params → Density
 densityOf e p = record {
   a = p .alpha ⊖ nat 1;
   b = p .beta ⊖ nat 1;
-  alpha = e .lnGamma (p .alpha);
-  beta = e .lnGamma (p .beta);
-  sum = e .lnGamma (p .alpha ⊕ p .beta);
+  «gamma_alpha» = e .lnGamma (p .alpha);
+  «gamma_beta» = e .lnGamma (p .beta);
+  «gamma_sum» = e .lnGamma (p .alpha ⊕ p .beta);
 }
 
 -- (α − 1)·ln v + (β − 1)·ln(1 − v) − lnΓ(α) − lnΓ(β) + lnΓ(α + β)
 abbrev pub lnDensity : Density → Float → Float
-lnDensity d v = d .a ⊗ lnOf v ⊕ d .b ⊗ lnOf (nat 1 ⊖ v) ⊖ d .alpha ⊖ d .beta ⊕ d .sum
+lnDensity d v = d .a ⊗ lnOf v ⊕ d .b ⊗ lnOf (nat 1 ⊖ v) ⊖ d .«gamma_alpha» ⊖ d .«gamma_beta» ⊕ d .«gamma_sum»
 
 -- what a somatic VAF adds: its log density strictly between 0 and 1, minus infinity from 1 on, so that the whole is minus infinity
 unfoldable pub gainOf : Density → Float → Float

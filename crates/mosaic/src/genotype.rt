@@ -22,9 +22,9 @@ use probabilities::quality::quality;
 use refusals::Refusal;
 
 // The alleles that are seen, in rising order, zeros after them.
-pub struct Alleles {
-    pub count: usize,
-    pub alleles: [usize; 8],
+struct Alleles {
+    count: usize,
+    alleles: [usize; 8],
 }
 
 // The call, or a refusal with zeros. The germline alleles: `ploidy` of them, 1 or 2. A VAF and a flag for each somatic allele. The alleles that are

@@ -16,9 +16,9 @@ use stirlings::stirling::stirling;
 pub struct Density {
     pub a: f64,
     pub b: f64,
-    pub alpha: f64,
-    pub beta: f64,
-    pub sum: f64,
+    pub gamma_alpha: f64,
+    pub gamma_beta: f64,
+    pub gamma_sum: f64,
 }
 
 pub(crate) fn density_of(params: Params) -> Density
@@ -27,9 +27,9 @@ pub(crate) fn density_of(params: Params) -> Density
     Density {
         a: params.alpha - 1.0,
         b: params.beta - 1.0,
-        alpha: stirling(params.alpha),
-        beta: stirling(params.beta),
-        sum: stirling(params.alpha + params.beta),
+        gamma_alpha: stirling(params.alpha),
+        gamma_beta: stirling(params.beta),
+        gamma_sum: stirling(params.alpha + params.beta),
     }
 }
 
@@ -41,7 +41,7 @@ pub(crate) fn gain(d: Density, vaf: f64) -> f64
         return -1.0 / 0.0;
     }
     if vaf > 0.0 {
-        return d.a * ln(vaf) + d.b * ln(1.0 - vaf) - d.alpha - d.beta + d.sum;
+        return d.a * ln(vaf) + d.b * ln(1.0 - vaf) - d.gamma_alpha - d.gamma_beta + d.gamma_sum;
     }
     0.0
 }
@@ -57,10 +57,7 @@ pub(crate) fn for_two(n: u32) -> f64
     requires { ⌜ n ≤ 8 ⌝ }
     ensures { λ r. ⌜ r ≡ forTwo n ⌝ }
 {
-    if n == 0 {
-        return -ln(0.0);
-    }
-    -ln((n * (n - 1) / 2) as f64)
+    -ln(((n * n - n) / 2) as f64)
 }
 
 // The gains of the somatic alleles, and then what the germline alleles add.

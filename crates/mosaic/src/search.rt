@@ -51,9 +51,9 @@ fn of_germline(site: Site, g: Pair) -> f64
     ensures { λ r. ⌜ r ≡ ofGermline site g ⌝ }
 {
     if g.first == g.second {
-        return site.one;
+        return site.for_one;
     }
-    site.two
+    site.for_two
 }
 
 fn start(counts: &[u32], g: Pair, site: Site) -> Kept
@@ -86,7 +86,7 @@ fn attempt(counts: &[u32], g: Pair, site: Site, kept: Kept, i: usize, x: f64) ->
     terms[i] = counts[i] as f64 * ln(x);
     gains[i] = gain(density, x);
     let ln_share = ln(germline_share(g, mass(counts, g, vafs)));
-    let ll = likelihood(counts, g, site.whole, factorials, terms, ln_share);
+    let ll = likelihood(counts, g, site.of_total, factorials, terms, ln_share);
     let value = ll + log_prior(counts, g, gains, of_germline(site, g));
     if less(kept.value, value) {
         return Kept {
@@ -156,20 +156,20 @@ pub(crate) fn find(counts: &[u32], g: Pair, site: Site) -> Found
     requires { ⌜ length (now counts) ≤ 8 ⌝ }
     ensures { λ r. ⌜ r ≡ foundBy (now (counts .entry)) g site ⌝ }
 {
-    let first = start(counts, g, site);
+    let initial = start(counts, g, site);
     if any_somatic(counts, g) {
-        let best = search_vafs(counts, g, site, first);
+        let best = search_vafs(counts, g, site, initial);
         let vafs = best.vafs;
         let gains = best.gains;
         let posterior = best.value + log_prior(counts, g, gains, of_germline(site, g));
         return Found { vafs, posterior };
     }
-    let vafs = first.vafs;
-    let terms = first.terms;
-    let gains = first.gains;
+    let vafs = initial.vafs;
+    let terms = initial.terms;
+    let gains = initial.gains;
     let factorials = site.factorials;
     let ln_share = ln(germline_share(g, mass(counts, g, vafs)));
-    let ll = likelihood(counts, g, site.whole, factorials, terms, ln_share);
+    let ll = likelihood(counts, g, site.of_total, factorials, terms, ln_share);
     let posterior = ll + log_prior(counts, g, gains, of_germline(site, g));
     Found { vafs, posterior }
 }

@@ -16,13 +16,13 @@ use stirlings::stirling::ln_factorial;
 // and what two germline alleles add to the prior.
 pub struct Site {
     pub total: f64,
-    pub whole: f64,
+    pub of_total: f64,
     pub factorials: [f64; 8],
     pub starts: [f64; 8],
     pub density: Density,
     pub highest: f64,
-    pub one: f64,
-    pub two: f64,
+    pub for_one: f64,
+    pub for_two: f64,
 }
 
 fn all_factorials(counts: &[u32]) -> [f64; 8]
@@ -62,12 +62,12 @@ pub(crate) fn site_of(params: Params, counts: &[u32], total: u32) -> Site
     let density = density_of(params);
     Site {
         total: total as f64,
-        whole: ln_factorial(total),
+        of_total: ln_factorial(total),
         factorials,
         starts,
         density,
         highest: params.highest,
-        one: for_one(n),
-        two: for_two(n),
+        for_one: for_one(n),
+        for_two: for_two(n),
     }
 }

@@ -1,22 +1,18 @@
 -- How many hypotheses there are: as many as seen alleles, and as many as pairs of these. Assumes nothing.
 use mathlib.Core.Path.{_≡_, refl}
 use mathlib.Core.List.{List, [], _∷_, map}
-use Prim.Native.Nat.{ℕ, zero, suc, _+_, _-_, _*_, _/_}
+use Prim.Native.Nat.{ℕ, suc, _+_, _-_, _*_, _/_}
 use native.Mathlib.Nat.{suc-mul, mul-suc}
 use native.Mathlib.Omega.{arith}
 use lib.ListN.{length, length-append, length-map}
 use Rattle.mosaic.specs.Hypotheses.{seenAlleles, pair, singles, pairs, hypotheses}
+use Rattle.mosaic.proofs.CountLaws.{square}
 
 twice : (l : List ℕ) → 2 * length (pairs l) + length l ≡ length l * length l
 twice [] = refl
 twice (i ∷ l) =
     let n = length l in
     omega (arith, twice l, length-append (map (pair i) l) (pairs l), length-map l (pair i), suc-mul n (suc n), mul-suc n n)
-
--- s² = s·(s − 1) + s
-square : (s : ℕ) → s * s ≡ s * (s - 1) + s
-square zero = refl
-square (suc k) = let less : suc k - 1 ≡ k = omega arith in rw less (mul-suc (suc k) k)
 
 pub hypothesis-count : (counts : List ℕ) → let s = length (seenAlleles counts) in length (hypotheses counts) ≡ s + s * (s - 1) / 2
 unfolding hypotheses

@@ -124,9 +124,9 @@ module _ (p : Params) (allowed : paramsAllowed p ≡ true) where
 pub record Dense (d : Density) : Type 0 where
   pub a-within : Within 1001 (d .a)
   pub b-within : Within 1001 (d .b)
-  pub alpha-within : Within (2 ^ 38) (d .alpha)
-  pub beta-within : Within (2 ^ 38) (d .beta)
-  pub sum-within : Within (2 ^ 38) (d .sum)
+  pub alpha-within : Within (2 ^ 38) (d .«gamma_alpha»)
+  pub beta-within : Within (2 ^ 38) (d .«gamma_beta»)
+  pub sum-within : Within (2 ^ 38) (d .«gamma_sum»)
 
 pub dense : (p : Params) → paramsAllowed p ≡ true → T (fits binary64 (p .alpha)) → T (fits binary64 (p .beta)) → Dense (densityOf first p)
 unfolding densityOf
