@@ -1,9 +1,11 @@
 // The mosaic genotype for callers in other languages: numbers and a slice in, numbers and arrays out.
 ghost use mathlib.Core.Path.{_≡_};
+ghost use Rattle.refusals.specs.Refusals.{numberOf};
 ghost use Rattle.mosaic.specs.Genotype.{genotypeOf};
 ghost use Rattle.exports.specs.Mosaic.{paramsOf, IsAnswer};
 use models::params::Params;
 use mosaic::genotype;
+use mosaic::genotype::MosaicResult;
 
 fn params_of(alpha: f64, beta: f64, highest: f64, depth: u32) -> Params
     ensures { λ r. ⌜ r ≡ paramsOf alpha beta highest depth ⌝ }
@@ -14,6 +16,13 @@ fn params_of(alpha: f64, beta: f64, highest: f64, depth: u32) -> Params
         highest,
         depth,
     }
+}
+
+fn refusal_number(answer: MosaicResult) -> u32
+    ensures { λ r. ⌜ r ≡ numberOf (answer .refusal) ⌝ }
+{
+    let refusal = answer.refusal;
+    refusals::number(refusal)
 }
 
 // The refusal's number is returned; the rest is written through the references.
@@ -39,9 +48,7 @@ pub extern "C" fn admulfas_mosaic(
         (now (ploidy .exit)) (now (germline .exit)) (now (somatic .exit)) (now (vafs .exit)) (now (seen .exit)) (now (observed .exit))
         (now (posterior .exit)) (now (quality .exit)) (now (hypotheses .exit)) (now (probabilities .exit)) ⌝ }
 {
-    let params = params_of(alpha, beta, highest, depth);
-    let answer = genotype::genotype(params, counts);
-    let refusal = answer.refusal;
+    let answer = genotype::genotype(params_of(alpha, beta, highest, depth), counts);
     let alleles = answer.germline;
     let flags = answer.somatic;
     let shares = answer.vafs;
@@ -57,5 +64,5 @@ pub extern "C" fn admulfas_mosaic(
     *quality = answer.quality;
     *hypotheses = answer.hypotheses;
     *probabilities = chances;
-    refusals::number(refusal)
+    refusal_number(answer)
 }

@@ -14,15 +14,15 @@ genotype-requires c κs = search needs
 params-of-requires : tie.Need-params-of-requires
 params-of-requires c κs = search needs
 
-number-requires : tie.Need-number-requires
-number-requires c κs = search needs
+refusal-number-requires : tie.Need-refusal-number-requires
+refusal-number-requires c κs = search needs
 
 returns : tie.Need-returns
 returns c =
     let k = c .before .before .before .before .before .before in
     let h = k .genotype .ensures ∙ ap (λ (p : Params). genotypeOf p (k .before .before .before .args .counts .now)) (k .before .params-of .ensures) in
     record {
-      refusal-is = c .number .ensures ∙ ap (λ (r : MosaicResult). numberOf (r .refusal)) h;
+      refusal-is = c .refusal-number .ensures ∙ ap (λ (r : MosaicResult). numberOf (r .refusal)) h;
       ploidy-is = ap (λ (r : MosaicResult). r .ploidy) h;
       germline-is = ap (λ (r : MosaicResult). r .germline) h;
       somatic-is = ap (λ (r : MosaicResult). r .somatic) h;
@@ -36,4 +36,4 @@ returns c =
     }
 
 pub admulfas-mosaic-spec : {M : Type 1} → statement M
-admulfas-mosaic-spec = tie.close (tie.spec params-of-requires genotype-requires number-requires returns)
+admulfas-mosaic-spec = tie.close (tie.spec params-of-requires genotype-requires refusal-number-requires returns)
