@@ -2,10 +2,11 @@
 use crate::answers;
 use crate::sites;
 use crate::sites::End;
+use libc::STDOUT_FILENO;
 use reading::fields::field;
 use reading::fields::field_end;
+use writing::laying::first_bytes;
 use writing::laying::lay;
-use writing::output::write_out;
 
 // What is kept between two pieces: how many bytes of an unended line have come, past its buffer's end where it is too long; how many lines have
 // ended; where the answers that wait end; and whether every write so far went well, since after one that failed nothing more is written.
@@ -25,6 +26,11 @@ pub fn nothing_held() -> Held {
     }
 }
 
+// Whether all that waits was written. A text that did not fit its buffer never is.
+fn went_out(text: &[u8], count: usize) -> bool {
+    count <= text.len() && io::write_all(STDOUT_FILENO, first_bytes(text, count))
+}
+
 // Writes what waits.
 pub fn written(text: &[u8], held: Held) -> Held {
     if held.open {
@@ -32,7 +38,7 @@ pub fn written(text: &[u8], held: Held) -> Held {
             count: held.count,
             ended: held.ended,
             waiting: 0,
-            open: write_out(text, held.waiting),
+            open: went_out(text, held.waiting),
         };
     }
     Held {

@@ -77,6 +77,7 @@ use Rattle.reading.proofs.wholes.read_whole.Reads as read-whole
 use Rattle.reading.proofs.decimals.read_decimal.Reads as read-decimal
 use Rattle.writing.proofs.figures.hundredths.Reads as hundredths
 use Rattle.writing.proofs.figures.lay_figure.Reads as lay-figure
+use Rattle.writing.proofs.laying.first_bytes.Reads as first-bytes
 use Rattle.writing.proofs.laying.lay.Reads as lay
 use Rattle.writing.proofs.laying.lay_whole.Reads as lay-whole
 
@@ -359,6 +360,9 @@ field-end-once κ a v w e f = only
 -- the bytes of the field that it lends
 pub field-once : (κ : _) (a : _) (v w : _) (e f : _) → field.Post κ a v e → field.Post κ a w f → v .now ≡ w .now
 field-once κ a v w e f = only
+
+pub first-bytes-once : (κ : _) (a : _) (v w : _) (e f : _) → first-bytes.Post κ a v e → first-bytes.Post κ a w f → v .now ≡ w .now
+first-bytes-once κ a v w e f = only
 
 pub next-field-once : OneAnswer next-field.Post
 next-field-once κ a v w e f = only

@@ -1,9 +1,10 @@
 // Answers as text, into a lent buffer that is written out when it is half full, which is more than an answer takes.
 ghost use mathlib.Core.Path.{_≡_};
 ghost use lib.IntN.{natAbs};
+use libc::STDOUT_FILENO;
+use writing::laying::first_bytes;
 use writing::laying::lay;
 use writing::laying::lay_whole;
-use writing::output::write_out;
 
 pub type Text = [u8; 65536];
 
@@ -21,12 +22,17 @@ pub fn empty() -> Out {
     }
 }
 
+// Whether all that waits was written. A text that did not fit its buffer never is.
+fn written(text: &[u8], count: usize) -> bool {
+    count <= text.len() && io::write_all(STDOUT_FILENO, first_bytes(text, count))
+}
+
 // Writes what waits.
 pub fn flush(text: &[u8], out: Out) -> Out {
     if out.open {
         return Out {
             count: 0,
-            open: write_out(text, out.count),
+            open: written(text, out.count),
         };
     }
     Out {

@@ -1,7 +1,7 @@
 // Bytes laid into a lent buffer, one text behind the other (docs/RULES.md, A5).
 ghost use mathlib.Core.Path.{_≡_};
 ghost use Prim.Native.Nat.{_+_, _≤_};
-ghost use lib.ListN.{length};
+ghost use lib.ListN.{length, take};
 ghost use lib.Seq.{paste};
 ghost use Rattle.writing.specs.Laying.{laidEnd, laid, wholeText};
 
@@ -40,4 +40,14 @@ pub fn lay_whole(text: &mut [u8], at: usize, n: u64) -> usize
     let mut digits = [0u8; 20];
     let k = io::decimal(n, &mut digits);
     lay(text, at, &digits[..k])
+}
+
+// The first `count` bytes of a text, all of it where it has fewer.
+pub fn first_bytes(text: &[u8], count: usize) -> &[u8]
+    ensures { λ r. ⌜ now r ≡ take count (now (text .entry)) ⌝ }
+{
+    if text.len() < count {
+        return text;
+    }
+    &text[..count]
 }

@@ -1,4 +1,3 @@
 // Text out: bytes laid into a buffer, numbers in decimal, figures with two decimals.
 pub mod figures;
 pub mod laying;
-pub mod output;
