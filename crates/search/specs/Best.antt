@@ -14,6 +14,10 @@ module _ {A : Type 0} where
   In [] x = ⊥
   In (a ∷ l) x = (x ≡ a) ⊎ In l x
 
+  -- S, and whatever is in U
+  abbrev pub Or : (A → Type 0) → (A → Type 0) → A → Type 0
+  Or S U x = S x ⊎ U x
+
   -- S without p
   abbrev pub Rest : (A → Type 0) → A → A → Type 0
   Rest S p x = S x × (x ≢ p)
@@ -40,3 +44,9 @@ module _ {A : Type 0} (beats : A → A → Bool) where
   abbrev pub allOffered : ℕ → List A → List A → List A
   allOffered k h [] = h
   allOffered k h (a ∷ more) = allOffered k (offered k a h) more
+
+-- beats is a strict order, and of any two of the set that are not equal one beats the other
+pub record Ranks {A : Type 0} (Good : A → Type 0) (beats : A → A → Bool) : Type 0 where
+  pub irreflexive : (a : A) → T (beats a a) → ⊥
+  pub transitive : (a b c : A) → T (beats a b) → T (beats b c) → T (beats a c)
+  pub compared : (a b : A) → Good a → Good b → T (beats a b) ⊎ ((a ≡ b) ⊎ T (beats b a))

@@ -7,15 +7,14 @@ use native.Mathlib.Nat.{add-zero, sub-zero}
 use native.Mathlib.Omega.{arith}
 use lib.Ieee.{Float}
 use Rattle.search.specs.declared.held.Held.{Held}
-use Rattle.search.specs.Best.{In, offered, allOffered}
+use Rattle.search.specs.Best.{In, Or, offered, allOffered}
 use Rattle.search.specs.Held.{heldOf, heldList}
 use Rattle.search.specs.Rank.{beatsOf}
 use Rattle.search.specs.Work.{onePass, entryAt, IsEntry, entriesFrom}
 use Rattle.search.proofs.HeldLaws.{kept-whole}
-use Rattle.search_laws.specs.Ranks.{Or}
-use Rattle.search_laws.proofs.BestLaws.{best-ext, best-unique, all-offered-best}
-use Rattle.search_laws.proofs.PassLaws.{entries-lie, entries-fresh, entries-rise, one-pass-best}
-use Rattle.search_laws.proofs.RankLaws.{ranks}
+use Rattle.search.proofs.BestLaws.{best-ext, best-unique, all-offered-best}
+use Rattle.search.proofs.PassLaws.{entries-lie, entries-fresh, entries-rise, one-pass-best}
+use Rattle.search.proofs.RankLaws.{ranks}
 use Rattle.search_laws.proofs.ShapeLaws.{held-back}
 
 module _ (score : ℕ → Float) (from n : ℕ) where

@@ -8,10 +8,10 @@ use lib.Ieee.{Float}
 use Rattle.search.specs.declared.entry.Entry.{Entry}
 use Rattle.search.specs.Rank.{beatsOf}
 use Rattle.search.specs.Work.{IsEntry, Work, joined, Within}
+use Rattle.search.proofs.BestLaws.{best-ext, best-unique}
+use Rattle.search.proofs.RankLaws.{ranks}
 use Rattle.search_laws.specs.Sound.{Sound}
-use Rattle.search_laws.proofs.BestLaws.{best-ext, best-unique}
 use Rattle.search_laws.proofs.WordLaws.{marked-same}
-use Rattle.search_laws.proofs.RankLaws.{ranks}
 use Rattle.search_laws.proofs.WorkLaws.{joined-sound}
 
 module _ {rows width : ℕ} {score : ℕ → Float} where

@@ -8,14 +8,13 @@ use borrow.Author.Tests.{eqb-true, eq-eqb}
 use lib.Dec.{T, eqb}
 use lib.Ieee.{Float}
 use Rattle.search.specs.declared.entry.Entry.{Entry}
-use Rattle.search.specs.Best.{In, Rest, Best}
+use Rattle.search.specs.Best.{In, Or, Rest, Best, Ranks}
 use Rattle.search.specs.Held.{holdsAt, fresh, mergedHeld}
 use Rattle.search.specs.Rank.{beatsOf}
 use Rattle.search.specs.Work.{entryAt, IsEntry}
+use Rattle.search.proofs.BestLaws.{Fresh, best-ext, best-in, best-unique, all-offered-best, absorbed}
+use Rattle.search.proofs.RankLaws.{ranks, ranks-apart}
 use Rattle.search_laws.specs.Both.{Both, Ordered}
-use Rattle.search_laws.specs.Ranks.{Or, Ranks}
-use Rattle.search_laws.proofs.BestLaws.{Fresh, best-ext, best-in, best-unique, all-offered-best, absorbed}
-use Rattle.search_laws.proofs.RankLaws.{ranks, ranks-apart}
 
 -- ---- what is held, and what is fresh to it
 

@@ -1,4 +1,3 @@
--- What the laws of searching speak of: orders, the entries of two lists, and sound work.
-pub mod Ranks
+-- What the laws of searching speak of: the entries of two lists, and sound work.
 pub mod Both
 pub mod Sound

@@ -9,11 +9,11 @@ use lib.Dec.{T, ltb, ltb→lt, lt→ltb, nltb→le}
 use lib.Ieee.{Float}
 use lib.IntN.{ℤ, pos, negsuc}
 use lib.Signed.{ltZ, ltZ-yes, <ℤ-irrefl}
 use Rattle.search.specs.declared.entry.Entry.{Entry}
+use Rattle.search.specs.Best.{Ranks}
 use Rattle.floats.specs.Key.{keyOf}
 use Rattle.search.specs.Rank.{beatsOf}
 use Rattle.search.specs.Work.{entryAt, IsEntry}
-use Rattle.search_laws.specs.Ranks.{Ranks}
 
 -- one of two comparisons of two numbers holds, or they are equal
 compared-ℕ : (a b : ℕ) → T (ltb a b) ⊎ ((a ≡ b) ⊎ T (ltb b a))

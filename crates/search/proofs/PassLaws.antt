@@ -10,13 +10,13 @@ use borrow.Author.Tests.{eqb-true, eqb-false}
 use lib.Dec.{T, eqb}
 use lib.Ieee.{Float}
 use lib.Signed.{ltZ}
 use Rattle.search.specs.declared.entry.Entry.{Entry}
 use Rattle.search.specs.Best.{In, Rest, IsBest, Best}
 use Rattle.floats.specs.Key.{keyOf}
 use Rattle.search.specs.Rank.{beatsOf}
 use Rattle.search.specs.Work.{passed, without, onePass, entryAt, IsEntry, entriesFrom}
-use Rattle.search_laws.proofs.BestLaws.{Fresh, best-ext}
-use Rattle.search_laws.proofs.RankLaws.{beats-transitive, larger-beats, later-beats}
+use Rattle.search.proofs.BestLaws.{Fresh, best-ext}
+use Rattle.search.proofs.RankLaws.{beats-transitive, larger-beats, later-beats}
 
 -- ---- the entries at n positions from p on
 

@@ -6,8 +6,7 @@ use mathlib.Core.Logic.{_⊎_, inl, inr, ⊎-elim}
 use mathlib.Core.Path.{_≡_, refl, sym, subst, _∙_}
 use lib.Dec.{T}
 use lib.ListN.{take}
-use Rattle.search.specs.Best.{In, Rest, IsBest, Best, offered, allOffered}
-use Rattle.search_laws.specs.Ranks.{Or, Ranks}
+use Rattle.search.specs.Best.{In, Or, Rest, IsBest, Best, offered, allOffered, Ranks}
 
 -- ---- membership
 
