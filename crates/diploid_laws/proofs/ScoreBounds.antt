@@ -336,13 +336,7 @@ module _ (max : Pick) (is-max : IsMax max) (m : Model) (three : ThreeEach m) (al
   pub way-within : (ref this other total : ℕ) → ref + this < 2 ^ 22 → other ≤ total → total < 2 ^ 22 → Within (2 ^ 40) (oneWay m ref this other total)
   way-within ref this other total h k l = one-way-within m ref this other total (share-at 0 (lit< tt)) (share-at 1 (lit< tt)) h k l
 
--- ---- each score is an f64: it is a sum
+-- ---- a number that an f64 holds
 
 abbrev pub Fits : Float → Type 0
 Fits x = T (fits binary64 x)
-
-pub scores-fit : (max : Pick) (mode : Mode) (m : Model) (ref alt1 alt2 : ℕ) → EachScore Fits (scoresBy max mode m ref alt1 alt2)
-unfolding scoresBy betaScore binoScore phasedScores
-scores-fit max Beta m ref alt1 alt2 = record { for-homref = add-fits binary64 _ _; for-het = add-fits binary64 _ _; for-homalt = add-fits binary64 _ _ }
-scores-fit max Bino m ref alt1 alt2 = record { for-homref = add-fits binary64 _ _; for-het = add-fits binary64 _ _; for-homalt = add-fits binary64 _ _ }
-scores-fit max Phased m ref alt1 alt2 = record { for-homref = add-fits binary64 _ _; for-het = add-fits binary64 _ _; for-homalt = add-fits binary64 _ _ }
