@@ -3,9 +3,9 @@
 use Prim.Native.Nat.{ℕ, zero, suc, _-_, _*_, _/_, _≤_, _<_}
 use mathlib.Core.Bool.{Bool, true, false, not, cond, _&&_}
 use mathlib.Core.List.{List, [], _∷_}
-use mathlib.Core.Logic.{inl, _≢_}
+use mathlib.Core.Logic.{_≢_}
 use mathlib.Core.Path.{_≡_, refl, sym, ap, subst, _∙_}
-use native.Mathlib.Nat.{zero-add, mul-pos, div-lt-iff-lt-mul, not-suc-le-zero}
+use native.Mathlib.Nat.{zero-add, mul-pos, div-lt-iff-lt-mul}
 use native.Mathlib.Omega.{arith}
 use borrow.Author.Tests.{ltb-true, eqb-true, eq-eqb, lt-ltb}
 use lib.Bits.{bitOr}
@@ -18,7 +18,7 @@ use Rattle.refusals.specs.declared.Refusal.the-variants.{Done, Row, OtherTrio, 
 use Rattle.refusals.specs.Refusals.{numberOf}
 use Rattle.search.specs.declared.entry.Entry.{Entry}
 use Rattle.search.specs.Best.{In}
-use Rattle.search.specs.Held.{inUse, heldOf, heldList, fresh, mergedHeld}
+use Rattle.search.specs.Held.{heldOf, heldList, fresh, mergedHeld}
 use Rattle.search.specs.Marks.{isMarked, markCount, fullMarks}
 use Rattle.search.specs.Rank.{beatsOf}
 use Rattle.search.specs.Shape.{inMarked, workRight}
@@ -26,7 +26,7 @@ use Rattle.search.specs.Work.{Work, IsEntry, joined, rowWork, wholeWork, Within
 use Rattle.search.proofs.HeldLaws.{in-use-back, all-kept-whole}
 use Rattle.search.proofs.MarksLaws.{unmarked-above}
 use Rattle.search_laws.specs.Sound.{rowsFrom, workedAll}
-use Rattle.search_laws.proofs.KeepLaws.{joined-right}
+use Rattle.search_laws.proofs.KeepLaws.{first-held, joined-right}
 use Rattle.search_laws.proofs.ReworkLaws.{worked-last, reworked-rising}
 use Rattle.search_laws.proofs.ShapeLaws.{and-true, and-both, Shaped, right-shaped, full-holds, held-back, work-right}
 use Rattle.search_laws.proofs.WorkLaws.{row-sound}
@@ -52,12 +52,6 @@ right-parts p r = and-both (inputRight p) (workRight (rowCount p) (p .marks) (p 
 right-with : (p : Part) (v : Work) → inputRight p ≡ true → workRight (rowCount p) (v .marks) (heldOf (v .held)) ≡ true → rightPart (withWork p v) ≡ true
 unfolding rightPart inputRight
 right-with p v i w = and-true i w
-
--- the first place is in use where anything is held
-first-held : (n : ℕ) (f s : Entry) → 1 ≤ n → In (inUse n f s) f
-first-held zero f s h = absurd (not-suc-le-zero h)
-first-held (suc zero) f s h = inl refl
-first-held (suc (suc n)) f s h = inl refl
 
 -- ---- no merge and no row spoils it
 

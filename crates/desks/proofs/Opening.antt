@@ -1,12 +1,12 @@
 -- What an opening that is not refused tells, and that the part which it gives has the right shape.
-use Prim.Native.Nat.{ℕ, zero, suc, _*_, _≤_, suc-le-suc, zero-le}
+use Prim.Native.Nat.{ℕ, zero, suc, _*_, _≤_}
 use mathlib.Core.Bool.{Bool, true, false, not, cond, _&&_}
 use mathlib.Core.List.{List, [], _∷_}
 use mathlib.Core.Path.{_≡_, refl, sym, ap, _∙_}
 use native.Mathlib.Nat.{le-of-suc-le-suc, not-suc-le-zero}
 use native.Mathlib.Omega.{arith}
 use borrow.Author.Tests.{eqb-true, eqb-false, ltb-false, le-leb}
-use lib.Dec.{eqb, ltb, lit≤}
+use lib.Dec.{eqb, ltb}
 use lib.ListN.{length}
 use lib.Ieee.{Float, isNan, toBits, ofInt}
 use Rattle.floats.specs.F64.{nat}
@@ -17,6 +17,7 @@ use Rattle.search.specs.Shape.{workRight}
 use Rattle.search.specs.Work.{noWork}
 use Rattle.search_laws.proofs.ShapeLaws.{and-true, and-both, work-right}
 use Rattle.search_laws.proofs.WorkLaws.{none-sound}
+use Rattle.family.proofs.GenotypesLaws.{genotypes-some, genotypes-few}
 use Rattle.parts.specs.declared.part.Stepped.{Stepped}
 use Rattle.family.specs.Genotypes.{genotypeCount}
 use Rattle.limits.specs.Limits.{countAllowed}
@@ -104,24 +105,6 @@ no-weight : noWeight (nat 0) ≡ true
 unfolding toBits ofInt
 no-weight = refl
 
-pub rows-some : (n : ℕ) → 1 ≤ n → 1 ≤ genotypeCount n
-unfolding genotypeCount
-rows-some zero h = h
-rows-some (suc n) h = suc-le-suc zero-le
-
-pub rows-few : (n : ℕ) → n ≤ 8 → genotypeCount n ≤ 36
-unfolding genotypeCount
-rows-few zero h = lit≤ tt
-rows-few (suc zero) h = lit≤ tt
-rows-few (suc (suc zero)) h = lit≤ tt
-rows-few (suc (suc (suc zero))) h = lit≤ tt
-rows-few (suc (suc (suc (suc zero)))) h = lit≤ tt
-rows-few (suc (suc (suc (suc (suc zero))))) h = lit≤ tt
-rows-few (suc (suc (suc (suc (suc (suc zero)))))) h = lit≤ tt
-rows-few (suc (suc (suc (suc (suc (suc (suc zero))))))) h = lit≤ tt
-rows-few (suc (suc (suc (suc (suc (suc (suc (suc zero)))))))) h = lit≤ tt
-rows-few (suc (suc (suc (suc (suc (suc (suc (suc (suc n))))))))) h = absurd (omega arith)
-
 no-score : (p : ℕ) → isNan (nat 0) ≡ false
 unfolding isNan ofInt
 no-score p = refl
@@ -130,8 +113,8 @@ module _ (n : ℕ) (counts : List ℕ) (weights : List Float) (o : Opened n coun
   -- no row worked is sound work of any search
   fresh-work : workRight (genotypeCount n) (noWork .marks) (heldOf (noWork .held)) ≡ true
   fresh-work =
-      let s = rows-some n (o .some-clusters) in
-      let f = rows-few n (o .few-clusters) in
+      let s = genotypes-some n (o .some-clusters) in
+      let f = genotypes-few n (o .few-clusters) in
       work-right {score = λ (p : ℕ). nat 0} no-score s (omega arith) none-sound
 
   pub fresh-right : rightPart (freshPart n counts weights) ≡ true

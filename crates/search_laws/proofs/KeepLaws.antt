@@ -22,7 +22,8 @@ use Rattle.search_laws.proofs.ShapeLaws.{and-true, and-both, Shaped, ri
 
 -- ---- the entries in use
 
-first-held : (n : ℕ) (f s : Entry) → 1 ≤ n → In (inUse n f s) f
+-- the first place is in use where anything is held
+pub first-held : (n : ℕ) (f s : Entry) → 1 ≤ n → In (inUse n f s) f
 first-held zero f s h = absurd (not-suc-le-zero h)
 first-held (suc zero) f s h = inl refl
 first-held (suc (suc n)) f s h = inl refl

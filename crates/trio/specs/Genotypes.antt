@@ -23,6 +23,10 @@ tripleAt n p =
     let g = genotypeCount n in
     record { child = genotypeAt n (p % g); father = genotypeAt n (p / rowWidth n); mother = genotypeAt n (p / g % g) }
 
+-- the same for any n: zeros where it is none of 1 to 8
+unfoldable pub tripleOf : ℕ → ℕ → Triple
+tripleOf n p = let none = pair 0 0 in cond (leb 1 n && leb n 8) (tripleAt n p) (record { child = none; father = none; mother = none })
+
 -- ---- all triples, as kanpig's three loops list them: father, then mother, then child
 
 -- f of each element, one list after the other
@@ -33,7 +37,3 @@ each f (x ∷ l) = f x ++ each f l
 abbrev pub triples : ℕ → List Triple
 triples n =
     each (λ (f : Pair). each (λ (m : Pair). map (λ (c : Pair). record { child = c; father = f; mother = m }) (genotypes n)) (genotypes n)) (genotypes n)
-
--- the same for any n: zeros where it is none of 1 to 8
-unfoldable pub tripleOf : ℕ → ℕ → Triple
-tripleOf n p = let none = pair 0 0 in cond (leb 1 n && leb n 8) (tripleAt n p) (record { child = none; father = none; mother = none })
