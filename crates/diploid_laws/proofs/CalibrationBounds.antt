@@ -21,11 +21,11 @@ use Rattle.floats.proofs.Fractions.{above-by-test, below-through, difference-mo
 
 -- ---- what the tests of an allowed table give
 
-and-first : (a b : Bool) → (a && b) ≡ true → a ≡ true
+pub and-first : (a b : Bool) → (a && b) ≡ true → a ≡ true
 and-first true b h = refl
 and-first false b h = h
 
-and-second : (a b : Bool) → (a && b) ≡ true → b ≡ true
+pub and-second : (a b : Bool) → (a && b) ≡ true → b ≡ true
 and-second true b h = h
 and-second false b h = absurd (true≢false (sym h))
 

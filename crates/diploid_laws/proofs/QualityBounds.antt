@@ -33,7 +33,7 @@ use Rattle.diploid_laws.proofs.Largest.{either-of, larger-left, larger-
 
 -- ---- ten to the y, for a y of at most 0
 
-ten-above : Above 0 (lnOf (nat 10))
+pub ten-above : Above 0 (lnOf (nat 10))
 unfolding ofBits
 ten-above = subst (λ (v : Float). Above 0 v) (sym ln-ten) (record { is-positive = tt; large = lit≤ tt })
 
@@ -169,9 +169,9 @@ module _ (a b c : Float) (A : Term a) (B : Term b) (C : Term c) where
 
 -- ---- each less the whole, and at most 0
 
-smaller-zero : {n : ℕ} (x : Float) → Within n x → n ≤ 2 ^ 53 → Within n (smaller x (nat 0)) × NotAbove (smaller x (nat 0))
+pub smaller-zero : {n : ℕ} (x : Float) → Within n x → Within n (smaller x (nat 0)) × NotAbove (smaller x (nat 0))
 unfolding ofInt
-smaller-zero {n} x w l = go x w (lt nought x) refl
+smaller-zero {n} x w = go x w (lt nought x) refl
   where
     not-over : (s z : Bool) → (not s && not z) ≡ false → T (s || z)
     not-over true z h = tt
@@ -250,7 +250,7 @@ module _ (s : Scores) (given : EachScore (Within (2 ^ 45)) s) where
   normal = normalised larger smaller (inTens s)
 
   normal-each : (x : Float) → Within (2 ^ 45) x → Within (2 ^ 47) (smaller (x ⊖ wholeOf larger (inTens s)) (nat 0)) × NotAbove (smaller (x ⊖ wholeOf larger (inTens s)) (nat 0))
-  normal-each x w = smaller-zero (x ⊖ wholeOf larger (inTens s)) (less-whole x w) (lit≤ tt)
+  normal-each x w = smaller-zero (x ⊖ wholeOf larger (inTens s)) (less-whole x w)
 
   pub normalised-within : EachScore (Within (2 ^ 47)) normal
   unfolding normalised

@@ -1,6 +1,6 @@
 -- From finite log posteriors every step to the probabilities and to the quality is a finite number: `chances`, `quality-within`. Assumes nothing.
 use mathlib.Core.Path.{_≡_, refl, sym, ap, _∙_, subst}
-use mathlib.Core.Bool.{Bool, true, false, not, _&&_, _||_, cond, true≢false}
+use mathlib.Core.Bool.{Bool, true, false, not, cond}
 use mathlib.Core.List.{List}
 use Prim.Native.Nat.{ℕ, zero, suc, _+_, _*_, _^_, _≤_, _<_, zero-le}
 use native.Mathlib.Omega.{arith}
@@ -8,28 +8,23 @@ use borrow.Author.Tests.{eqb-true, eqb-false}
 use lib.IntN.{pos, negsuc}
 use lib.Dec.{T, eqb, lit≤, lit<}
 use lib.ListN.{getD}
-use lib.Ieee.{Float, nan, inf, fin, binary64, lt, ofInt, ofBits, fits}
+use lib.Ieee.{Float, nan, binary64, lt, ofInt, fits}
 use lib.Ieee.Fits.{ofInt-fits, add-fits, div-fits}
 use Rattle.floats.specs.F64.{_⊕_, _⊖_, _⊗_, nat, whole}
 use Rattle.floats.specs.Within.{Within, Above, NotBelow}
-use Rattle.floats.proofs.Floats.{zero-lt, positive-by-test}
+use Rattle.floats.proofs.Floats.{positive-by-test}
 use Rattle.floats.proofs.Bounds.{within-number, within-more, within-whole, within-add, within-sub, within-mul, within-div, above-whole, above-add}
-use Rattle.floats.proofs.Differences.{nought, less-itself, add-either}
+use Rattle.floats.proofs.Differences.{less-itself, add-either}
 use Rattle.kernels.specs.Ln.{lnOf}
 use Rattle.kernels.specs.Log10.{log10Of, pow10Of}
-use Rattle.kernels.proofs.Log10Laws.{ln-ten}
 use Rattle.bounds.proofs.Log10Bounds.{within-log10}
-use Rattle.diploid_laws.proofs.Signs.{NotAbove, lt-itself, lt-not-back, not-below-trans, difference-not-above, not-below-add}
-use Rattle.diploid_laws.proofs.QualityBounds.{one, pow10-within, pow10-zero}
+use Rattle.diploid_laws.proofs.Signs.{lt-itself, lt-not-back, not-below-trans, difference-not-above, not-below-add}
+use Rattle.diploid_laws.proofs.QualityBounds.{one, pow10-within, pow10-zero, ten-above, smaller-zero}
 use Rattle.qualities.specs.Order.{larger, smaller}
 use Rattle.probabilities.specs.Quality.{inTens, topOf, sumOf, wholeOf, probabilityOf, wrongOf, qualityBy}
 use Rattle.mosaic_laws.proofs.Terms.{either}
 use Rattle.mosaic_laws.proofs.Sums.{grows}
 use Rattle.mosaic_laws.proofs.Least.{under-finite}
-
-ten-above : Above 0 (lnOf (nat 10))
-unfolding ofBits
-ten-above = subst (λ (v : Float). Above 0 v) (sym ln-ten) (record { is-positive = tt; large = lit≤ tt })
 
 -- finite and not below zero
 pub record Chance (n : ℕ) (x : Float) : Type 0 where
@@ -47,24 +42,6 @@ pub chance-more : {a b : ℕ} {x : Float} → Chance a x → a ≤ b → Chance 
 chance-more h l = record { within = within-more (h .within) l; not-negative = h .not-negative }
 
 -- at most 0
-smaller-zero : {m : ℕ} (x : Float) → Within m x → Within m (smaller x (nat 0)) × NotAbove (smaller x (nat 0))
-unfolding ofInt
-smaller-zero {m} x w = go x w (lt nought x) refl
-  where
-    not-over : (s z : Bool) → (not s && not z) ≡ false → T (s || z)
-    not-over true z h = tt
-    not-over false true h = tt
-    not-over false false h = absurd (true≢false h)
-
-    kept : (x : Float) → Within m x → lt nought x ≡ false → NotAbove x
-    kept nan w h = absurd (w .is-finite)
-    kept (inf s) w h = absurd (w .is-finite)
-    kept (fin s k e) w h = record { not-above = not-over s (eqb k 0) (sym (zero-lt s k e) ∙ h) }
-
-    go : (x : Float) → Within m x → (t : Bool) → lt nought x ≡ t → Within m (cond t nought x) × NotAbove (cond t nought x)
-    go x w true h = (record { is-finite = tt; small = zero-le }, record { not-above = tt })
-    go x w false h = (w, kept x w h)
-
 module _ (l : List Float) (n : ℕ) (some : 0 < n) (few : n ≤ 36) (given : (i : ℕ) → i < n → Within (2 ^ 47) (getD l i nan)) where
   abbrev ten : ℕ → Float
   ten i = inTens (getD l i nan)

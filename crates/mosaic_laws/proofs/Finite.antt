@@ -34,6 +34,7 @@ use Rattle.models.specs.declared.params.Params.{Params}
 use Rattle.mosaic.specs.declared.hypotheses.Pair.{Pair}
 use Rattle.mosaic.proofs.CountLaws.{count-bound, total-bound}
 use Rattle.mosaic.proofs.OverLaws.{length-placed, at-set, placed-at}
+use Rattle.diploid_laws.proofs.CalibrationBounds.{and-first, and-second}
 use Rattle.mosaic_laws.specs.Accepted.{Accepted}
 use Rattle.mosaic_laws.proofs.Quotients.{observed-share}
 use Rattle.mosaic_laws.proofs.Terms.{either, within-factorial, highest-within, Dense, dense, Vaf, ln-within, one-at, gain-within, gain-least, above-finite, share-ln-within, one-within, two-within}
@@ -41,23 +42,15 @@ use Rattle.mosaic_laws.proofs.Sums.{over-keeps, grows}
 use Rattle.mosaic_laws.proofs.Least.{under-finite, least-stays}
 use Rattle.mosaic_laws.proofs.Seen.{seen-some, seen-in, counts-in}
 
-pub left-true : (a b : Bool) → (a && b) ≡ true → a ≡ true
-left-true true b h = refl
-left-true false b h = h
-
-right-true : (a b : Bool) → (a && b) ≡ true → b ≡ true
-right-true true b h = h
-right-true false b h = absurd (true≢false (sym h))
-
 module _ (p : Params) (counts : List ℕ) (ok : Accepted p counts) (g : Pair) (both : bothSeen counts g ≡ true) where
   abbrev n : ℕ
   n = length counts
 
   first-in : g .first < n
-  first-in = seen-in counts (g .first) (left-true (seenIn counts (g .first)) (seenIn counts (g .second)) both)
+  first-in = seen-in counts (g .first) (and-first (seenIn counts (g .first)) (seenIn counts (g .second)) both)
 
   second-in : g .second < n
-  second-in = seen-in counts (g .second) (right-true (seenIn counts (g .first)) (seenIn counts (g .second)) both)
+  second-in = seen-in counts (g .second) (and-second (seenIn counts (g .first)) (seenIn counts (g .second)) both)
 
   total-small : totalOf counts ≤ 8000000
   total-small = omega (arith, total-bound counts (ok .counts-are) n, ok .few)
@@ -308,7 +301,7 @@ module _ (p : Params) (counts : List ℕ) (ok : Accepted p counts) (g : Pair) (b
 
   other-seen : (i : ℕ) → i < n → somaticIn counts g i ≡ true → countAt counts i < totalOf counts
   other-seen i m s =
-      let one = seen-some counts (g .first) (left-true (seenIn counts (g .first)) (seenIn counts (g .second)) both) in
+      let one = seen-some counts (g .first) (and-first (seenIn counts (g .first)) (seenIn counts (g .second)) both) in
       let unlike : i ≡ g .first → ⊥ = (λ q. clash (seenIn counts i) (eqb i (g .first)) (eqb i (g .second)) (same i (g .first) q) s) in
       omega (arith, counts-in counts i (g .first) n m first-in unlike)
     where
@@ -321,7 +314,7 @@ module _ (p : Params) (counts : List ℕ) (ok : Accepted p counts) (g : Pair) (b
 
   observed : (i : ℕ) → i < n → somaticIn counts g i ≡ true → let x = observedShare (countAt counts i) (nat (totalOf counts)) in Vaf x × (lt x (nat 1) ≡ true)
   observed i m s =
-      let v = observed-share (countAt counts i) (totalOf counts) (seen-some counts i (left-true (seenIn counts i) (not (germlineIn g i)) s)) (other-seen i m s) (omega (arith, total-small)) in
+      let v = observed-share (countAt counts i) (totalOf counts) (seen-some counts i (and-first (seenIn counts i) (not (germlineIn g i)) s)) (other-seen i m s) (omega (arith, total-small)) in
       (record { above-zero = v .above-zero; is-f64 = v .is-f64; within = within-more (v .within) (lit≤ tt) }, v .below-one)
 
   step-vaf : (s : ℕ) → s ≤ 20 → lt (decimal 1 3) (stepOf (p .highest) s) ≡ true → Vaf (stepOf (p .highest) s)
