@@ -1,8 +1,5 @@
 // The cases of the kernels and of the score key.
 use crate::words;
-use crate::words::Cursor;
-use crate::words::Last;
-use crate::words::U32;
 use crate::write;
 use crate::write::Out;
 use crate::write::Text;
@@ -28,30 +25,30 @@ fn value(kernel: Kernel, x: f64) -> f64 {
     }
 }
 
-pub fn of_float(kernel: Kernel, line: &[u8], c: Cursor, text: &mut Text, out: Out) -> Out {
-    let Last::Is(x) = words::read_last_float(line, c) else {
+pub fn of_float(kernel: Kernel, line: &[u8], at: usize, text: &mut Text, out: Out) -> Out {
+    let word = words::read_float(line, at);
+    if !words::done(line, word.after) {
         return write::unread(text, out);
-    };
-    write::float(text, out, value(kernel, x))
+    }
+    write::float(text, out, value(kernel, word.is))
 }
 
-pub fn binomial(line: &[u8], c: Cursor, text: &mut Text, out: Out) -> Out {
-    let U32::Is(k, after_k) = words::read_u32(line, c) else {
+pub fn binomial(line: &[u8], at: usize, text: &mut Text, out: Out) -> Out {
+    let k = words::read_u32(line, at);
+    let n = words::read_u32(line, k.after);
+    let p = words::read_float(line, n.after);
+    if !words::done(line, p.after) {
         return write::unread(text, out);
-    };
-    let U32::Is(n, after_n) = words::read_u32(line, after_k) else {
-        return write::unread(text, out);
-    };
-    let Last::Is(p) = words::read_last_float(line, after_n) else {
-        return write::unread(text, out);
-    };
-    write::float(text, out, gammas::binomial::ln_pmf(k, n, p))
+    }
+    write::float(text, out, gammas::binomial::ln_pmf(k.is, n.is, p.is))
 }
 
-pub fn key(line: &[u8], c: Cursor, text: &mut Text, out: Out) -> Out {
-    let Last::Is(x) = words::read_last_float(line, c) else {
+pub fn key(line: &[u8], at: usize, text: &mut Text, out: Out) -> Out {
+    let word = words::read_float(line, at);
+    let x = word.is;
+    if !words::done(line, word.after) {
         return write::unread(text, out);
-    };
+    }
     if x != x {
         return write::float(text, out, x);
     }

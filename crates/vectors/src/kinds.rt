@@ -1,4 +1,4 @@
-// The kinds of cases: the first word of a line names its kind. A kind is a function of the line, the cursor behind the name, the text and
+// The kinds of cases: the first word of a line names its kind. A kind is a function of the line, the place behind its name, the text and
 // what waits there, and of the registers if it works with them, with a branch here.
 use crate::diploid_cases;
 use crate::kernel_cases;
@@ -8,7 +8,6 @@ use crate::registers::Answered;
 use crate::registers::Registers;
 use crate::step_cases;
 use crate::trio_cases;
-use crate::words::Cursor;
 use crate::words::SPACE;
 use crate::write;
 use crate::write::Out;
@@ -59,21 +58,21 @@ const CLOSE: u64 = 0x636c6f7365;
 const SHOW: u64 = 0x73686f77;
 
 // The answer to a kind that asks no register.
-fn plain(name: u64, line: &[u8], c: Cursor, text: &mut Text, out: Out) -> Out {
+fn plain(name: u64, line: &[u8], at: usize, text: &mut Text, out: Out) -> Out {
     match name {
-        LN => kernel_cases::of_float(Kernel::Ln, line, c, text, out),
-        EXP => kernel_cases::of_float(Kernel::Exp, line, c, text, out),
-        LOG10 => kernel_cases::of_float(Kernel::Log10, line, c, text, out),
-        POW10 => kernel_cases::of_float(Kernel::Pow10, line, c, text, out),
-        LGAMMA => kernel_cases::of_float(Kernel::Lgamma, line, c, text, out),
-        STIRLING => kernel_cases::of_float(Kernel::Stirling, line, c, text, out),
-        BINOMIAL => kernel_cases::binomial(line, c, text, out),
-        KEY => kernel_cases::key(line, c, text, out),
-        DIPLOID => diploid_cases::diploid(line, c, text, out),
-        MENDEL => trio_cases::mendel(line, c, text, out),
-        SAMPLE => trio_cases::sample(line, c, text, out),
-        CALL => trio_cases::call(line, c, text, out),
-        MOSAIC => mosaic_cases::mosaic(line, c, text, out),
+        LN => kernel_cases::of_float(Kernel::Ln, line, at, text, out),
+        EXP => kernel_cases::of_float(Kernel::Exp, line, at, text, out),
+        LOG10 => kernel_cases::of_float(Kernel::Log10, line, at, text, out),
+        POW10 => kernel_cases::of_float(Kernel::Pow10, line, at, text, out),
+        LGAMMA => kernel_cases::of_float(Kernel::Lgamma, line, at, text, out),
+        STIRLING => kernel_cases::of_float(Kernel::Stirling, line, at, text, out),
+        BINOMIAL => kernel_cases::binomial(line, at, text, out),
+        KEY => kernel_cases::key(line, at, text, out),
+        DIPLOID => diploid_cases::diploid(line, at, text, out),
+        MENDEL => trio_cases::mendel(line, at, text, out),
+        SAMPLE => trio_cases::sample(line, at, text, out),
+        CALL => trio_cases::call(line, at, text, out),
+        MOSAIC => mosaic_cases::mosaic(line, at, text, out),
         _ => write::unread(text, out),
     }
 }
@@ -81,19 +80,17 @@ fn plain(name: u64, line: &[u8], c: Cursor, text: &mut Text, out: Out) -> Out {
 // The answer to a line, without its newline, and the registers after it.
 pub fn answer(line: &[u8], text: &mut Text, out: Out, registers: Registers) -> Answered {
     let name = packed(field(line, 0, SPACE));
-    let c = Cursor {
-        at: next_field(line, 0, SPACE),
-    };
+    let at = next_field(line, 0, SPACE);
     match name {
-        OPEN => step_cases::open(line, c, text, out, registers),
-        PART => step_cases::part(line, c, text, out, registers),
-        COPY => step_cases::copy(line, c, text, out, registers),
-        ROW => step_cases::row(line, c, text, out, registers),
-        MERGE => step_cases::merge(line, c, text, out, registers),
-        CLOSE => step_cases::close(line, c, text, out, registers),
-        SHOW => step_cases::show(line, c, text, out, registers),
+        OPEN => step_cases::open(line, at, text, out, registers),
+        PART => step_cases::part(line, at, text, out, registers),
+        COPY => step_cases::copy(line, at, text, out, registers),
+        ROW => step_cases::row(line, at, text, out, registers),
+        MERGE => step_cases::merge(line, at, text, out, registers),
+        CLOSE => step_cases::close(line, at, text, out, registers),
+        SHOW => step_cases::show(line, at, text, out, registers),
         _ => Answered {
-            out: plain(name, line, c, text, out),
+            out: plain(name, line, at, text, out),
             registers,
         },
     }

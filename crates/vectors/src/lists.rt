@@ -2,9 +2,6 @@
 ghost use Prim.Native.Nat.{_≤_};
 ghost use lib.ListN.{length};
 use crate::words;
-use crate::words::Cursor;
-use crate::words::Float;
-use crate::words::U32;
 
 // As many counts as a line can hold, whose shortest is ` 0`.
 pub type Counts = [u32; 2048];
@@ -12,66 +9,77 @@ pub type Counts = [u32; 2048];
 // As many floats as a line can hold, whose shortest is ` nan`.
 pub type Floats = [f64; 1024];
 
-// So many members, with the cursor behind them.
-pub enum Listed {
-    Are(usize, Cursor),
-    Unread,
+// So many members, and where the next word starts.
+pub struct Listed {
+    pub count: usize,
+    pub after: usize,
 }
 
-// The first n words behind the cursor, into the first n places.
-pub fn read_floats(line: &[u8], c: Cursor, n: usize, floats: &mut [f64]) -> Listed
+// The first n words from a place on, into the first n places.
+pub fn read_floats(line: &[u8], at: usize, n: usize, floats: &mut [f64]) -> usize
     requires { ⌜ n ≤ length (now floats) ⌝ }
 {
-    let mut at = c;
+    let mut next = at;
     let mut i = 0;
     while i < n {
-        let Float::Is(x, after) = words::read_float(line, at) else {
-            return Listed::Unread;
-        };
-        floats[i] = x;
-        at = after;
+        let word = words::read_float(line, next);
+        floats[i] = word.is;
+        next = word.after;
         i += 1;
     }
-    Listed::Are(n, at)
+    next
 }
 
 // The same of counts.
-pub fn read_counts(line: &[u8], c: Cursor, n: usize, counts: &mut [u32]) -> Listed
+pub fn read_counts(line: &[u8], at: usize, n: usize, counts: &mut [u32]) -> usize
     requires { ⌜ n ≤ length (now counts) ⌝ }
 {
-    let mut at = c;
+    let mut next = at;
     let mut i = 0;
     while i < n {
-        let U32::Is(x, after) = words::read_u32(line, at) else {
-            return Listed::Unread;
-        };
-        counts[i] = x;
-        at = after;
+        let word = words::read_u32(line, next);
+        counts[i] = word.is;
+        next = word.after;
         i += 1;
     }
-    Listed::Are(n, at)
+    next
 }
 
-// A list of floats. No line has more members than there is room for.
-pub fn read_float_list(line: &[u8], c: Cursor, floats: &mut [f64]) -> Listed {
-    let U32::Is(n, after) = words::read_u32(line, c) else {
-        return Listed::Unread;
-    };
-    let count = n as usize;
-    if floats.len() < count {
-        return Listed::Unread;
+// How long a list is. No line has more members than there is room for.
+fn read_length(line: &[u8], at: usize, room: usize) -> Listed
+    ensures { λ r. ⌜ r .count ≤ room ⌝ }
+{
+    let word = words::read_u32(line, at);
+    if room < word.is as usize {
+        return Listed {
+            count: 0,
+            after: words::NOWHERE,
+        };
     }
-    read_floats(line, after, count, floats)
+    Listed {
+        count: word.is as usize,
+        after: word.after,
+    }
 }
 
-// A list of counts. No line has more members than there is room for.
-pub fn read_count_list(line: &[u8], c: Cursor, counts: &mut [u32]) -> Listed {
-    let U32::Is(n, after) = words::read_u32(line, c) else {
-        return Listed::Unread;
-    };
-    let count = n as usize;
-    if counts.len() < count {
-        return Listed::Unread;
+// A list of floats.
+pub fn read_float_list(line: &[u8], at: usize, floats: &mut [f64]) -> Listed
+    ensures { λ r. ⌜ r .count ≤ length (now (floats .entry)) ⌝ }
+{
+    let listed = read_length(line, at, floats.len());
+    Listed {
+        count: listed.count,
+        after: read_floats(line, listed.after, listed.count, floats),
     }
-    read_counts(line, after, count, counts)
+}
+
+// A list of counts.
+pub fn read_count_list(line: &[u8], at: usize, counts: &mut [u32]) -> Listed
+    ensures { λ r. ⌜ r .count ≤ length (now (counts .entry)) ⌝ }
+{
+    let listed = read_length(line, at, counts.len());
+    Listed {
+        count: listed.count,
+        after: read_counts(line, listed.after, listed.count, counts),
+    }
 }

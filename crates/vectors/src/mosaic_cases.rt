@@ -2,11 +2,7 @@
 ghost use Prim.Native.Nat.{_≤_};
 use crate::lists;
 use crate::lists::Counts;
-use crate::lists::Listed;
 use crate::words;
-use crate::words::Cursor;
-use crate::words::Float;
-use crate::words::U32;
 use crate::write;
 use crate::write::Out;
 use crate::write::Text;
@@ -14,32 +10,26 @@ use models::params::Params;
 use mosaic::genotype;
 use mosaic::genotype::MosaicResult;
 
-// The parameters, with the cursor behind them.
-enum ReadParams {
-    Are(Params, Cursor),
-    Unread,
+// The parameters, and where the next word starts.
+struct ReadParams {
+    params: Params,
+    after: usize,
 }
 
-fn read_params(line: &[u8], c: Cursor) -> ReadParams {
-    let Float::Is(alpha, after_alpha) = words::read_float(line, c) else {
-        return ReadParams::Unread;
-    };
-    let Float::Is(beta, after_beta) = words::read_float(line, after_alpha) else {
-        return ReadParams::Unread;
-    };
-    let Float::Is(highest, after_highest) = words::read_float(line, after_beta) else {
-        return ReadParams::Unread;
-    };
-    let U32::Is(depth, after_depth) = words::read_u32(line, after_highest) else {
-        return ReadParams::Unread;
-    };
-    let params = Params {
-        alpha,
-        beta,
-        highest,
-        depth,
-    };
-    ReadParams::Are(params, after_depth)
+fn read_params(line: &[u8], at: usize) -> ReadParams {
+    let alpha = words::read_float(line, at);
+    let beta = words::read_float(line, alpha.after);
+    let highest = words::read_float(line, beta.after);
+    let depth = words::read_u32(line, highest.after);
+    ReadParams {
+        params: Params {
+            alpha: alpha.is,
+            beta: beta.is,
+            highest: highest.is,
+            depth: depth.is,
+        },
+        after: depth.after,
+    }
 }
 
 // A member of a list, if it is one.
@@ -47,8 +37,7 @@ fn allele(text: &mut Text, out: Out, member: bool, x: usize) -> Out {
     if !member {
         return out;
     }
-    let to_x = write::space(text, out);
-    write::whole(text, to_x, x as u64)
+    write::then_whole(text, out, x as u64)
 }
 
 // The same of a float.
@@ -56,13 +45,12 @@ fn float(text: &mut Text, out: Out, member: bool, x: f64) -> Out {
     if !member {
         return out;
     }
-    let to_x = write::space(text, out);
-    write::float(text, to_x, x)
+    write::then_float(text, out, x)
 }
 
 // The first n of these, as a list.
 fn alleles(text: &mut Text, out: Out, n: usize, xs: [usize; 8]) -> Out {
-    let mut put = write::whole(text, out, n as u64);
+    let mut put = write::then_whole(text, out, n as u64);
     let mut i = 0;
     while i < 8 {
         put = allele(text, put, i < n, xs[i]);
@@ -73,7 +61,7 @@ fn alleles(text: &mut Text, out: Out, n: usize, xs: [usize; 8]) -> Out {
 
 // The same of probabilities.
 fn probabilities(text: &mut Text, out: Out, n: usize, xs: [f64; 36]) -> Out {
-    let mut put = write::whole(text, out, n as u64);
+    let mut put = write::then_whole(text, out, n as u64);
     let mut i = 0;
     while i < 36 {
         put = float(text, put, i < n, xs[i]);
@@ -111,41 +99,30 @@ fn called(text: &mut Text, out: Out, answer: MosaicResult) -> Out {
     let somatic = answer.somatic;
     let vafs = answer.vafs;
     let observed = answer.observed;
-    let one = alleles(text, out, answer.ploidy, germline);
-    let to_somatic = write::space(text, one);
-    let two = write::number(text, to_somatic, how_many(somatic));
-    let three = shares(text, two, somatic, vafs);
-    let to_observed = write::space(text, three);
+    let to_somatic = alleles(text, out, answer.ploidy, germline);
+    let to_shares = write::then_number(text, to_somatic, how_many(somatic));
+    let to_observed = shares(text, to_shares, somatic, vafs);
     alleles(text, to_observed, answer.seen, observed)
 }
 
 fn numbers(text: &mut Text, out: Out, answer: MosaicResult) -> Out {
     let refusal = answer.refusal;
     let chances = answer.probabilities;
-    let one = write::number(text, out, refusals::number(refusal));
-    let to_call = write::space(text, one);
-    let two = called(text, to_call, answer);
-    let to_posterior = write::space(text, two);
-    let three = write::float(text, to_posterior, answer.posterior);
-    let to_quality = write::space(text, three);
-    let four = write::float(text, to_quality, answer.quality);
-    let to_count = write::space(text, four);
-    probabilities(text, to_count, answer.hypotheses, chances)
+    let to_call = write::number(text, out, refusals::number(refusal));
+    let to_posterior = called(text, to_call, answer);
+    let to_quality = write::then_float(text, to_posterior, answer.posterior);
+    let to_chances = write::then_float(text, to_quality, answer.quality);
+    probabilities(text, to_chances, answer.hypotheses, chances)
 }
 
-pub fn mosaic(line: &[u8], c: Cursor, text: &mut Text, out: Out) -> Out {
-    let ReadParams::Are(params, after_params) = read_params(line, c) else {
-        return write::unread(text, out);
-    };
+pub fn mosaic(line: &[u8], at: usize, text: &mut Text, out: Out) -> Out {
     let mut counts: Counts = [0; 2048];
-    let Listed::Are(n, after) = lists::read_count_list(line, after_params, &mut counts) else {
-        return write::unread(text, out);
-    };
-    if counts.len() < n {
-        return write::unread(text, out);
-    }
-    if !words::done(line, after) {
+    let read = read_params(line, at);
+    let listed = lists::read_count_list(line, read.after, &mut counts);
+    if !words::done(line, listed.after) {
         return write::unread(text, out);
     }
-    numbers(text, out, genotype::genotype(params, &counts[..n]))
+    let params = read.params;
+    let answer = genotype::genotype(params, &counts[..listed.count]);
+    numbers(text, out, answer)
 }

@@ -1,11 +1,6 @@
 // Ten registers, each of which holds a part, and the words of a part.
 use crate::lists;
-use crate::lists::Listed;
 use crate::words;
-use crate::words::Cursor;
-use crate::words::Float;
-use crate::words::U32;
-use crate::words::U64;
 use crate::write;
 use crate::write::Out;
 use crate::write::Text;
@@ -21,22 +16,23 @@ pub struct Answered {
     pub registers: Registers,
 }
 
-// The number of a register, with the cursor behind it.
-pub enum Register {
-    Is(usize, Cursor),
-    Unread,
+// The number of a register, and where the next word starts.
+pub struct Register {
+    pub is: usize,
+    pub after: usize,
 }
 
-// The part of a line, if it could be read.
+// A part, and where the next word starts.
 pub struct ReadPart {
-    pub read: bool,
     pub part: Part,
+    pub after: usize,
 }
 
-// What a part has between its cluster number and its counts, with the cursor behind it.
-enum ReadWork {
-    Is(u64, Held, Cursor),
-    Unread,
+// What a part has between its cluster number and its counts, and where the next word starts.
+struct ReadWork {
+    marks: u64,
+    held: Held,
+    after: usize,
 }
 
 pub fn zeros() -> Registers {
@@ -51,14 +47,12 @@ pub fn unread(text: &mut Text, out: Out, registers: Registers) -> Answered {
     }
 }
 
-pub fn read_register(line: &[u8], c: Cursor) -> Register {
-    let U32::Is(r, after) = words::read_u32(line, c) else {
-        return Register::Unread;
-    };
-    if 9 < r {
-        return Register::Unread;
+pub fn read_register(line: &[u8], at: usize) -> Register {
+    let word = words::read_u32(line, at);
+    Register {
+        is: word.is as usize,
+        after: words::only_if(word.is <= 9, word.after),
     }
-    Register::Is(r as usize, after)
 }
 
 // The part in register r; there is none past the ninth.
@@ -78,72 +72,48 @@ pub fn put(registers: Registers, r: usize, part: Part) -> Registers {
     after
 }
 
-fn no_part() -> ReadPart {
-    ReadPart {
-        read: false,
-        part: Part::empty(),
+fn read_work(line: &[u8], at: usize) -> ReadWork {
+    let marks = words::read_u64(line, at);
+    let count = words::read_u32(line, marks.after);
+    let position0 = words::read_u32(line, count.after);
+    let position1 = words::read_u32(line, position0.after);
+    let score0 = words::read_float(line, position1.after);
+    let score1 = words::read_float(line, score0.after);
+    ReadWork {
+        marks: marks.is,
+        held: Held {
+            count: count.is as u64,
+            first: Entry {
+                position: position0.is as u64,
+                score: score0.is,
+            },
+            second: Entry {
+                position: position1.is as u64,
+                score: score1.is,
+            },
+        },
+        after: score1.after,
     }
 }
 
-fn read_work(line: &[u8], c: Cursor) -> ReadWork {
-    let U64::Is(marks, after_marks) = words::read_u64(line, c) else {
-        return ReadWork::Unread;
-    };
-    let U32::Is(count, after_count) = words::read_u32(line, after_marks) else {
-        return ReadWork::Unread;
-    };
-    let U32::Is(position0, after_0) = words::read_u32(line, after_count) else {
-        return ReadWork::Unread;
-    };
-    let U32::Is(position1, after_1) = words::read_u32(line, after_0) else {
-        return ReadWork::Unread;
-    };
-    let Float::Is(score0, after_score0) = words::read_float(line, after_1) else {
-        return ReadWork::Unread;
-    };
-    let Float::Is(score1, after_score1) = words::read_float(line, after_score0) else {
-        return ReadWork::Unread;
-    };
-    let held = Held {
-        count: count as u64,
-        first: Entry {
-            position: position0 as u64,
-            score: score0,
-        },
-        second: Entry {
-            position: position1 as u64,
-            score: score1,
-        },
-    };
-    ReadWork::Is(marks, held, after_score1)
-}
-
-// The words of a part, which end the line.
-pub fn read_part(line: &[u8], c: Cursor) -> ReadPart {
-    let U32::Is(n, after_n) = words::read_u32(line, c) else {
-        return no_part();
-    };
-    let ReadWork::Is(marks, held, after_work) = read_work(line, after_n) else {
-        return no_part();
-    };
+// The words of a part.
+pub fn read_part(line: &[u8], at: usize) -> ReadPart {
     let mut counts = [0u32; 24];
-    let Listed::Are(_, after_counts) = lists::read_counts(line, after_work, 24, &mut counts) else {
-        return no_part();
-    };
     let mut weights = [0.0f64; 8];
-    let Listed::Are(_, after) = lists::read_floats(line, after_counts, 8, &mut weights) else {
-        return no_part();
-    };
-    let part = Part {
-        clusters: n as u64,
-        counts,
-        weights,
-        marks,
-        held,
-    };
+    let n = words::read_u32(line, at);
+    let work = read_work(line, n.after);
+    let after_counts = lists::read_counts(line, work.after, 24, &mut counts);
+    let after = lists::read_floats(line, after_counts, 8, &mut weights);
+    let held = work.held;
     ReadPart {
-        read: words::done(line, after),
-        part,
+        part: Part {
+            clusters: n.is as u64,
+            counts,
+            weights,
+            marks: work.marks,
+            held,
+        },
+        after,
     }
 }
 
@@ -151,8 +121,7 @@ fn counts(text: &mut Text, out: Out, xs: [u32; 24]) -> Out {
     let mut put = out;
     let mut i = 0;
     while i < 24 {
-        put = write::space(text, put);
-        put = write::number(text, put, xs[i]);
+        put = write::then_number(text, put, xs[i]);
         i += 1;
     }
     put
@@ -162,8 +131,7 @@ fn weights(text: &mut Text, out: Out, xs: [f64; 8]) -> Out {
     let mut put = out;
     let mut i = 0;
     while i < 8 {
-        put = write::space(text, put);
-        put = write::float(text, put, xs[i]);
+        put = write::then_float(text, put, xs[i]);
         i += 1;
     }
     put
@@ -172,26 +140,20 @@ fn weights(text: &mut Text, out: Out, xs: [f64; 8]) -> Out {
 fn held(text: &mut Text, out: Out, h: Held) -> Out {
     let first = h.first;
     let second = h.second;
-    let count = write::whole(text, out, h.count);
-    let to_position0 = write::space(text, count);
-    let position0 = write::whole(text, to_position0, first.position);
-    let to_position1 = write::space(text, position0);
-    let position1 = write::whole(text, to_position1, second.position);
-    let to_score0 = write::space(text, position1);
-    let score0 = write::float(text, to_score0, first.score);
-    let to_score1 = write::space(text, score0);
-    write::float(text, to_score1, second.score)
+    let count = write::then_whole(text, out, h.count);
+    let position0 = write::then_whole(text, count, first.position);
+    let position1 = write::then_whole(text, position0, second.position);
+    let score0 = write::then_float(text, position1, first.score);
+    write::then_float(text, score0, second.score)
 }
 
-// The words of a part.
+// A part in words.
 pub fn part(text: &mut Text, out: Out, p: Part) -> Out {
     let work = p.held;
     let cs = p.counts;
     let ws = p.weights;
-    let clusters = write::whole(text, out, p.clusters);
-    let to_marks = write::space(text, clusters);
-    let marks = write::whole(text, to_marks, p.marks);
-    let to_held = write::space(text, marks);
+    let to_marks = write::whole(text, out, p.clusters);
+    let to_held = write::then_whole(text, to_marks, p.marks);
     let to_counts = held(text, to_held, work);
     let to_weights = counts(text, to_counts, cs);
     weights(text, to_weights, ws)

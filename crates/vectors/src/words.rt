@@ -11,64 +11,74 @@ pub const SPACE: u8 = b' ';
 // The word `nan`, packed.
 const NAN: u64 = 0x6e616e;
 
-// Where the next word starts; past the line's end behind the last one.
-pub struct Cursor {
-    pub at: usize,
+// The place of a reader that met a word it could not read. It lies behind every line, so all that is read from there is empty and cannot be read
+// either: a kind reads all its words and asks once.
+pub const NOWHERE: usize = usize::MAX;
+
+// What a word was read as, zero if it could not be, and where the next word starts; behind the last one that is past the line's end.
+pub struct U64 {
+    pub is: u64,
+    pub after: usize,
 }
 
-// What a field was read as, with the cursor behind it.
-pub enum U64 {
-    Is(u64, Cursor),
-    Unread,
+pub struct U32 {
+    pub is: u32,
+    pub after: usize,
 }
 
-pub enum U32 {
-    Is(u32, Cursor),
-    Unread,
+pub struct Float {
+    pub is: f64,
+    pub after: usize,
 }
 
-pub enum Float {
-    Is(f64, Cursor),
-    Unread,
+// Digits, if they are such.
+struct Digits {
+    are: u64,
+    read: bool,
 }
 
-// A float that ends its line.
-pub enum Last {
-    Is(f64),
-    Unread,
+// Whether every word could be read and nothing follows the last.
+pub fn done(line: &[u8], at: usize) -> bool {
+    line.len() < at && at != NOWHERE
 }
 
-enum Digits {
-    Are(u64),
-    Unread,
+// The place, or nowhere.
+pub fn only_if(holds: bool, at: usize) -> usize {
+    if holds { at } else { NOWHERE }
 }
 
-// Whether nothing follows the last word.
-pub fn done(line: &[u8], c: Cursor) -> bool {
-    line.len() < c.at
+fn decimal(word: &[u8]) -> Digits {
+    match read_whole(word) {
+        Whole::Is(n) => Digits { are: n, read: true },
+        _ => Digits {
+            are: 0,
+            read: false,
+        },
+    }
 }
 
 // A u64 in decimal.
-pub fn read_u64(line: &[u8], c: Cursor) -> U64 {
-    let at = c.at;
-    let Whole::Is(n) = read_whole(field(line, at, SPACE)) else {
-        return U64::Unread;
-    };
-    let after = Cursor {
-        at: next_field(line, at, SPACE),
-    };
-    U64::Is(n, after)
+pub fn read_u64(line: &[u8], at: usize) -> U64 {
+    let digits = decimal(field(line, at, SPACE));
+    U64 {
+        is: digits.are,
+        after: only_if(digits.read, next_field(line, at, SPACE)),
+    }
 }
 
 // A u32 in decimal.
-pub fn read_u32(line: &[u8], c: Cursor) -> U32 {
-    let U64::Is(n, after) = read_u64(line, c) else {
-        return U32::Unread;
-    };
-    if n > u32::MAX as u64 {
-        return U32::Unread;
+pub fn read_u32(line: &[u8], at: usize) -> U32 {
+    let word = read_u64(line, at);
+    if word.is > u32::MAX as u64 {
+        return U32 {
+            is: 0,
+            after: NOWHERE,
+        };
     }
-    U32::Is(n as u32, after)
+    U32 {
+        is: word.is as u32,
+        after: word.after,
+    }
 }
 
 // The value of a lowercase hexadecimal digit; 16 for any other byte.
@@ -82,21 +92,18 @@ fn hex_digit(b: u8) -> u64 {
     16
 }
 
+// Sixteen hexadecimal digits.
 fn hex(word: &[u8]) -> Digits {
-    if word.len() != 16 {
-        return Digits::Unread;
-    }
     let mut n: u64 = 0;
+    let mut read = word.len() == 16;
     let mut i = 0;
     while i < word.len() {
         let d = hex_digit(word[i]);
-        if d > 15 {
-            return Digits::Unread;
-        }
+        read = read && d < 16;
         n = (n << 4) | d;
         i += 1;
     }
-    Digits::Are(n)
+    Digits { are: n, read }
 }
 
 // The float of these bits; every NaN's bits give one NaN, and are never made a float.
@@ -108,28 +115,18 @@ fn of_bits(bits: u64) -> f64 {
 }
 
 // A float: 16 hexadecimal digits, or `nan`.
-pub fn read_float(line: &[u8], c: Cursor) -> Float {
-    let at = c.at;
+pub fn read_float(line: &[u8], at: usize) -> Float {
     let word = field(line, at, SPACE);
-    let after = Cursor {
-        at: next_field(line, at, SPACE),
-    };
+    let after = next_field(line, at, SPACE);
     if packed(word) == NAN {
-        return Float::Is(0.0 / 0.0, after);
+        return Float {
+            is: 0.0 / 0.0,
+            after,
+        };
     }
-    let Digits::Are(bits) = hex(word) else {
-        return Float::Unread;
-    };
-    Float::Is(of_bits(bits), after)
-}
-
-pub fn read_last_float(line: &[u8], c: Cursor) -> Last {
-    let Float::Is(x, after) = read_float(line, c) else {
-        return Last::Unread;
-    };
-    if done(line, after) {
-        Last::Is(x)
-    } else {
-        Last::Unread
+    let digits = hex(word);
+    Float {
+        is: of_bits(digits.are),
+        after: only_if(digits.read, after),
     }
 }

@@ -73,8 +73,24 @@ pub fn number(text: &mut Text, out: Out, n: u32) -> Out {
     whole(text, out, n as u64)
 }
 
-pub fn space(text: &mut Text, out: Out) -> Out {
+fn space(text: &mut Text, out: Out) -> Out {
     bytes(text, out, b" ")
+}
+
+// The same behind a space.
+pub fn then_whole(text: &mut Text, out: Out, n: u64) -> Out {
+    let spaced = space(text, out);
+    whole(text, spaced, n)
+}
+
+pub fn then_number(text: &mut Text, out: Out, n: u32) -> Out {
+    let spaced = space(text, out);
+    number(text, spaced, n)
+}
+
+pub fn then_float(text: &mut Text, out: Out, x: f64) -> Out {
+    let spaced = space(text, out);
+    float(text, spaced, x)
 }
 
 // The number without its sign.

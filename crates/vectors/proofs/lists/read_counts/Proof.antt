@@ -7,28 +7,16 @@ use Rattle.vectors.proofs.lists.read_counts.Statement.{statement}
 use Rattle.vectors.proofs.lists.read_counts.Tie as tie
 
 abbrev Inv-loop : tie.InvT-loop
-Inv-loop line n counts₀ at₀ i₀ counts at i = (i ≤ n) × (length counts ≡ length counts₀)
+Inv-loop line at n counts₀ next₀ i₀ counts next i = (i ≤ n) × (length counts ≡ length counts₀)
 
 abbrev μ-loop : tie.MeasureT-loop
-μ-loop line n counts₀ at₀ i₀ counts at i = n - i
+μ-loop line at n counts₀ next₀ i₀ counts next i = n - i
 
 loop-holds : tie.Need-loop-holds Inv-loop μ-loop
 loop-holds c = search needs
 
 read-u32-requires : tie.Need-read-u32-requires Inv-loop μ-loop
 read-u32-requires c κs = search needs
-
-enum-known-x : tie.Need-enum-known-x Inv-loop μ-loop
-enum-known-x c = search needs
-
-enum-told : tie.Need-enum-told Inv-loop μ-loop
-enum-told c = search needs
-
-same-length : tie.Need-same-length Inv-loop μ-loop
-same-length c = search needs
-
-returns : tie.Need-returns Inv-loop μ-loop
-returns c = search needs
 
 mul-counts : tie.Need-mul-counts Inv-loop μ-loop
 mul-counts c = search needs
@@ -45,11 +33,11 @@ loop-less c = search needs
 loop-again : tie.Need-loop-again Inv-loop μ-loop
 loop-again c = search needs
 
-same-length-2 : tie.Need-same-length-2 Inv-loop μ-loop
-same-length-2 c = search needs
+same-length : tie.Need-same-length Inv-loop μ-loop
+same-length c = search needs
 
-returns-2 : tie.Need-returns-2 Inv-loop μ-loop
-returns-2 c = search needs
+returns : tie.Need-returns Inv-loop μ-loop
+returns c = search needs
 
 pub read-counts-spec : {M : Type 1} → statement M
 read-counts-spec =
@@ -59,14 +47,10 @@ read-counts-spec =
     μ-loop
     loop-holds
     read-u32-requires
-    enum-known-x
-    enum-told
-    same-length
-    returns
     mul-counts
     slice-write-counts
     add-i
     loop-less
     loop-again
-    same-length-2
-    returns-2)
+    same-length
+    returns)

@@ -7,28 +7,16 @@ use Rattle.vectors.proofs.lists.read_floats.Statement.{statement}
 use Rattle.vectors.proofs.lists.read_floats.Tie as tie
 
 abbrev Inv-loop : tie.InvT-loop
-Inv-loop line n floats₀ at₀ i₀ floats at i = (i ≤ n) × (length floats ≡ length floats₀)
+Inv-loop line at n floats₀ next₀ i₀ floats next i = (i ≤ n) × (length floats ≡ length floats₀)
 
 abbrev μ-loop : tie.MeasureT-loop
-μ-loop line n floats₀ at₀ i₀ floats at i = n - i
+μ-loop line at n floats₀ next₀ i₀ floats next i = n - i
 
 loop-holds : tie.Need-loop-holds Inv-loop μ-loop
 loop-holds c = search needs
 
 read-float-requires : tie.Need-read-float-requires Inv-loop μ-loop
 read-float-requires c κs = search needs
-
-enum-known-x : tie.Need-enum-known-x Inv-loop μ-loop
-enum-known-x c = search needs
-
-enum-told : tie.Need-enum-told Inv-loop μ-loop
-enum-told c = search needs
-
-same-length : tie.Need-same-length Inv-loop μ-loop
-same-length c = search needs
-
-returns : tie.Need-returns Inv-loop μ-loop
-returns c = search needs
 
 mul-floats : tie.Need-mul-floats Inv-loop μ-loop
 mul-floats c = search needs
@@ -45,11 +33,11 @@ loop-less c = search needs
 loop-again : tie.Need-loop-again Inv-loop μ-loop
 loop-again c = search needs
 
-same-length-2 : tie.Need-same-length-2 Inv-loop μ-loop
-same-length-2 c = search needs
+same-length : tie.Need-same-length Inv-loop μ-loop
+same-length c = search needs
 
-returns-2 : tie.Need-returns-2 Inv-loop μ-loop
-returns-2 c = search needs
+returns : tie.Need-returns Inv-loop μ-loop
+returns c = search needs
 
 pub read-floats-spec : {M : Type 1} → statement M
 read-floats-spec =
@@ -59,14 +47,10 @@ read-floats-spec =
     μ-loop
     loop-holds
     read-float-requires
-    enum-known-x
-    enum-told
-    same-length
-    returns
     mul-floats
     slice-write-floats
     add-i
     loop-less
     loop-again
-    same-length-2
-    returns-2)
+    same-length
+    returns)

@@ -10,8 +10,8 @@ Inv-loop text₀ n xs put₀ i₀ text put i = i ≤ 8
 abbrev μ-loop : tie.MeasureT-loop
 μ-loop text₀ n xs put₀ i₀ text put i = 8 - i
 
-whole-requires : tie.Need-whole-requires Inv-loop μ-loop
-whole-requires c κs = search needs
+then-whole-requires : tie.Need-then-whole-requires Inv-loop μ-loop
+then-whole-requires c κs = search needs
 
 loop-holds : tie.Need-loop-holds Inv-loop μ-loop
 loop-holds c = search needs
@@ -43,7 +43,7 @@ alleles-spec =
     (tie.spec
     Inv-loop
     μ-loop
-    whole-requires
+    then-whole-requires
     loop-holds
     mul-allele
     array-read-allele

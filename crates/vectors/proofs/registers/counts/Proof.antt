@@ -13,17 +13,14 @@ abbrev μ-loop : tie.MeasureT-loop
 loop-holds : tie.Need-loop-holds Inv-loop μ-loop
 loop-holds c = search needs
 
-space-requires : tie.Need-space-requires Inv-loop μ-loop
-space-requires c κs = search needs
+mul-then-number : tie.Need-mul-then-number Inv-loop μ-loop
+mul-then-number c = search needs
 
-mul-number : tie.Need-mul-number Inv-loop μ-loop
-mul-number c = search needs
+array-read-then-number : tie.Need-array-read-then-number Inv-loop μ-loop
+array-read-then-number c = search needs
 
-array-read-number : tie.Need-array-read-number Inv-loop μ-loop
-array-read-number c = search needs
-
-number-requires : tie.Need-number-requires Inv-loop μ-loop
-number-requires c κs = search needs
+then-number-requires : tie.Need-then-number-requires Inv-loop μ-loop
+then-number-requires c κs = search needs
 
 add-i : tie.Need-add-i Inv-loop μ-loop
 add-i c = search needs
@@ -44,10 +41,9 @@ counts-spec =
     Inv-loop
     μ-loop
     loop-holds
-    space-requires
-    mul-number
-    array-read-number
-    number-requires
+    mul-then-number
+    array-read-then-number
+    then-number-requires
     add-i
     loop-less
     loop-again

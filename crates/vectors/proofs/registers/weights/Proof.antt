@@ -13,17 +13,14 @@ abbrev μ-loop : tie.MeasureT-loop
 loop-holds : tie.Need-loop-holds Inv-loop μ-loop
 loop-holds c = search needs
 
-space-requires : tie.Need-space-requires Inv-loop μ-loop
-space-requires c κs = search needs
+mul-then-float : tie.Need-mul-then-float Inv-loop μ-loop
+mul-then-float c = search needs
 
-mul-float : tie.Need-mul-float Inv-loop μ-loop
-mul-float c = search needs
+array-read-then-float : tie.Need-array-read-then-float Inv-loop μ-loop
+array-read-then-float c = search needs
 
-array-read-float : tie.Need-array-read-float Inv-loop μ-loop
-array-read-float c = search needs
-
-float-requires : tie.Need-float-requires Inv-loop μ-loop
-float-requires c κs = search needs
+then-float-requires : tie.Need-then-float-requires Inv-loop μ-loop
+then-float-requires c κs = search needs
 
 add-i : tie.Need-add-i Inv-loop μ-loop
 add-i c = search needs
@@ -44,10 +41,9 @@ weights-spec =
     Inv-loop
     μ-loop
     loop-holds
-    space-requires
-    mul-float
-    array-read-float
-    float-requires
+    mul-then-float
+    array-read-then-float
+    then-float-requires
     add-i
     loop-less
     loop-again

@@ -2,23 +2,29 @@
 use mathlib.Core.Path.{sym}
 use lib.Seq.{length-take-le}
 use borrow.Author.Needs.{needs}
+use mathlib.Core.Path.{sym}
+use lib.Seq.{length-take-le}
+use borrow.Author.Needs.{needs}
 use Rattle.vectors.proofs.trio_cases.call.Statement.{statement}
 use Rattle.vectors.proofs.trio_cases.call.Tie as tie
 
-slice-aggregate-read-input : tie.Need-slice-aggregate-read-input
-slice-aggregate-read-input c = search needs
+read-u32-requires : tie.Need-read-u32-requires
+read-u32-requires c κs = search needs
 
-slice-aggregate-read-input-2 : tie.Need-slice-aggregate-read-input-2
-slice-aggregate-read-input-2 c = search needs
+slice-aggregate-read-count-list : tie.Need-slice-aggregate-read-count-list
+slice-aggregate-read-count-list c = search needs
 
-read-input-requires : tie.Need-read-input-requires
-read-input-requires c κs = search needs
+read-count-list-requires : tie.Need-read-count-list-requires
+read-count-list-requires c κs = search needs
 
-enum-known-n : tie.Need-enum-known-n
-enum-known-n c = search needs
+slice-aggregate-read-float-list : tie.Need-slice-aggregate-read-float-list
+slice-aggregate-read-float-list c = search needs
 
-enum-told : tie.Need-enum-told
-enum-told c = search needs
+read-float-list-requires : tie.Need-read-float-list-requires
+read-float-list-requires c κs = search needs
+
+done-requires : tie.Need-done-requires
+done-requires c κs = search needs
 
 unread-requires : tie.Need-unread-requires
 unread-requires c κs = search needs
@@ -26,26 +32,8 @@ unread-requires c κs = search needs
 returns : tie.Need-returns
 returns c = search needs
 
-unread-requires-2 : tie.Need-unread-requires-2
-unread-requires-2 c κs = search needs
-
-returns-2 : tie.Need-returns-2
-returns-2 c = search needs
-
-unread-requires-3 : tie.Need-unread-requires-3
-unread-requires-3 c κs = search needs
-
-returns-3 : tie.Need-returns-3
-returns-3 c = search needs
-
-done-requires : tie.Need-done-requires
-done-requires c κs = search needs
-
-unread-requires-4 : tie.Need-unread-requires-4
-unread-requires-4 c κs = search needs
-
-returns-4 : tie.Need-returns-4
-returns-4 c = search needs
+cast-call : tie.Need-cast-call
+cast-call c = search needs
 
 array-share-prefix-counts : tie.Need-array-share-prefix-counts
 array-share-prefix-counts c = search needs
@@ -65,31 +53,26 @@ call-requires c κs = search needs
 closed-requires : tie.Need-closed-requires
 closed-requires c κs = search needs
 
-returns-5 : tie.Need-returns-5
-returns-5 c = search needs
+returns-2 : tie.Need-returns-2
+returns-2 c = search needs
 
 pub call-spec : {M : Type 1} → statement M
 call-spec =
     tie.close
     (tie.spec
-    slice-aggregate-read-input
-    slice-aggregate-read-input-2
-    read-input-requires
-    enum-known-n
-    enum-told
+    read-u32-requires
+    slice-aggregate-read-count-list
+    read-count-list-requires
+    slice-aggregate-read-float-list
+    read-float-list-requires
+    done-requires
     unread-requires
     returns
-    unread-requires-2
-    returns-2
-    unread-requires-3
-    returns-3
-    done-requires
-    unread-requires-4
-    returns-4
+    cast-call
     array-share-prefix-counts
     slice-aggregate-call
     array-share-prefix-weights
     slice-aggregate-call-2
     call-requires
     closed-requires
-    returns-5)
+    returns-2)

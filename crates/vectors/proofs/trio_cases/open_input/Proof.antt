@@ -2,41 +2,29 @@
 use mathlib.Core.Path.{sym}
 use lib.Seq.{length-take-le}
 use borrow.Author.Needs.{needs}
+use mathlib.Core.Path.{sym}
+use lib.Seq.{length-take-le}
+use borrow.Author.Needs.{needs}
 use Rattle.vectors.proofs.trio_cases.open_input.Statement.{statement}
 use Rattle.vectors.proofs.trio_cases.open_input.Tie as tie
 
-slice-aggregate-read-input : tie.Need-slice-aggregate-read-input
-slice-aggregate-read-input c = search needs
+read-u32-requires : tie.Need-read-u32-requires
+read-u32-requires c κs = search needs
 
-slice-aggregate-read-input-2 : tie.Need-slice-aggregate-read-input-2
-slice-aggregate-read-input-2 c = search needs
+slice-aggregate-read-count-list : tie.Need-slice-aggregate-read-count-list
+slice-aggregate-read-count-list c = search needs
 
-read-input-requires : tie.Need-read-input-requires
-read-input-requires c κs = search needs
+read-count-list-requires : tie.Need-read-count-list-requires
+read-count-list-requires c κs = search needs
 
-enum-known-n : tie.Need-enum-known-n
-enum-known-n c = search needs
+slice-aggregate-read-float-list : tie.Need-slice-aggregate-read-float-list
+slice-aggregate-read-float-list c = search needs
 
-enum-told : tie.Need-enum-told
-enum-told c = search needs
+read-float-list-requires : tie.Need-read-float-list-requires
+read-float-list-requires c κs = search needs
 
-unopened-requires : tie.Need-unopened-requires
-unopened-requires c κs = search needs
-
-returns : tie.Need-returns
-returns c = search needs
-
-unopened-requires-2 : tie.Need-unopened-requires-2
-unopened-requires-2 c κs = search needs
-
-returns-2 : tie.Need-returns-2
-returns-2 c = search needs
-
-unopened-requires-3 : tie.Need-unopened-requires-3
-unopened-requires-3 c κs = search needs
-
-returns-3 : tie.Need-returns-3
-returns-3 c = search needs
+cast-open-part : tie.Need-cast-open-part
+cast-open-part c = search needs
 
 array-share-prefix-counts : tie.Need-array-share-prefix-counts
 array-share-prefix-counts c = search needs
@@ -53,27 +41,22 @@ slice-aggregate-open-part-2 c = sym (length-take-le _ _ (search needs))
 open-part-requires : tie.Need-open-part-requires
 open-part-requires c κs = search needs
 
-returns-4 : tie.Need-returns-4
-returns-4 c = search needs
+returns : tie.Need-returns
+returns c = search needs
 
 pub open-input-spec : {M : Type 1} → statement M
 open-input-spec =
     tie.close
     (tie.spec
-    slice-aggregate-read-input
-    slice-aggregate-read-input-2
-    read-input-requires
-    enum-known-n
-    enum-told
-    unopened-requires
-    returns
-    unopened-requires-2
-    returns-2
-    unopened-requires-3
-    returns-3
+    read-u32-requires
+    slice-aggregate-read-count-list
+    read-count-list-requires
+    slice-aggregate-read-float-list
+    read-float-list-requires
+    cast-open-part
     array-share-prefix-counts
     slice-aggregate-open-part
     array-share-prefix-weights
     slice-aggregate-open-part-2
     open-part-requires
-    returns-4)
+    returns)

@@ -6,13 +6,10 @@ use Rattle.vectors.proofs.words.hex.Statement.{statement}
 use Rattle.vectors.proofs.words.hex.Tie as tie
 
 abbrev Inv-loop : tie.InvT-loop
-Inv-loop word n₀ i₀ n i = i ≤ length word
+Inv-loop word n₀ read₀ i₀ n read i = i ≤ length word
 
 abbrev μ-loop : tie.MeasureT-loop
-μ-loop word n₀ i₀ n i = length word - i
-
-returns : tie.Need-returns Inv-loop μ-loop
-returns c = search needs
+μ-loop word n₀ read₀ i₀ n read i = length word - i
 
 loop-holds : tie.Need-loop-holds Inv-loop μ-loop
 loop-holds c = search needs
@@ -23,9 +20,6 @@ shared-slice-read-hex-digit c = search needs
 hex-digit-requires : tie.Need-hex-digit-requires Inv-loop μ-loop
 hex-digit-requires c κs = search needs
 
-returns-2 : tie.Need-returns-2 Inv-loop μ-loop
-returns-2 c = search needs
-
 add-i : tie.Need-add-i Inv-loop μ-loop
 add-i c = search needs
 
@@ -35,8 +29,8 @@ loop-less c = search needs
 loop-again : tie.Need-loop-again Inv-loop μ-loop
 loop-again c = search needs
 
-returns-3 : tie.Need-returns-3 Inv-loop μ-loop
-returns-3 c = search needs
+returns : tie.Need-returns Inv-loop μ-loop
+returns c = search needs
 
 pub hex-spec : {M : Type 1} → statement M
 hex-spec =
@@ -44,12 +38,10 @@ hex-spec =
     (tie.spec
     Inv-loop
     μ-loop
-    returns
     loop-holds
     shared-slice-read-hex-digit
     hex-digit-requires
-    returns-2
     add-i
     loop-less
     loop-again
-    returns-3)
+    returns)
