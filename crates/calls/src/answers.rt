@@ -13,14 +13,19 @@ pub fn unreadable(text: &mut [u8], at: usize, number: u64) -> usize {
     lay(text, said, b" cannot be read")
 }
 
-// How every answer to a line that can be read starts: the site, and the number and name of its refusal.
+// The number and the name of a refusal.
+fn refused(text: &mut [u8], at: usize, refusal: Refusal) -> usize {
+    let name = refusals::name(refusal);
+    let numbered = lay_whole(text, at, refusals::number(refusal) as u64);
+    let to_name = lay(text, numbered, b"\t");
+    lay(text, to_name, field(&name, 0, 0))
+}
+
+// How every answer to a line that can be read starts: the site, and its refusal.
 pub fn head(line: &[u8], site: usize, text: &mut [u8], at: usize, refusal: Refusal) -> usize {
     let named = lay(text, at, field(line, site, TAB));
     let to_number = lay(text, named, b"\t");
-    let numbered = lay_whole(text, to_number, refusals::number(refusal) as u64);
-    let to_name = lay(text, numbered, b"\t");
-    let name = refusals::name(refusal);
-    lay(text, to_name, field(&name, 0, 0))
+    refused(text, to_number, refusal)
 }
 
 // Two alleles, behind a tab.

@@ -14,12 +14,13 @@ use reading::fields::next_field;
 use writing::figures::lay_figure;
 use writing::laying::lay;
 
-fn state(text: &mut [u8], at: usize, s: State) -> usize {
+// The name of a state between tabs.
+fn state(s: State) -> [u8; 5] {
     match s {
-        State::Ref => lay(text, at, b"\tRef\t"),
-        State::Het => lay(text, at, b"\tHet\t"),
-        State::Hom => lay(text, at, b"\tHom\t"),
-        State::Non => lay(text, at, b"\tNon\t"),
+        State::Ref => *b"\tRef\t",
+        State::Het => *b"\tHet\t",
+        State::Hom => *b"\tHom\t",
+        State::Non => *b"\tNon\t",
     }
 }
 
@@ -30,7 +31,8 @@ fn called(line: &[u8], site: usize, text: &mut [u8], at: usize, r: GenotypeResul
         return to_state;
     }
     let s = r.state;
-    let to_gq = state(text, to_state, s);
+    let word = state(s);
+    let to_gq = lay(text, to_state, &word);
     let to_tab = lay_figure(text, to_gq, r.gq);
     let to_sq = lay(text, to_tab, b"\t");
     lay_figure(text, to_sq, r.sq)

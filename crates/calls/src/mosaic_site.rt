@@ -92,13 +92,13 @@ pub fn mosaic(line: &[u8], site: usize, text: &mut [u8], at: usize) -> End {
     let Many::Are(many) = how_many(line, start) else {
         return End::Unread;
     };
+    if many > 2048 {
+        return End::Unread;
+    }
     let mut counts = [0u32; 2048];
     let Read::To(_) = read_counts(line, start, many, &mut counts) else {
         return End::Unread;
     };
-    if counts.len() < many {
-        return End::Unread;
-    }
     let r = genotype(Params::default(), &counts[..many]);
     End::At(called(line, site, text, at, r))
 }

@@ -1,4 +1,6 @@
 // The numbers of a line.
+ghost use Prim.Native.Nat.{_≤_};
+ghost use lib.ListN.{length};
 use crate::sites::TAB;
 use reading::decimals::Decimal;
 use reading::decimals::read_decimal;
@@ -58,10 +60,9 @@ pub fn how_many(line: &[u8], start: usize) -> Many {
 }
 
 // Reads n counts, from the field that starts at a place of the line, into the first n places.
-pub fn read_counts(line: &[u8], start: usize, n: usize, counts: &mut [u32]) -> Read {
-    if counts.len() < n {
-        return Read::Unread;
-    }
+pub fn read_counts(line: &[u8], start: usize, n: usize, counts: &mut [u32]) -> Read
+    requires { ⌜ n ≤ length (now counts) ⌝ }
+{
     let mut at = start;
     let mut i = 0;
     while i < n {
@@ -76,10 +77,9 @@ pub fn read_counts(line: &[u8], start: usize, n: usize, counts: &mut [u32]) -> R
 }
 
 // The same of weights.
-pub fn read_weights(line: &[u8], start: usize, n: usize, weights: &mut [f64]) -> Read {
-    if weights.len() < n {
-        return Read::Unread;
-    }
+pub fn read_weights(line: &[u8], start: usize, n: usize, weights: &mut [f64]) -> Read
+    requires { ⌜ n ≤ length (now weights) ⌝ }
+{
     let mut at = start;
     let mut i = 0;
     while i < n {

@@ -18,13 +18,28 @@ use trio::closing::Closed;
 use trio::genotypes::triple_of;
 use writing::laying::lay;
 
-fn ground(text: &mut [u8], at: usize, g: Ground) -> usize {
+// The name of a ground behind a tab, in a row of eight, zeros behind it.
+fn ground(g: Ground) -> [u8; 8] {
     match g {
-        Ground::NoGround => lay(text, at, b"\t-"),
-        Ground::Won => lay(text, at, b"\tWon"),
-        Ground::Tied => lay(text, at, b"\tTied"),
-        Ground::Unread => lay(text, at, b"\tUnread"),
+        Ground::NoGround => *b"\t-\0\0\0\0\0\0",
+        Ground::Won => *b"\tWon\0\0\0\0",
+        Ground::Tied => *b"\tTied\0\0\0",
+        Ground::Unread => *b"\tUnread\0",
     }
+}
+
+// The call of n clusters, its ground and its runner-up.
+fn called(text: &mut [u8], at: usize, n: u64, c: Closed) -> usize {
+    let triple = c.triple;
+    let runner = c.runner;
+    let g = c.ground;
+    let word = ground(g);
+    let to_ground = answers::triple(text, at, triple);
+    let to_runner = lay(text, to_ground, field(&word, 0, 0));
+    if c.has_runner {
+        return answers::triple(text, to_runner, triple_of(n, runner.position));
+    }
+    lay(text, to_runner, b"\t-")
 }
 
 // The answer to n clusters.
@@ -34,15 +49,7 @@ fn closed(line: &[u8], site: usize, text: &mut [u8], at: usize, n: u64, c: Close
     if refusals::number(refusal) != 0 {
         return to_call;
     }
-    let called = c.triple;
-    let g = c.ground;
-    let runner = c.runner;
-    let to_ground = answers::triple(text, to_call, called);
-    let to_runner = ground(text, to_ground, g);
-    if c.has_runner {
-        return answers::triple(text, to_runner, triple_of(n, runner.position));
-    }
-    lay(text, to_runner, b"\t-")
+    called(text, to_call, n, c)
 }
 
 // The refusal of a cluster number that is not allowed, or of the wrong number of counts and weights.
@@ -67,12 +74,6 @@ fn counted(line: &[u8], site: usize, start: usize, text: &mut [u8], at: usize, n
     let Read::To(_) = read_weights(line, to_weights, clusters, &mut weights) else {
         return End::Unread;
     };
-    if counts.len() < places {
-        return End::Unread;
-    }
-    if weights.len() < clusters {
-        return End::Unread;
-    }
     let c = call(n, &counts[..places], &weights[..clusters]);
     End::At(closed(line, site, text, at, n, c))
 }

@@ -2,6 +2,9 @@
 use mathlib.Core.Path.{sym}
 use lib.Seq.{length-take-le}
 use borrow.Author.Needs.{needs}
+use mathlib.Core.Path.{sym}
+use lib.Seq.{length-take-le}
+use borrow.Author.Needs.{needs}
 use Rattle.calls.proofs.mosaic_site.mosaic.Statement.{statement}
 use Rattle.calls.proofs.mosaic_site.mosaic.Tie as tie
 
@@ -20,6 +23,9 @@ enum-told c = search needs
 returns : tie.Need-returns
 returns c = search needs
 
+returns-2 : tie.Need-returns-2
+returns-2 c = search needs
+
 slice-aggregate-read-counts : tie.Need-slice-aggregate-read-counts
 slice-aggregate-read-counts c = search needs
 
@@ -31,9 +37,6 @@ enum-told-2 c = search needs
 
 enum-told-3 : tie.Need-enum-told-3
 enum-told-3 c = search needs
-
-returns-2 : tie.Need-returns-2
-returns-2 c = search needs
 
 returns-3 : tie.Need-returns-3
 returns-3 c = search needs
@@ -68,11 +71,11 @@ mosaic-spec =
     enum-known-many
     enum-told
     returns
+    returns-2
     slice-aggregate-read-counts
     read-counts-requires
     enum-told-2
     enum-told-3
-    returns-2
     returns-3
     default-requires
     array-share-prefix-counts

@@ -1,8 +1,8 @@
 -- `calls::numbers::read_counts` is safe and ends: its place among the counts rises with each turn. Assumes nothing.
-use mathlib.Core.Path.{_≡_}
 use Prim.Native.Nat.{_≤_, _-_}
-use borrow.Author.Needs.{needs}
+use mathlib.Core.Path.{_≡_}
 use lib.ListN.{length}
+use borrow.Author.Needs.{needs}
 use Rattle.calls.proofs.numbers.read_counts.Statement.{statement}
 use Rattle.calls.proofs.numbers.read_counts.Tie as tie
 
@@ -11,9 +11,6 @@ Inv-loop line start n counts₀ at₀ i₀ counts at i = (i ≤ n) × (length co
 
 abbrev μ-loop : tie.MeasureT-loop
 μ-loop line start n counts₀ at₀ i₀ counts at i = n - i
-
-returns : tie.Need-returns Inv-loop μ-loop
-returns c = search needs
 
 loop-holds : tie.Need-loop-holds Inv-loop μ-loop
 loop-holds c = search needs
@@ -33,8 +30,8 @@ enum-told c = search needs
 same-length : tie.Need-same-length Inv-loop μ-loop
 same-length c = search needs
 
-returns-2 : tie.Need-returns-2 Inv-loop μ-loop
-returns-2 c = search needs
+returns : tie.Need-returns Inv-loop μ-loop
+returns c = search needs
 
 mul-counts : tie.Need-mul-counts Inv-loop μ-loop
 mul-counts c = search needs
@@ -57,8 +54,8 @@ loop-again c = search needs
 same-length-2 : tie.Need-same-length-2 Inv-loop μ-loop
 same-length-2 c = search needs
 
-returns-3 : tie.Need-returns-3 Inv-loop μ-loop
-returns-3 c = search needs
+returns-2 : tie.Need-returns-2 Inv-loop μ-loop
+returns-2 c = search needs
 
 pub read-counts-spec : {M : Type 1} → statement M
 read-counts-spec =
@@ -66,14 +63,13 @@ read-counts-spec =
     (tie.spec
     Inv-loop
     μ-loop
-    returns
     loop-holds
     field-requires
     read-count-requires
     enum-known-x
     enum-told
     same-length
-    returns-2
+    returns
     mul-counts
     slice-write-counts
     next-field-requires
@@ -81,4 +77,4 @@ read-counts-spec =
     loop-less
     loop-again
     same-length-2
-    returns-3)
+    returns-2)

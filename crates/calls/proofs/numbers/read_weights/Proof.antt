@@ -1,8 +1,8 @@
 -- `calls::numbers::read_weights` is safe and ends: its place among the weights rises with each turn. Assumes nothing.
-use mathlib.Core.Path.{_≡_}
 use Prim.Native.Nat.{_≤_, _-_}
-use borrow.Author.Needs.{needs}
+use mathlib.Core.Path.{_≡_}
 use lib.ListN.{length}
+use borrow.Author.Needs.{needs}
 use Rattle.calls.proofs.numbers.read_weights.Statement.{statement}
 use Rattle.calls.proofs.numbers.read_weights.Tie as tie
 
@@ -11,9 +11,6 @@ Inv-loop line start n weights₀ at₀ i₀ weights at i = (i ≤ n) × (length 
 
 abbrev μ-loop : tie.MeasureT-loop
 μ-loop line start n weights₀ at₀ i₀ weights at i = n - i
-
-returns : tie.Need-returns Inv-loop μ-loop
-returns c = search needs
 
 loop-holds : tie.Need-loop-holds Inv-loop μ-loop
 loop-holds c = search needs
@@ -33,8 +30,8 @@ enum-told c = search needs
 same-length : tie.Need-same-length Inv-loop μ-loop
 same-length c = search needs
 
-returns-2 : tie.Need-returns-2 Inv-loop μ-loop
-returns-2 c = search needs
+returns : tie.Need-returns Inv-loop μ-loop
+returns c = search needs
 
 mul-weights : tie.Need-mul-weights Inv-loop μ-loop
 mul-weights c = search needs
@@ -57,8 +54,8 @@ loop-again c = search needs
 same-length-2 : tie.Need-same-length-2 Inv-loop μ-loop
 same-length-2 c = search needs
 
-returns-3 : tie.Need-returns-3 Inv-loop μ-loop
-returns-3 c = search needs
+returns-2 : tie.Need-returns-2 Inv-loop μ-loop
+returns-2 c = search needs
 
 pub read-weights-spec : {M : Type 1} → statement M
 read-weights-spec =
@@ -66,14 +63,13 @@ read-weights-spec =
     (tie.spec
     Inv-loop
     μ-loop
-    returns
     loop-holds
     field-requires
     read-decimal-requires
     enum-known-x
     enum-told
     same-length
-    returns-2
+    returns
     mul-weights
     slice-write-weights
     next-field-requires
@@ -81,4 +77,4 @@ read-weights-spec =
     loop-less
     loop-again
     same-length-2
-    returns-3)
+    returns-2)

@@ -2,6 +2,9 @@
 use mathlib.Core.Path.{sym}
 use lib.Seq.{length-take-le}
 use borrow.Author.Needs.{needs}
+use mathlib.Core.Path.{sym}
+use lib.Seq.{length-take-le}
+use borrow.Author.Needs.{needs}
 use Rattle.calls.proofs.trio_site.counted.Statement.{statement}
 use Rattle.calls.proofs.trio_site.counted.Tie as tie
 
@@ -38,12 +41,6 @@ enum-told-3 c = search needs
 returns-2 : tie.Need-returns-2
 returns-2 c = search needs
 
-returns-3 : tie.Need-returns-3
-returns-3 c = search needs
-
-returns-4 : tie.Need-returns-4
-returns-4 c = search needs
-
 array-share-prefix-counts : tie.Need-array-share-prefix-counts
 array-share-prefix-counts c = search needs
 
@@ -65,8 +62,8 @@ closed-requires c κs = search needs
 same-length : tie.Need-same-length
 same-length c = search needs
 
-returns-5 : tie.Need-returns-5
-returns-5 c = search needs
+returns-3 : tie.Need-returns-3
+returns-3 c = search needs
 
 pub counted-spec : {M : Type 1} → statement M
 counted-spec =
@@ -83,8 +80,6 @@ counted-spec =
     enum-told-2
     enum-told-3
     returns-2
-    returns-3
-    returns-4
     array-share-prefix-counts
     slice-aggregate-call
     array-share-prefix-weights
@@ -92,4 +87,4 @@ counted-spec =
     call-requires
     closed-requires
     same-length
-    returns-5)
+    returns-3)
