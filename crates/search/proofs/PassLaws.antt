@@ -10,15 +10,21 @@ use borrow.Author.Tests.{eqb-true, eqb-false}
 use lib.Dec.{T, eqb}
 use lib.Ieee.{Float}
 use lib.Signed.{ltZ}
-use Rattle.search.specs.declared.entry.Entry.{Entry}
-use Rattle.search.specs.Best.{In, Rest, IsBest, Best}
+use Rattle.entries.specs.declared.entry.Entry.{Entry}
+use Rattle.entries.specs.Best.{In, Rest, IsBest, Best, Ranks}
 use Rattle.floats.specs.Key.{keyOf}
-use Rattle.search.specs.Rank.{beatsOf}
+use Rattle.entries.specs.Rank.{beatsOf}
 use Rattle.search.specs.Work.{passed, without, onePass, entryAt, IsEntry, entriesFrom}
-use Rattle.search.proofs.BestLaws.{Fresh, best-ext}
-use Rattle.search.proofs.RankLaws.{beats-transitive, larger-beats, later-beats}
+use Rattle.entries.proofs.BestLaws.{Fresh, best-ext}
+use Rattle.entries.proofs.RankLaws.{beats-transitive, ranks-apart, larger-beats, later-beats}
 
--- ---- the entries at n positions from p on
+-- ---- the entries of one score function
+
+-- there is one at a position, so they are ranked
+pub ranks : (score : ℕ → Float) → Ranks (IsEntry score) beatsOf
+ranks score = ranks-apart (IsEntry score) (λ a b g h p. g ∙ ap (entryAt score) p ∙ sym h)
+
+-- ---- those at n positions from p on
 
 module _ (score : ℕ → Float) where
   -- e lies there

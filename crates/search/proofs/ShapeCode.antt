@@ -5,11 +5,11 @@ use mathlib.Core.Logic.{_≢_}
 use mathlib.Core.Path.{_≡_, refl}
 use native.Mathlib.Nat.{lt-irrefl, lt-of-lt-of-le}
 use lib.Dec.{eqb}
-use Rattle.search.specs.declared.entry.Entry.{Entry}
-use Rattle.search.specs.declared.held.Held.{Held}
-use Rattle.search.specs.Held.{inUse, heldList}
+use Rattle.entries.specs.declared.entry.Entry.{Entry}
+use Rattle.entries.specs.declared.held.Held.{Held}
+use Rattle.entries.specs.Held.{inUse, heldList}
 use Rattle.search.specs.Marks.{isMarked}
-use Rattle.search.specs.Rank.{beatsOf}
+use Rattle.entries.specs.Rank.{beatsOf}
 use Rattle.search.specs.Shape.{unusedZero, scoredInMarked, listRight}
 use Rattle.search.proofs.MarksLaws.{unmarked-above}
 

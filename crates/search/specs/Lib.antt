@@ -1,7 +1,4 @@
--- The definitions of `search`: which entry is better, the best two of a set, merging, row marks, the right shape, and one pass over all positions. All over any score.
-pub mod Rank
-pub mod Best
-pub mod Held
+-- The definitions of `search`: row marks, the right shape of marks and held entries, and one pass over all positions. All over any score.
 pub mod Marks
 pub mod Shape
 pub mod Work

@@ -4,11 +4,11 @@ use mathlib.Core.Bool.{Bool, true, not, cond, _&&_}
 use mathlib.Core.List.{List, [], _∷_}
 use lib.Dec.{eqb, ltb, leb}
 use lib.Ieee.{binary64, toBits, isNan}
-use Rattle.search.specs.declared.entry.Entry.{Entry}
-use Rattle.search.specs.declared.held.Held.{Held}
-use Rattle.search.specs.Held.{heldList}
+use Rattle.entries.specs.declared.entry.Entry.{Entry}
+use Rattle.entries.specs.declared.held.Held.{Held}
+use Rattle.entries.specs.Held.{heldList}
 use Rattle.search.specs.Marks.{isMarked, markCount}
-use Rattle.search.specs.Rank.{beatsOf}
+use Rattle.entries.specs.Rank.{beatsOf}
 
 -- an unused place: all bits zero
 unfoldable pub isNoEntry : Entry → Bool

@@ -7,8 +7,8 @@ use lib.Bits.{bitOr}
 use lib.Dec.{T, eqb}
 use lib.Ieee.{Float}
 use lib.Signed.{ltZ}
-use Rattle.search.specs.declared.entry.Entry.{Entry}
-use Rattle.search.specs.Held.{mergedHeld}
+use Rattle.entries.specs.declared.entry.Entry.{Entry}
+use Rattle.entries.specs.Held.{mergedHeld}
 use Rattle.search.specs.Marks.{fullMarks}
 use Rattle.floats.specs.Key.{keyOf}
 

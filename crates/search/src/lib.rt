@@ -1,4 +1,2 @@
-pub mod entry;
-pub mod held;
 pub mod marks;
 pub mod shape;

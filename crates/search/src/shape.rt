@@ -3,13 +3,13 @@ ghost use mathlib.Core.Path.{_≡_};
 ghost use mathlib.Core.Bool.{not, _&&_};
 ghost use Prim.Native.Nat.{_≤_, _<_, _^_};
 ghost use lib.Dec.{eqb};
-ghost use Rattle.search.specs.Rank.{beatsOf};
-ghost use Rattle.search.specs.Held.{heldList};
+ghost use Rattle.entries.specs.Rank.{beatsOf};
+ghost use Rattle.entries.specs.Held.{heldList};
 ghost use Rattle.search.specs.Shape.{isNoEntry, unusedZero, heldCount, inMarked, scoredInMarked, listRight, heldRight, workRight};
-use crate::entry::Entry;
-use crate::entry::beats;
-use crate::held::Held;
 use crate::marks::is_marked;
+use entries::entry::Entry;
+use entries::entry::beats;
+use entries::held::Held;
 use floats::bits::bits;
 
 // Is an unused place zero?

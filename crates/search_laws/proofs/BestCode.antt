@@ -6,15 +6,14 @@ use mathlib.Core.Path.{_≡_, refl, sym, ap, _∙_}
 use native.Mathlib.Nat.{add-zero, sub-zero}
 use native.Mathlib.Omega.{arith}
 use lib.Ieee.{Float}
-use Rattle.search.specs.declared.held.Held.{Held}
-use Rattle.search.specs.Best.{In, Or, offered, allOffered}
-use Rattle.search.specs.Held.{heldOf, heldList}
-use Rattle.search.specs.Rank.{beatsOf}
+use Rattle.entries.specs.declared.held.Held.{Held}
+use Rattle.entries.specs.Best.{In, Or, offered, allOffered}
+use Rattle.entries.specs.Held.{heldOf, heldList}
+use Rattle.entries.specs.Rank.{beatsOf}
 use Rattle.search.specs.Work.{onePass, entryAt, IsEntry, entriesFrom}
-use Rattle.search.proofs.HeldLaws.{kept-whole}
-use Rattle.search.proofs.BestLaws.{best-ext, best-unique, all-offered-best}
-use Rattle.search.proofs.PassLaws.{entries-lie, entries-fresh, entries-rise, one-pass-best}
-use Rattle.search.proofs.RankLaws.{ranks}
+use Rattle.entries.proofs.HeldLaws.{kept-whole}
+use Rattle.entries.proofs.BestLaws.{best-ext, best-unique, all-offered-best}
+use Rattle.search.proofs.PassLaws.{entries-lie, entries-fresh, entries-rise, one-pass-best, ranks}
 use Rattle.search_laws.proofs.ShapeLaws.{held-back}
 
 module _ (score : ℕ → Float) (from n : ℕ) where

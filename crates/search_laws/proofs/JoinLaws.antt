@@ -5,11 +5,11 @@ use mathlib.Core.List.{List}
 use mathlib.Core.Path.{_≡_, sym, ap₂, subst, _∙_}
 use lib.Dec.{T}
 use lib.Ieee.{Float}
-use Rattle.search.specs.declared.entry.Entry.{Entry}
-use Rattle.search.specs.Rank.{beatsOf}
+use Rattle.entries.specs.declared.entry.Entry.{Entry}
+use Rattle.entries.specs.Rank.{beatsOf}
 use Rattle.search.specs.Work.{IsEntry, Work, joined, Within}
-use Rattle.search.proofs.BestLaws.{best-ext, best-unique}
-use Rattle.search.proofs.RankLaws.{ranks}
+use Rattle.entries.proofs.BestLaws.{best-ext, best-unique}
+use Rattle.search.proofs.PassLaws.{ranks}
 use Rattle.search_laws.specs.Sound.{Sound}
 use Rattle.search_laws.proofs.WordLaws.{marked-same}
 use Rattle.search_laws.proofs.WorkLaws.{joined-sound}

@@ -8,10 +8,10 @@ use native.Mathlib.Nat.{not-suc-le-zero, le-of-suc-le-suc}
 use native.Mathlib.Omega.{arith}
 use lib.Bits.{bitOr, or-lt}
 use lib.Ieee.{isNan}
-use Rattle.search.specs.declared.entry.Entry.{Entry}
-use Rattle.search.specs.declared.held.Held.{Held}
-use Rattle.search.specs.Best.{In}
-use Rattle.search.specs.Held.{inUse, heldOf, heldList, holdsAt, mergedHeld}
+use Rattle.entries.specs.declared.entry.Entry.{Entry}
+use Rattle.entries.specs.declared.held.Held.{Held}
+use Rattle.entries.specs.Best.{In}
+use Rattle.entries.specs.Held.{inUse, heldOf, heldList, holdsAt, mergedHeld}
 use Rattle.search.specs.Marks.{isMarked}
 use Rattle.search.specs.Shape.{heldCount, inMarked, scoredInMarked, workRight}
 use Rattle.search.proofs.CountLaws.{held-none, held-two}

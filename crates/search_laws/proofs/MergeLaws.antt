@@ -7,13 +7,14 @@ use mathlib.Core.Path.{_≡_, refl, sym, ap, subst, _∙_}
 use borrow.Author.Tests.{eqb-true, eq-eqb}
 use lib.Dec.{T, eqb}
 use lib.Ieee.{Float}
-use Rattle.search.specs.declared.entry.Entry.{Entry}
-use Rattle.search.specs.Best.{In, Or, Rest, Best, Ranks}
-use Rattle.search.specs.Held.{holdsAt, fresh, mergedHeld}
-use Rattle.search.specs.Rank.{beatsOf}
+use Rattle.entries.specs.declared.entry.Entry.{Entry}
+use Rattle.entries.specs.Best.{In, Or, Rest, Best, Ranks}
+use Rattle.entries.specs.Held.{holdsAt, fresh, mergedHeld}
+use Rattle.entries.specs.Rank.{beatsOf}
 use Rattle.search.specs.Work.{entryAt, IsEntry}
-use Rattle.search.proofs.BestLaws.{Fresh, best-ext, best-in, best-unique, all-offered-best, absorbed}
-use Rattle.search.proofs.RankLaws.{ranks, ranks-apart}
+use Rattle.entries.proofs.BestLaws.{Fresh, best-ext, best-in, best-unique, all-offered-best, absorbed}
+use Rattle.entries.proofs.RankLaws.{ranks-apart}
+use Rattle.search.proofs.PassLaws.{ranks}
 use Rattle.search_laws.specs.Both.{Both, Ordered}
 
 -- ---- what is held, and what is fresh to it

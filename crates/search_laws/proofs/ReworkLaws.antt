@@ -12,16 +12,16 @@ use lib.Bits.{or-lt}
 use lib.Dec.{T, eqb, eqb→eq, eqb-refl, ltb, lt→ltb, ltb→lt}
 use lib.Ieee.{Float, isNan}
 use lib.Pow.{pow-lt}
-use Rattle.search.specs.declared.entry.Entry.{Entry}
-use Rattle.search.specs.declared.held.Held.{Held}
-use Rattle.search.specs.Best.{In, Or, Best}
-use Rattle.search.specs.Held.{heldList}
+use Rattle.entries.specs.declared.entry.Entry.{Entry}
+use Rattle.entries.specs.declared.held.Held.{Held}
+use Rattle.entries.specs.Best.{In, Or, Best}
+use Rattle.entries.specs.Held.{heldList}
 use Rattle.search.specs.Marks.{isMarked, fullMarks}
-use Rattle.search.specs.Rank.{beatsOf}
+use Rattle.entries.specs.Rank.{beatsOf}
 use Rattle.search.specs.Shape.{inMarked, workRight}
 use Rattle.search.specs.Work.{onePass, IsEntry, Work, joined, rowWork, allEntries, wholeWork, Within}
 use Rattle.search.proofs.MarksLaws.{unmarked-above}
-use Rattle.search.proofs.BestLaws.{best-ext}
+use Rattle.entries.proofs.BestLaws.{best-ext}
 use Rattle.search_laws.specs.Sound.{workedAll, rowsFrom, Covers}
 use Rattle.search_laws.proofs.WordLaws.{marked-one, marked-or, marked-full}
 use Rattle.search_laws.proofs.MergeLaws.{merged-best, ordered-best}

@@ -13,12 +13,12 @@ use lib.Dec.{T, eqb, ltb, leb}
 use lib.Ieee.Bits.{is-true}
 use lib.Ieee.{Float, isNan, toBits, ofBits}
 use lib.Pow.{pow-mono}
-use Rattle.search.specs.declared.entry.Entry.{Entry}
-use Rattle.search.specs.declared.held.Held.{Held}
-use Rattle.search.specs.Best.{In, Best}
-use Rattle.search.specs.Held.{inUse, heldOf, heldList}
+use Rattle.entries.specs.declared.entry.Entry.{Entry}
+use Rattle.entries.specs.declared.held.Held.{Held}
+use Rattle.entries.specs.Best.{In, Best}
+use Rattle.entries.specs.Held.{inUse, heldOf, heldList}
 use Rattle.search.specs.Marks.{isMarked, fullMarks}
-use Rattle.search.specs.Rank.{beatsOf}
+use Rattle.entries.specs.Rank.{beatsOf}
 use Rattle.search.specs.Shape.{isNoEntry, unusedZero, heldCount, inMarked, scoredInMarked, listRight, workRight}
 use Rattle.search.specs.Work.{entryAt, Work, Within}
 use Rattle.search.proofs.CountLaws.{held-none, held-one, held-two}

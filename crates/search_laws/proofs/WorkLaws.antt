@@ -12,16 +12,15 @@ use lib.Dec.{T, eqb, eqb→eq, eqb-refl, ltb, lt→ltb, ltb→lt}
 use lib.Ieee.Bits.{is-true}
 use lib.Ieee.{Float}
 use lib.Pow.{pow-pos, pow-lt}
-use Rattle.search.specs.declared.entry.Entry.{Entry}
-use Rattle.search.specs.Best.{In, Or, Best}
-use Rattle.search.specs.Held.{mergedHeld}
+use Rattle.entries.specs.declared.entry.Entry.{Entry}
+use Rattle.entries.specs.Best.{In, Or, Best}
+use Rattle.entries.specs.Held.{mergedHeld}
 use Rattle.search.specs.Marks.{isMarked, fullMarks}
-use Rattle.search.specs.Rank.{beatsOf}
+use Rattle.entries.specs.Rank.{beatsOf}
 use Rattle.search.specs.Work.{onePass, IsEntry, Work, joined, noWork, rowEntries, allEntries, rowWork, Within}
 use Rattle.search.proofs.MarksLaws.{marked-none, unmarked-above}
-use Rattle.search.proofs.BestLaws.{best-ext, best-unique}
-use Rattle.search.proofs.PassLaws.{entries-lie, lie-entries, entries-rise, one-pass-best}
-use Rattle.search.proofs.RankLaws.{ranks}
+use Rattle.entries.proofs.BestLaws.{best-ext, best-unique}
+use Rattle.search.proofs.PassLaws.{entries-lie, lie-entries, entries-rise, one-pass-best, ranks}
 use Rattle.search_laws.specs.Sound.{Sound}
 use Rattle.search_laws.proofs.WordLaws.{marked-one, marked-or, full-marked, marked-full}
 use Rattle.search_laws.proofs.MergeLaws.{merged-best}

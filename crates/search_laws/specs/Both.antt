@@ -4,10 +4,10 @@ use mathlib.Core.List.{List, [], _∷_}
 use mathlib.Core.Logic.{_⊎_, _≢_}
 use mathlib.Core.Path.{_≡_}
 use lib.Dec.{T}
-use Rattle.search.specs.declared.entry.Entry.{Entry}
-use Rattle.search.specs.Best.{In}
-use Rattle.search.specs.Held.{holdsAt}
-use Rattle.search.specs.Rank.{beatsOf}
+use Rattle.entries.specs.declared.entry.Entry.{Entry}
+use Rattle.entries.specs.Best.{In}
+use Rattle.entries.specs.Held.{holdsAt}
+use Rattle.entries.specs.Rank.{beatsOf}
 
 -- the entries of both: all of `own`, and those of `given` at positions that `own` does not hold
 abbrev pub Both : List Entry → List Entry → Entry → Type 0

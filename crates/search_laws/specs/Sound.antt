@@ -4,9 +4,9 @@ use mathlib.Core.Bool.{Bool}
 use mathlib.Core.List.{List, [], _∷_}
 use mathlib.Core.Path.{_≡_}
 use lib.Ieee.{Float}
-use Rattle.search.specs.Best.{In, Best}
+use Rattle.entries.specs.Best.{In, Best}
 use Rattle.search.specs.Marks.{isMarked}
-use Rattle.search.specs.Rank.{beatsOf}
+use Rattle.entries.specs.Rank.{beatsOf}
 use Rattle.search.specs.Work.{Work, joined, rowWork, Within}
 
 -- rows r, r + 1 and so on, n of them

@@ -1,0 +1,125 @@
+-- What `offered` and `holdsAt` give on the list that a `Held` stands for, by its count n and its two places f and s.
+use Prim.Native.Nat.{ℕ, zero, suc}
+use mathlib.Core.Bool.{Bool, true, false, cond, or-false}
+use mathlib.Core.List.{List, [], _∷_}
+use mathlib.Core.Logic.{_≢_}
+use mathlib.Core.Path.{_≡_, refl, sym, ap, _∙_}
+use lib.Dec.{eqb, ltb}
+use lib.Signed.{ltZ}
+use Rattle.entries.specs.declared.entry.Entry.{Entry}
+use Rattle.entries.specs.declared.held.Held.{Held}
+use Rattle.entries.specs.Best.{offered, allOffered}
+use Rattle.entries.specs.Held.{heldOf, heldList, holdsAt, inUse, mergedHeld}
+use Rattle.floats.specs.Key.{keyOf}
+use Rattle.entries.specs.Rank.{beatsOf}
+
+module _ (f s e : Entry) where
+  -- e is better than the first
+  pub offer-first : (n : ℕ) → n ≢ 0 → beatsOf e f ≡ true → heldOf (e ∷ f ∷ []) ≡ heldOf (offered beatsOf 2 e (inUse n f s))
+  offer-first zero h t = absurd (h refl)
+  offer-first (suc zero) h t = rw t
+  offer-first (suc (suc n)) h t = rw t
+
+  -- the first is the only one, and better than e
+  pub offer-last : beatsOf e f ≡ false → heldOf (f ∷ e ∷ []) ≡ heldOf (offered beatsOf 2 e (inUse 1 f s))
+  offer-last t = rw t
+
+  -- there are two, and the first is better than e
+  pub offer-second : (n : ℕ) → n ≢ 0 → n ≢ 1 → beatsOf e f ≡ false → heldOf (f ∷ cond (beatsOf e s) e s ∷ []) ≡ heldOf (offered beatsOf 2 e (inUse n f s))
+  offer-second zero h k t = absurd (h refl)
+  offer-second (suc zero) h k t = absurd (k refl)
+  offer-second (suc (suc n)) h k t = rw t (go (beatsOf e s))
+    where
+      go : (u : Bool) → heldOf (f ∷ cond u e s ∷ []) ≡ heldOf (f ∷ cond u (e ∷ []) (s ∷ []))
+      go true = refl
+      go false = refl
+
+module _ (f s : Entry) (p : ℕ) where
+  pub holds-first : (n : ℕ) → n ≢ 0 → eqb (f .position) p ≡ true → true ≡ holdsAt (inUse n f s) p
+  holds-first zero h t = absurd (h refl)
+  holds-first (suc zero) h t = rw t
+  holds-first (suc (suc n)) h t = rw t
+
+  pub holds-one : eqb (f .position) p ≡ false → false ≡ holdsAt (inUse 1 f s) p
+  holds-one t = rw t
+
+  pub holds-second : (n : ℕ) → n ≢ 0 → n ≢ 1 → eqb (f .position) p ≡ false → eqb (s .position) p ≡ holdsAt (inUse n f s) p
+  holds-second zero h k t = absurd (h refl)
+  holds-second (suc zero) h k t = absurd (k refl)
+  holds-second (suc (suc n)) h k t = rw t (sym (or-false (eqb (s .position) p)))
+
+module _ (a b : Entry) where
+  pub beats-larger : ltZ (keyOf (b .score)) (keyOf (a .score)) ≡ true → true ≡ beatsOf a b
+  unfolding beatsOf
+  beats-larger t = rw t
+
+  pub beats-smaller : ltZ (keyOf (b .score)) (keyOf (a .score)) ≡ false → ltZ (keyOf (a .score)) (keyOf (b .score)) ≡ true → false ≡ beatsOf a b
+  unfolding beatsOf
+  beats-smaller t u = rw (t, u)
+
+  pub beats-equal : ltZ (keyOf (b .score)) (keyOf (a .score)) ≡ false → ltZ (keyOf (a .score)) (keyOf (b .score)) ≡ false → ltb (b .position) (a .position) ≡ beatsOf a b
+  unfolding beatsOf
+  beats-equal t u = rw (t, u)
+
+-- the list of a `Held` fits one
+pub in-use-back : (n : ℕ) (f s : Entry) → heldList (heldOf (inUse n f s)) ≡ inUse n f s
+in-use-back zero f s = refl
+in-use-back (suc zero) f s = refl
+in-use-back (suc (suc n)) f s = refl
+
+-- a tidied `Held` has the same list, and is what its list gives
+pub tidy-list : (a o : Held) → o ≡ heldOf (heldList a) → heldList o ≡ heldList a
+tidy-list a o e = ap heldList e ∙ in-use-back (a .count) (a .first) (a .second)
+
+pub tidy-normal : (a o : Held) → o ≡ heldOf (heldList a) → o ≡ heldOf (heldList o)
+tidy-normal a o e = e ∙ ap heldOf (sym (tidy-list a o e))
+
+pub tidy-two : (n : ℕ) (f s : Entry) → n ≢ 0 → n ≢ 1 → heldOf (f ∷ s ∷ []) ≡ heldOf (inUse n f s)
+tidy-two zero f s h k = absurd (h refl)
+tidy-two (suc zero) f s h k = absurd (k refl)
+tidy-two (suc (suc n)) f s h k = refl
+
+-- a list that `offered` gives fits a `Held`
+pub kept-whole : (e : Entry) (l : List Entry) → heldList (heldOf (offered beatsOf 2 e l)) ≡ offered beatsOf 2 e l
+kept-whole e [] = refl
+kept-whole e (x ∷ []) = go (beatsOf e x)
+  where
+    go : (t : Bool) → heldList (heldOf (cond t (e ∷ x ∷ []) (x ∷ e ∷ []))) ≡ cond t (e ∷ x ∷ []) (x ∷ e ∷ [])
+    go true = refl
+    go false = refl
+kept-whole e (x ∷ y ∷ l) = go (beatsOf e x) (beatsOf e y)
+  where
+    go : (t u : Bool) → heldList (heldOf (cond t (e ∷ x ∷ []) (x ∷ cond u (e ∷ []) (y ∷ [])))) ≡ cond t (e ∷ x ∷ []) (x ∷ cond u (e ∷ []) (y ∷ []))
+    go true u = refl
+    go false true = refl
+    go false false = refl
+
+-- and so does one that a list has been offered to
+pub all-kept-whole : (l h : List Entry) → heldList (heldOf h) ≡ h → heldList (heldOf (allOffered beatsOf 2 h l)) ≡ allOffered beatsOf 2 h l
+all-kept-whole [] h w = w
+all-kept-whole (e ∷ l) h w = all-kept-whole l (offered beatsOf 2 e h) (kept-whole e h)
+
+module _ (a : Held) (f s : Entry) (h : a ≡ heldOf (heldList a)) where
+  -- what is left once f has been offered to a, if it is fresh
+  abbrev after : Bool → Held
+  after t = cond t a (heldOf (offered beatsOf 2 f (heldList a)))
+
+  pub merge-one : after (holdsAt (heldList a) (f .position)) ≡ heldOf (mergedHeld (heldList a) (inUse 1 f s))
+  merge-one = go (holdsAt (heldList a) (f .position))
+    where
+      go : (t : Bool) → after t ≡ heldOf (allOffered beatsOf 2 (heldList a) (cond t [] (f ∷ [])))
+      go true = h
+      go false = refl
+
+  pub merge-two : (n : ℕ) (o : Held) → n ≢ 0 → n ≢ 1 → o ≡ after (holdsAt (heldList a) (f .position))
+      → cond (holdsAt (heldList a) (s .position)) o (heldOf (offered beatsOf 2 s (heldList o))) ≡ heldOf (mergedHeld (heldList a) (inUse n f s))
+  merge-two zero o i k e = absurd (i refl)
+  merge-two (suc zero) o i k e = absurd (k refl)
+  merge-two (suc (suc n)) o i k e = rw e (go (holdsAt (heldList a) (f .position)) (holdsAt (heldList a) (s .position)))
+    where
+      go : (t u : Bool) → cond u (after t) (heldOf (offered beatsOf 2 s (heldList (after t))))
+          ≡ heldOf (allOffered beatsOf 2 (heldList a) (cond t (cond u [] (s ∷ [])) (f ∷ cond u [] (s ∷ []))))
+      go true true = h
+      go true false = refl
+      go false true = refl
+      go false false = rw kept-whole

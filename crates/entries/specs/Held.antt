@@ -1,0 +1,42 @@
+-- What a search holds, as a list of at most two entries, and merging. Definitions only (RULES.md, T5, T8).
+use Prim.Native.Nat.{ℕ, zero, suc}
+use mathlib.Core.Bool.{Bool, false, cond, _||_}
+use mathlib.Core.List.{List, [], _∷_}
+use lib.Dec.{eqb}
+use lib.Ieee.{binary64, ofBits}
+use Rattle.entries.specs.declared.entry.Entry.{Entry}
+use Rattle.entries.specs.declared.held.Held.{Held}
+use Rattle.entries.specs.Best.{allOffered}
+use Rattle.entries.specs.Rank.{beatsOf}
+
+abbrev pub noEntry : Entry
+noEntry = record { position = 0; score = ofBits binary64 0 }
+
+-- the entries in use, of two places
+abbrev pub inUse : ℕ → Entry → Entry → List Entry
+inUse zero f s = []
+inUse (suc zero) f s = f ∷ []
+inUse (suc (suc n)) f s = f ∷ s ∷ []
+
+abbrev pub heldList : Held → List Entry
+heldList h = inUse (h .count) (h .first) (h .second)
+
+-- the first two of a list, unused places zero
+abbrev pub heldOf : List Entry → Held
+heldOf [] = record { count = 0; first = noEntry; second = noEntry }
+heldOf (a ∷ []) = record { count = 1; first = a; second = noEntry }
+heldOf (a ∷ b ∷ more) = record { count = 2; first = a; second = b }
+
+-- is an entry at this position among them?
+abbrev pub holdsAt : List Entry → ℕ → Bool
+holdsAt [] p = false
+holdsAt (a ∷ more) p = eqb (a .position) p || holdsAt more p
+
+-- the entries of bs at positions that `own` does not hold
+abbrev pub fresh : List Entry → List Entry → List Entry
+fresh own [] = []
+fresh own (b ∷ bs) = cond (holdsAt own (b .position)) (fresh own bs) (b ∷ fresh own bs)
+
+-- the best two by distinct position; at a shared position the first list's entry stays. That this is the best of `Both`, then the best of the rest: `merged-two-best` (search_laws)
+abbrev pub mergedHeld : List Entry → List Entry → List Entry
+mergedHeld own given = allOffered beatsOf 2 own (fresh own given)
