@@ -9,7 +9,7 @@ use lib.Ieee.{Float}
 use lib.IntN.{ℤ, pos, negsuc}
 use lib.Signed.{ltZ}
 use Rattle.floats.specs.Key.{keyOf}
-use Rattle.search.specs.declared.entry.Entry.{Entry}
+use Rattle.entries.specs.declared.entry.Entry.{Entry}
 use Rattle.search.specs.Work.{passed, without, onePass, entryAt, entriesFrom}
 
 -- no key is below itself

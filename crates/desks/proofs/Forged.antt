@@ -16,14 +16,14 @@ use Rattle.floats.specs.F64.{nat}
 use Rattle.floats.specs.Key.{keyOf}
 use Rattle.refusals.specs.declared.Refusal.the-variants.{Done, Row, OtherTrio, NotComplete, BadPart}
 use Rattle.refusals.specs.Refusals.{numberOf}
-use Rattle.search.specs.declared.entry.Entry.{Entry}
-use Rattle.search.specs.Best.{In}
-use Rattle.search.specs.Held.{heldOf, heldList, fresh, mergedHeld}
+use Rattle.entries.specs.declared.entry.Entry.{Entry}
+use Rattle.entries.specs.Best.{In}
+use Rattle.entries.specs.Held.{heldOf, heldList, fresh, mergedHeld}
 use Rattle.search.specs.Marks.{isMarked, markCount, fullMarks}
-use Rattle.search.specs.Rank.{beatsOf}
+use Rattle.entries.specs.Rank.{beatsOf}
 use Rattle.search.specs.Shape.{inMarked, workRight}
 use Rattle.search.specs.Work.{Work, IsEntry, joined, rowWork, wholeWork, Within}
-use Rattle.search.proofs.HeldLaws.{in-use-back, all-kept-whole}
+use Rattle.entries.proofs.HeldLaws.{in-use-back, all-kept-whole}
 use Rattle.search.proofs.MarksLaws.{unmarked-above}
 use Rattle.search_laws.specs.Sound.{rowsFrom, workedAll}
 use Rattle.search_laws.proofs.KeepLaws.{first-held, joined-right}

@@ -12,7 +12,7 @@ use lib.Ieee.{Float, isNan, toBits, ofInt}
 use Rattle.floats.specs.F64.{nat}
 use Rattle.refusals.specs.declared.Refusal.the-variants.{Done, NoCluster, TooMany, Shape, Count, Weight}
 use Rattle.refusals.specs.Refusals.{numberOf}
-use Rattle.search.specs.Held.{heldOf}
+use Rattle.entries.specs.Held.{heldOf}
 use Rattle.search.specs.Shape.{workRight}
 use Rattle.search.specs.Work.{noWork}
 use Rattle.search_laws.proofs.ShapeLaws.{and-true, and-both, work-right}

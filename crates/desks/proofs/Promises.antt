@@ -8,10 +8,10 @@ use borrow.Author.Tests.{ltb-true, eq-eqb, ne-eqb}
 use lib.Dec.{T, eqb, ltb}
 use lib.Ieee.{Float, binary64, isNan, toBits}
 use Rattle.refusals.specs.declared.Refusal.the-variants.{Done, Row, OtherTrio, NotComplete, BadPart}
-use Rattle.search.specs.Best.{Best}
-use Rattle.search.specs.Held.{heldList}
+use Rattle.entries.specs.Best.{Best}
+use Rattle.entries.specs.Held.{heldList}
 use Rattle.search.specs.Marks.{isMarked, fullMarks}
-use Rattle.search.specs.Rank.{beatsOf}
+use Rattle.entries.specs.Rank.{beatsOf}
 use Rattle.search.specs.Shape.{workRight}
 use Rattle.search.specs.Work.{Work, joined, noWork, rowWork, Within, wholeWork}
 use Rattle.search_laws.specs.Sound.{Sound}

@@ -11,8 +11,8 @@ use lib.ListN.{length, getD}
 use lib.Ieee.{Float, inf}
 use Rattle.floats.specs.F64.{nat}
 use Rattle.refusals.specs.Refusals.{numberOf}
-use Rattle.search.specs.declared.entry.Entry.{Entry}
-use Rattle.search.specs.Held.{heldOf}
+use Rattle.entries.specs.declared.entry.Entry.{Entry}
+use Rattle.entries.specs.Held.{heldOf}
 use Rattle.search.specs.Shape.{workRight}
 use Rattle.search.specs.Work.{onePass, entryAt, allEntries}
 use Rattle.search_laws.proofs.ShapeLaws.{and-both}

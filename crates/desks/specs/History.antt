@@ -4,10 +4,10 @@ use mathlib.Core.Bool.{Bool, true, false, not, cond, _&&_, _||_}
 use mathlib.Core.Path.{_≡_}
 use lib.Dec.{T, eqb, ltb}
 use Rattle.refusals.specs.declared.Refusal.the-variants.{Done, Row, OtherTrio, NotComplete, BadPart}
-use Rattle.search.specs.Best.{Best}
-use Rattle.search.specs.Held.{heldList}
+use Rattle.entries.specs.Best.{Best}
+use Rattle.entries.specs.Held.{heldList}
 use Rattle.search.specs.Marks.{isMarked}
-use Rattle.search.specs.Rank.{beatsOf}
+use Rattle.entries.specs.Rank.{beatsOf}
 use Rattle.search.specs.Work.{Within}
 use Rattle.parts.specs.declared.part.Part.{Part}
 use Rattle.trio.specs.Genotypes.{rowWidth}

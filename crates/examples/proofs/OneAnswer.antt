@@ -26,10 +26,10 @@ use Rattle.qualities.proofs.order.max.Reads as max
 use Rattle.qualities.proofs.order.min.Reads as min
 use Rattle.qualities.proofs.quality.genotype_quals.Reads as genotype-quals
 use Rattle.diploid.proofs.genotype.genotype.Reads as genotype
-use Rattle.search.proofs.entry.beats.Reads as beats
-use Rattle.search.proofs.held.Held.nothing.Reads as held-nothing
-use Rattle.search.proofs.held.offer.Reads as offer
-use Rattle.search.proofs.held.merge_held.Reads as merge-held
+use Rattle.entries.proofs.entry.beats.Reads as beats
+use Rattle.entries.proofs.held.Held.nothing.Reads as held-nothing
+use Rattle.entries.proofs.held.offer.Reads as offer
+use Rattle.entries.proofs.held.merge_held.Reads as merge-held
 use Rattle.search.proofs.marks.row_marked.Reads as row-marked
 use Rattle.search.proofs.marks.all_marked.Reads as all-marked
 use Rattle.search.proofs.shape.work_right.Reads as work-right

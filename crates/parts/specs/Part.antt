@@ -6,7 +6,7 @@ use lib.Dec.{eqb, leb}
 use lib.Ieee.{Float, binary64, toBits}
 use Rattle.floats.specs.F64.{nat}
 use Rattle.limits.specs.Limits.{inRange, countAllowed}
-use Rattle.search.specs.Held.{heldOf, heldList}
+use Rattle.entries.specs.Held.{heldOf, heldList}
 use Rattle.search.specs.Shape.{workRight}
 use Rattle.search.specs.Work.{Work, noWork}
 use Rattle.family.specs.Genotypes.{genotypeCount}

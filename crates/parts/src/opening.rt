@@ -7,10 +7,10 @@ ghost use Rattle.parts.specs.Opening.{openStep};
 ghost use lib.ListN.{length};
 use crate::part::Part;
 use crate::part::Stepped;
+use entries::held::Held;
 use limits::counts::counts_allowed;
 use limits::ranges::all_in;
 use refusals::Refusal;
-use search::held::Held;
 
 fn laid_counts(counts: &[u32]) -> [u32; 24]
     requires { ⌜ length (now counts) ≤ 24 ⌝ }

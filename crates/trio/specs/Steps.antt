@@ -9,8 +9,8 @@ use Rattle.floats.specs.F64.{nat}
 use Rattle.floats.specs.Key.{keyOf}
 use Rattle.refusals.specs.declared.Refusal.{Refusal}
 use Rattle.refusals.specs.declared.Refusal.the-variants.{Done, Row, OtherTrio, NotComplete, BadPart}
-use Rattle.search.specs.declared.held.Held.{Held}
-use Rattle.search.specs.Held.{noEntry}
+use Rattle.entries.specs.declared.held.Held.{Held}
+use Rattle.entries.specs.Held.{noEntry}
 use Rattle.search.specs.Marks.{fullMarks}
 use Rattle.search.specs.Work.{joined, rowWork}
 use Rattle.trio.specs.declared.animal.AnimalScore.{AnimalScore}

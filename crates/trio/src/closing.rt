@@ -3,6 +3,8 @@ ghost use mathlib.Core.Path.{_≡_};
 ghost use Prim.Native.Nat.{_≤_};
 ghost use Rattle.trio.specs.Steps.{groundOf, unread, refusedClosing, closedAs, closeStep};
 use crate::genotypes::triple_at;
+use entries::entry::Entry;
+use entries::held::Held;
 use family::genotypes::genotype_count;
 use family::ground::Ground;
 use family::pair::Pair;
@@ -13,8 +15,6 @@ use parts::part::Part;
 use parts::shape::right_part;
 use refusals::Refusal;
 use samples::samples::column_total;
-use search::entry::Entry;
-use search::held::Held;
 use search::marks::all_marked;
 
 // The call with its score, its ground and the runner-up, if there is one; or a refusal with zeros. The part is handed back in every case.

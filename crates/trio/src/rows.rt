@@ -1,21 +1,21 @@
 // Working a row: all triples of one father's genotype (docs/RULES.md, T6).
 ghost use mathlib.Core.Path.{_≡_};
 ghost use Prim.Native.Nat.{_+_, _*_, _≤_, _<_, _^_};
-ghost use Rattle.search.specs.Held.{heldOf};
+ghost use Rattle.entries.specs.Held.{heldOf};
 ghost use Rattle.search.specs.Work.{onePass, entriesFrom, rowWork};
 ghost use Rattle.trio.specs.Score.{scoreOf};
 ghost use Rattle.parts.specs.Part.{withWork};
 ghost use Rattle.trio.specs.Steps.{rowsIn, rowStep};
 use crate::merging::joined;
 use crate::score::score_at;
+use entries::entry::Entry;
+use entries::held::Held;
+use entries::held::offer;
 use family::genotypes::genotype_count;
 use parts::part::Part;
 use parts::part::Stepped;
 use parts::shape::right_part;
 use refusals::Refusal;
-use search::entry::Entry;
-use search::held::Held;
-use search::held::offer;
 use search::marks::row_marked;
 
 // The best two of `many` positions from `from` on.

@@ -4,9 +4,9 @@ use crate::words;
 use crate::write;
 use crate::write::Out;
 use crate::write::Text;
+use entries::entry::Entry;
+use entries::held::Held;
 use parts::part::Part;
-use search::entry::Entry;
-use search::held::Held;
 
 pub type Registers = [Part; 10];
 
