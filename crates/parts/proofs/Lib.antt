@@ -1,4 +1,3 @@
 -- What belongs to no one function of `parts`.
 pub mod PlacesLaws
 pub mod SameLaws
-pub mod OpenLaws

@@ -1,3 +1,2 @@
--- The definitions of `parts`: a part and its right shape, and opening.
+-- The definitions of `parts`: a part and its right shape.
 pub mod Part
-pub mod Opening

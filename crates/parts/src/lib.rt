@@ -1,4 +1,3 @@
-// Partial results of a trio's search: what they carry, their right shape, and opening.
-pub mod opening;
+// Partial results of a trio's search: what they carry, and their right shape.
 pub mod part;
 pub mod shape;

@@ -1,4 +1,4 @@
--- `parts::opening::open_part` meets its contract. By each test in turn.
+-- `opening::opening::open_part` meets its contract. By each test in turn.
 use Prim.Native.Nat.{_*_}
 use mathlib.Core.Bool.{true, false}
 use mathlib.Core.Path.{_≡_, sym, ap, _∙_}
@@ -10,10 +10,10 @@ use lib.ListN.{length}
 use Rattle.refusals.specs.declared.Refusal.the-variants.{Done}
 use Rattle.limits.specs.Every.{every}
 use Rattle.limits.specs.Limits.{countsAllowed}
 use Rattle.parts.specs.Part.{weightAllowed, gives}
-use Rattle.parts.specs.Opening.{openStep}
-use Rattle.parts.proofs.opening.open_part.Statement.{statement}
-use Rattle.parts.proofs.opening.open_part.Tie as tie
+use Rattle.opening.specs.Opening.{openStep}
+use Rattle.opening.proofs.opening.open_part.Statement.{statement}
+use Rattle.opening.proofs.opening.open_part.Tie as tie
 
 -- ---- what is known past each test
 

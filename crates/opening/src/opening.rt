@@ -2,14 +2,14 @@
 ghost use mathlib.Core.Path.{_≡_};
 ghost use Prim.Native.Nat.{_≤_};
 ghost use Rattle.floats.specs.F64.{nat};
 ghost use Rattle.parts.specs.Part.{padded, freshPart, emptyPart, gives};
-ghost use Rattle.parts.specs.Opening.{openStep};
+ghost use Rattle.opening.specs.Opening.{openStep};
 ghost use lib.ListN.{length};
-use crate::part::Part;
-use crate::part::Stepped;
 use entries::held::Held;
 use limits::counts::counts_allowed;
 use limits::ranges::all_in;
+use parts::part::Part;
+use parts::part::Stepped;
 use refusals::Refusal;
 
 fn laid_counts(counts: &[u32]) -> [u32; 24]

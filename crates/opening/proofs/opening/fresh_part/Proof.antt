@@ -1,7 +1,7 @@
--- `parts::opening::fresh_part` meets its contract. From what each callee ensures.
+-- `opening::opening::fresh_part` meets its contract. From what each callee ensures.
 use borrow.Author.Needs.{needs}
-use Rattle.parts.proofs.opening.fresh_part.Statement.{statement}
-use Rattle.parts.proofs.opening.fresh_part.Tie as tie
+use Rattle.opening.proofs.opening.fresh_part.Statement.{statement}
+use Rattle.opening.proofs.opening.fresh_part.Tie as tie
 
 laid-counts-requires : tie.Need-laid-counts-requires
 laid-counts-requires c κs = search needs

@@ -1,7 +1,7 @@
--- `parts::opening::refused` meets its contract.
+-- `opening::opening::refused` meets its contract.
 use borrow.Author.Needs.{needs}
-use Rattle.parts.proofs.opening.refused.Statement.{statement}
-use Rattle.parts.proofs.opening.refused.Tie as tie
+use Rattle.opening.proofs.opening.refused.Statement.{statement}
+use Rattle.opening.proofs.opening.refused.Tie as tie
 
 empty-requires : tie.Need-empty-requires
 empty-requires c κs = search needs
