@@ -14,7 +14,7 @@ use Rattle.search_laws.proofs.ShapeLaws.{and-both}
 use Rattle.parts.specs.declared.part.Part.{Part}
 use Rattle.parts.specs.declared.part.Stepped.{Stepped}
 use Rattle.parts.specs.Part.{inputRight, rowCount, withWork, rightPart, freshPart}
-use Rattle.parts.specs.Opening.{openStep}
+use Rattle.opening.specs.Opening.{openStep}
 use Rattle.trio.specs.Steps.{scoreIn, rowsIn, refusedClosing, closeStep}
 use Rattle.desks.specs.Call.{calledBy, callOf, workedTo}
 use Rattle.desks.specs.History.{History, merged, partOf, rowsOf, Promised}

@@ -23,7 +23,7 @@ use Rattle.family.specs.Genotypes.{genotypeCount}
 use Rattle.limits.specs.Limits.{countAllowed}
 use Rattle.parts.specs.Part.{noCount, weightAllowed, noWeight, placesRight, inputRight, padded, freshPart, emptyPart, rightPart, gives}
 use Rattle.limits.specs.Every.{every}
-use Rattle.parts.specs.Opening.{openStep}
+use Rattle.opening.specs.Opening.{openStep}
 
 -- ---- what it tells
 

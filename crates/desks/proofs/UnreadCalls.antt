@@ -25,7 +25,7 @@ use Rattle.family.specs.Genotypes.{genotypeCount}
 use Rattle.trio.specs.Genotypes.{genotypeAt, rowWidth, tripleAt}
 use Rattle.samples.specs.Samples.{upFrom, inUse, reads, sum, columnTotal}
 use Rattle.parts.specs.Part.{inputRight, rowCount, rightPart, padded, freshPart}
-use Rattle.parts.specs.Opening.{openStep}
+use Rattle.opening.specs.Opening.{openStep}
 use Rattle.trio.specs.Steps.{scoreIn, unread, groundOf, closedAs}
 use Rattle.desks.specs.Call.{onePassCall, calledBy, callOf}
 use Rattle.desks.specs.UnreadCall.{lastTriple, LastUnread}

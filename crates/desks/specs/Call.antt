@@ -11,7 +11,7 @@ use Rattle.parts.specs.declared.part.Part.{Part}
 use Rattle.parts.specs.declared.part.Stepped.{Stepped}
 use Rattle.trio.specs.Genotypes.{rowWidth}
 use Rattle.parts.specs.Part.{rowCount, withWork}
-use Rattle.parts.specs.Opening.{openStep}
+use Rattle.opening.specs.Opening.{openStep}
 use Rattle.trio.specs.Steps.{scoreIn, rowStep, closedAs, refusedClosing}
 
 -- what one undivided pass over the input of a part says: it keeps the best triple and the best of the rest, a later equal score replacing an earlier one

@@ -2,7 +2,7 @@
 ghost use mathlib.Core.Path.{_≡_};
 ghost use Rattle.trio.specs.Steps.{rowsIn};
 ghost use Rattle.desks.specs.Call.{callOf, workedTo};
-use parts::opening::open_part;
+use opening::opening::open_part;
 use parts::part::Part;
 use trio::closing::Closed;
 use trio::closing::close;

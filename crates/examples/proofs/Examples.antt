@@ -17,7 +17,7 @@ use Rattle.refusals.specs.Refusals.{numberOf}
 use Rattle.family.specs.Genotypes.{genotypeCount}
 use Rattle.family.specs.declared.sample.Sample.the-variants.{Mother}
 use Rattle.samples.specs.Samples.{columnTotal}
-use Rattle.parts.specs.Opening.{openStep}
+use Rattle.opening.specs.Opening.{openStep}
 use Rattle.desks.specs.Call.{callOf}
 use Rattle.models.specs.declared.params.Params.{Params}
 use Rattle.mosaic.specs.Allowed.{paramsAllowed}

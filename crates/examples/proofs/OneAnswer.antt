@@ -43,7 +43,7 @@ use Rattle.parts.proofs.part.Part.empty.Reads as part-empty
 use Rattle.parts.proofs.shape.right_part.Reads as right-part
 use Rattle.parts.proofs.shape.same_input.Reads as same-input
 use Rattle.trio.proofs.animal.sample_score.Reads as sample-score
-use Rattle.parts.proofs.opening.open_part.Reads as open-part
+use Rattle.opening.proofs.opening.open_part.Reads as open-part
 use Rattle.trio.proofs.rows.row_count.Reads as row-count
 use Rattle.trio.proofs.rows.work_row.Reads as work-row
 use Rattle.trio.proofs.merging.merge.Reads as merge

@@ -18,7 +18,7 @@ use Rattle.family.specs.Genotypes.{genotypeCount}
 use Rattle.trio.specs.Genotypes.{triples}
 use Rattle.family.specs.Mendel.{pair, childPairs}
 use Rattle.samples.specs.Samples.{columnTotal}
-use Rattle.parts.specs.Opening.{openStep}
+use Rattle.opening.specs.Opening.{openStep}
 use Rattle.desks.specs.Call.{callOf}
 use Rattle.models.specs.declared.params.Params.{Params}
 use Rattle.mosaic.specs.Allowed.{paramsAllowed}

@@ -10,7 +10,7 @@ use family::ground;
 use family::mendel;
 use family::pair::Pair;
 use family::sample::Sample;
-use parts::opening;
+use opening::opening::open_part;
 use parts::part::Stepped;
 use trio::animal;
 use trio::closing::Closed;
@@ -78,7 +78,7 @@ pub fn open_input(line: &[u8], at: usize) -> Opening {
     let i = lists::read_count_list(line, n.after, &mut counts);
     let j = lists::read_float_list(line, i.after, &mut weights);
     Opening {
-        stepped: opening::open_part(n.is as u64, &counts[..i.count], &weights[..j.count]),
+        stepped: open_part(n.is as u64, &counts[..i.count], &weights[..j.count]),
         after: j.after,
     }
 }
