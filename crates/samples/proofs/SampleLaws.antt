@@ -14,7 +14,8 @@ use Rattle.family.specs.declared.pair.Pair.{Pair}
 use Rattle.family.specs.declared.sample.Sample.{Sample}
 use Rattle.family.specs.declared.sample.Sample.the-variants.{Child, Father, Mother}
 use Rattle.family.specs.Numbers.{sampleNumber}
-use Rattle.samples.specs.Samples.{upFrom, inUse, sum, reads, columnTotal, named, expectation, withLogs}
+use Rattle.lists.specs.Lists.{numbers}
+use Rattle.samples.specs.Samples.{inUse, sum, reads, columnTotal, named, expectation, withLogs}
 
 pub in-use : (n : ℕ) → n ≤ 8 → inUse n ≡ n
 in-use n h = rw (le-leb n 8 h)
@@ -31,14 +32,14 @@ sample-below Child = lit< tt
 sample-below Father = lit< tt
 sample-below Mother = lit< tt
 
-pub up-next : (c n : ℕ) → c < n → upFrom c (n - c) ≡ c ∷ upFrom (c + 1) (n - (c + 1))
+pub up-next : (c n : ℕ) → c < n → numbers c (n - c) ≡ c ∷ numbers (c + 1) (n - (c + 1))
 up-next c n h = let one : n - c ≡ suc (n - (c + 1)) = omega arith in rw (one, add-one)
 
-pub up-done : (c n : ℕ) → n ≤ c → upFrom c (n - c) ≡ []
+pub up-done : (c n : ℕ) → n ≤ c → numbers c (n - c) ≡ []
 up-done c n h = let none : n - c ≡ 0 = omega arith in rw none
 
 -- of m numbers from f i on, the one d places further
-part-at-most : (f : ℕ → ℕ) (i m d : ℕ) → d < m → f (i + d) ≤ sum (map f (upFrom i m))
+part-at-most : (f : ℕ → ℕ) (i m d : ℕ) → d < m → f (i + d) ≤ sum (map f (numbers i m))
 part-at-most f i zero d h = absurd (none d h)
   where
     none : (d : ℕ) → d < 0 → ⊥
@@ -49,7 +50,7 @@ part-at-most f i (suc m) (suc d) h =
     let later = part-at-most f (suc i) m d k in
     rw (add-suc, ← suc-add) (omega arith)
 
-pub count-in-column : (counts : List ℕ) (column m c : ℕ) → c < m → reads counts column c ≤ sum (map (reads counts column) (upFrom 0 m))
+pub count-in-column : (counts : List ℕ) (column m c : ℕ) → c < m → reads counts column c ≤ sum (map (reads counts column) (numbers 0 m))
 count-in-column counts column m c h = rw zero-add at (part-at-most (reads counts column) 0 m c h)
 
 pub count-at-most : (n : ℕ) (counts : List ℕ) (s : Sample) (c : ℕ) → c < inUse n → reads counts (sampleNumber s) c ≤ columnTotal n counts s

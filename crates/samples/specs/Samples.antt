@@ -1,10 +1,11 @@
 -- How well a genotype explains the reads of one animal. Definitions only (RULES.md, T2).
-use Prim.Native.Nat.{ℕ, zero, suc, _+_, _-_, _*_}
+use Prim.Native.Nat.{ℕ, _+_, _-_, _*_}
 use mathlib.Core.Bool.{Bool, cond, true, _&&_, _||_}
 use mathlib.Core.List.{List, [], _∷_, map}
 use lib.Dec.{eqb, leb, ltb}
 use lib.ListN.{getD}
 use lib.Ieee.{Float, nan, inf, le, eq}
+use Rattle.lists.specs.Lists.{numbers}
 use Rattle.floats.specs.F64.{_⊕_, _⊖_, _⊗_, _⊘_, nat, decimal}
 use Rattle.kernels.specs.Ln.{lnOf}
 use Rattle.family.specs.declared.pair.Pair.{Pair}
@@ -12,18 +13,13 @@ use Rattle.family.specs.declared.sample.Sample.{Sample}
 use Rattle.family.specs.Numbers.{sampleNumber}
 use Rattle.samples.specs.declared.samples.Share.{Share}
 
--- n numbers from c on
-abbrev pub upFrom : ℕ → ℕ → List ℕ
-upFrom c zero = []
-upFrom c (suc n) = c ∷ upFrom (suc c) n
-
 -- L2: the smaller of n and 8, since there are eight places and no more
 abbrev pub inUse : ℕ → ℕ
 inUse n = cond (leb n 8) n 8
 
 -- the numbers of n clusters, from 0 on
 abbrev pub clusters : ℕ → List ℕ
-clusters n = upFrom 0 (inUse n)
+clusters n = numbers 0 (inUse n)
 
 -- the reads in cluster c of the animal of a column: each cluster has three counts
 abbrev pub reads : List ℕ → ℕ → ℕ → ℕ

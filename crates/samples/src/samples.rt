@@ -4,7 +4,8 @@ ghost use mathlib.Core.Bool.{cond};
 ghost use mathlib.Core.List.{map};
 ghost use Prim.Native.Nat.{_^_, _≤_, _<_};
 ghost use Rattle.floats.specs.F64.{_⊘_, nat};
-ghost use Rattle.samples.specs.Samples.{inUse, upFrom, reads, sum, columnTotal, sumFrom, impossibleAt, logBinomial, named, expectation, sampleScore, withLogs};
+ghost use Rattle.lists.specs.Lists.{numbers};
+ghost use Rattle.samples.specs.Samples.{inUse, reads, sum, columnTotal, sumFrom, impossibleAt, logBinomial, named, expectation, sampleScore, withLogs};
 use family::pair::Pair;
 use family::sample::Sample;
 use family::sample::sample_number;
@@ -23,7 +24,7 @@ fn in_use(n: u64) -> u64
 // The reads of a column over the first `many` clusters.
 fn column_sum(many: u64, counts: [u32; 24], column: u64) -> u64
     requires { ⌜ (many ≤ 8) × (column < 3) ⌝ }
-    ensures { λ r. ⌜ r ≡ sum (map (reads counts column) (upFrom 0 many)) ⌝ }
+    ensures { λ r. ⌜ r ≡ sum (map (reads counts column) (numbers 0 many)) ⌝ }
     ensures { λ r. ⌜ r ≤ 2 ^ 35 ⌝ }
 {
     let mut total: u64 = 0;
@@ -117,7 +118,7 @@ fn either(pair: Pair, c: u64, called: Share, other: Share) -> Share
 
 // The expectations of the first `many` clusters, summed in their order: the sum depends on where the alleles stand.
 fn expected_total(many: u64, pair: Pair) -> f64
-    ensures { λ r. ⌜ r ≡ sumFrom (nat 0) (map (expectation pair) (upFrom 0 many)) ⌝ }
+    ensures { λ r. ⌜ r ≡ sumFrom (nat 0) (map (expectation pair) (numbers 0 many)) ⌝ }
 {
     let mut total = 0.0;
     let mut c: u64 = 0;

@@ -22,7 +22,8 @@ use Rattle.search.specs.Shape.{inMarked, workRight}
 use Rattle.search.specs.Work.{onePass, IsEntry, Work, joined, rowWork, allEntries, wholeWork, Within}
 use Rattle.search.proofs.MarksLaws.{unmarked-above}
 use Rattle.entries.proofs.BestLaws.{best-ext}
-use Rattle.search_laws.specs.Sound.{workedAll, rowsFrom, Covers}
+use Rattle.lists.specs.Lists.{numbers}
+use Rattle.search_laws.specs.Sound.{workedAll, Covers}
 use Rattle.search_laws.proofs.WordLaws.{marked-one, marked-or, marked-full}
 use Rattle.search_laws.proofs.MergeLaws.{merged-best, ordered-best}
 use Rattle.search_laws.proofs.ShapeLaws.{Shaped, right-shaped, and-both}
@@ -30,11 +31,11 @@ use Rattle.search_laws.proofs.WorkLaws.{row-best, best-all}
 
 module _ (width : ℕ) (score : ℕ → Float) where
   -- the last of rising rows is worked last
-  pub worked-last : (n r : ℕ) (v : Work) → workedAll width score (rowsFrom r (suc n)) v ≡ joined (workedAll width score (rowsFrom r n) v) (rowWork width score (r + n))
+  pub worked-last : (n r : ℕ) (v : Work) → workedAll width score (numbers r (suc n)) v ≡ joined (workedAll width score (numbers r n) v) (rowWork width score (r + n))
   worked-last zero r v = rw add-zero
   worked-last (suc n) r v =
       let e : suc r + n ≡ r + suc n = omega arith in
-      worked-last n (suc r) (joined v (rowWork width score r)) ∙ ap (λ (s : ℕ). joined (workedAll width score (rowsFrom r (suc n)) v) (rowWork width score s)) e
+      worked-last n (suc r) (joined v (rowWork width score r)) ∙ ap (λ (s : ℕ). joined (workedAll width score (numbers r (suc n)) v) (rowWork width score s)) e
 
   -- ---- marks only grow
 
@@ -72,20 +73,20 @@ module _ (width : ℕ) (score : ℕ → Float) where
 
 -- ---- so once every row has been worked nothing else is left
 
-from-in : (r n s : ℕ) → In (rowsFrom r n) s → s < r + n
+from-in : (r n s : ℕ) → In (numbers r n) s → s < r + n
 from-in r zero s i = absurd i
 from-in r (suc n) s (inl e) = omega arith
 from-in r (suc n) s (inr i) = omega (arith, from-in (suc r) n s i)
 
-in-from : (r n s : ℕ) → r ≤ s → s < r + n → In (rowsFrom r n) s
+in-from : (r n s : ℕ) → r ≤ s → s < r + n → In (numbers r n) s
 in-from r zero s h k = absurd (omega arith)
 in-from r (suc n) s h k = go (ℕ-discrete s r) (in-from (suc r) n s)
   where
-    go : Dec (s ≡ r) → (suc r ≤ s → s < suc r + n → In (rowsFrom (suc r) n) s) → In (rowsFrom r (suc n)) s
+    go : Dec (s ≡ r) → (suc r ≤ s → s < suc r + n → In (numbers (suc r) n) s) → In (numbers r (suc n)) s
     go (yes e) f = inl e
     go (no e) f = inr (f (omega arith) (omega arith))
 
-pub covers-rising : (rows : ℕ) → Covers rows (rowsFrom 0 rows)
+pub covers-rising : (rows : ℕ) → Covers rows (numbers 0 rows)
 covers-rising rows = record { none-past = λ r i. omega (arith, from-in 0 rows r i); every = λ r k. in-from 0 rows r zero-le (omega arith) }
 
 module _ (rows : ℕ) (score : ℕ → Float) (marks : ℕ) (h : Held) (right : workRight rows marks h ≡ true) (true-scores : (e : Entry) → In (heldList h) e → IsEntry score e) where
@@ -114,5 +115,5 @@ module _ (rows : ℕ) (score : ℕ → Float) (marks : ℕ) (h : Held) (right : 
           (worked-best (rows * rows) score (mul-pos (shaped .some) (shaped .some)) l (In (heldList h)) start true-scores (ordered-best (heldList h) (shaped .ordered))))
 
   -- rows 0, 1, 2 and so on to the last
-  pub reworked-rising : workedAll (rows * rows) score (rowsFrom 0 rows) (record { marks = marks; held = heldList h }) ≡ wholeWork rows (rows * rows) score
-  reworked-rising = reworked (rowsFrom 0 rows) (covers-rising rows)
+  pub reworked-rising : workedAll (rows * rows) score (numbers 0 rows) (record { marks = marks; held = heldList h }) ≡ wholeWork rows (rows * rows) score
+  reworked-rising = reworked (numbers 0 rows) (covers-rising rows)

@@ -1,5 +1,5 @@
 -- Work whose marks and entries are true, and rows worked one after the other. Over any score. Definitions only (RULES.md, T5, T6, T8, D3).
-use Prim.Native.Nat.{ℕ, zero, suc, _^_, _<_}
+use Prim.Native.Nat.{ℕ, _^_, _<_}
 use mathlib.Core.Bool.{Bool}
 use mathlib.Core.List.{List, [], _∷_}
 use mathlib.Core.Path.{_≡_}
@@ -8,11 +8,6 @@ use Rattle.entries.specs.Best.{In, Best}
 use Rattle.search.specs.Marks.{isMarked}
 use Rattle.entries.specs.Rank.{beatsOf}
 use Rattle.search.specs.Work.{Work, joined, rowWork, Within}
-
--- rows r, r + 1 and so on, n of them
-abbrev pub rowsFrom : ℕ → ℕ → List ℕ
-rowsFrom r zero = []
-rowsFrom r (suc n) = r ∷ rowsFrom (suc r) n
 
 -- every row stands in the list, in any order and any number of times, and nothing else does
 pub record Covers (rows : ℕ) (l : List ℕ) : Type 0 where

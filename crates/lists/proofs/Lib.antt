@@ -1,0 +1,3 @@
+-- The laws of `lists`.
+pub mod PassingLaws
+pub mod PaddedLaws

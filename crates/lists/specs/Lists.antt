@@ -1,0 +1,19 @@
+-- Lists that the rules of several crates are said over. Definitions only.
+use Prim.Native.Nat.{ℕ, zero, suc, _-_}
+use mathlib.Core.Bool.{Bool, cond}
+use mathlib.Core.List.{List, [], _∷_, _++_}
+use lib.ListN.{length, replicate}
+
+-- the numbers i, i + 1, .., n of them
+abbrev pub numbers : ℕ → ℕ → List ℕ
+numbers i zero = []
+numbers i (suc n) = i ∷ numbers (suc i) n
+
+-- the members of a list that pass a test, in their order
+abbrev pub passing : {A : Type 0} → (A → Bool) → List A → List A
+passing t [] = []
+passing t (x ∷ l) = cond (t x) (x ∷ passing t l) (passing t l)
+
+-- a list in n places, what is left of them filled with d
+abbrev pub padded : {A : Type 0} → ℕ → A → List A → List A
+padded n d l = l ++ replicate (n - length l) d

@@ -1,0 +1,1 @@
+// No code: lists that the rules of several crates are said over.
