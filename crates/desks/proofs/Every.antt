@@ -8,7 +8,7 @@ use mathlib.Core.List.{List, [], _∷_}
 use lib.Dec.{T}
 use lib.ListN.{getD}
 use lib.Ieee.Fits.{and-l, and-r}
-use Rattle.samples.specs.Samples.{upFrom}
+use Rattle.lists.specs.Lists.{numbers}
 use Rattle.limits.specs.Every.{every}
 
 pub every-at : {A : Type 0} (f : A → Bool) (l : List A) (k : ℕ) (d : A) → T (every f l) → T (f d) → T (f (getD l k d))
@@ -19,14 +19,14 @@ every-at f (x ∷ l) (suc k) d h e = every-at f l k d (and-r (f x) (every f l) h
 none : (d : ℕ) → d < 0 → ⊥
 none d h = omega arith
 
-every-up : (f : ℕ → Bool) (i m d : ℕ) → T (every f (upFrom i m)) → d < m → T (f (i + d))
+every-up : (f : ℕ → Bool) (i m d : ℕ) → T (every f (numbers i m)) → d < m → T (f (i + d))
 every-up f i zero d h l = absurd (none d l)
-every-up f i (suc m) zero h l = rw add-zero (and-l (f i) (every f (upFrom (suc i) m)) h)
+every-up f i (suc m) zero h l = rw add-zero (and-l (f i) (every f (numbers (suc i) m)) h)
 every-up f i (suc m) (suc d) h l =
     let k : d < m = omega arith in
-    rw (add-suc, ← suc-add) (every-up f (suc i) m d (and-r (f i) (every f (upFrom (suc i) m)) h) k)
+    rw (add-suc, ← suc-add) (every-up f (suc i) m d (and-r (f i) (every f (numbers (suc i) m)) h) k)
 
-pub every-between : (f : ℕ → Bool) (i m d : ℕ) → T (every f (upFrom i m)) → i ≤ d → d < i + m → T (f d)
+pub every-between : (f : ℕ → Bool) (i m d : ℕ) → T (every f (numbers i m)) → i ≤ d → d < i + m → T (f d)
 every-between f i m d h l u =
     let e : i + (d - i) ≡ d = omega arith in
     let k : d - i < m = omega arith in

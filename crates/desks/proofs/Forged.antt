@@ -25,7 +25,8 @@ use Rattle.search.specs.Shape.{inMarked, workRight}
 use Rattle.search.specs.Work.{Work, IsEntry, joined, rowWork, wholeWork, Within}
 use Rattle.entries.proofs.HeldLaws.{in-use-back, all-kept-whole}
 use Rattle.search.proofs.MarksLaws.{unmarked-above}
-use Rattle.search_laws.specs.Sound.{rowsFrom, workedAll}
+use Rattle.lists.specs.Lists.{numbers}
+use Rattle.search_laws.specs.Sound.{workedAll}
 use Rattle.search_laws.proofs.KeepLaws.{first-held, joined-right}
 use Rattle.search_laws.proofs.ReworkLaws.{worked-last, reworked-rising}
 use Rattle.search_laws.proofs.ShapeLaws.{and-true, and-both, Shaped, right-shaped, full-holds, held-back, work-right}
@@ -151,7 +152,7 @@ closed-has-triple p = go (rightPart p) (eqb (p .marks) (fullMarks (rowCount p)))
 module _ (p : Part) (right : rightPart p ≡ true) (eight : length (p .weights) ≡ 8) where
   -- what it holds once its first k rows have been worked again
   abbrev again : ℕ → Work
-  again k = workedAll (width p) (score p) (rowsFrom 0 k) (workIn p)
+  again k = workedAll (width p) (score p) (numbers 0 k) (workIn p)
 
   abbrev rowAlone : ℕ → Work
   rowAlone r = rowWork (width p) (score p) r
@@ -241,7 +242,7 @@ unfolding rowsIn genotypeCount beatsOf keyOf toBits ofInt isNan forged
 reworking-keeps-lies =
     rw forged-right
     (all-reached forged forged-right refl .0
-    ∙ ap (λ (s : ℕ → Float). withWork forged (workedAll (rowWidth 2) s (rowsFrom 0 (genotypeCount 2)) (workIn forged))) (λ i q. forged-least q i))
+    ∙ ap (λ (s : ℕ → Float). withWork forged (workedAll (rowWidth 2) s (numbers 0 (genotypeCount 2)) (workIn forged))) (λ i q. forged-least q i))
 
 -- ---- the part of a refused opening, and where a forged call lies
 

@@ -29,7 +29,8 @@ use Rattle.family.specs.Numbers.{sampleNumber}
 use Rattle.family.specs.Genotypes.{pairsWith, pairsFrom, genotypes}
 use Rattle.trio.specs.Genotypes.{genotypeAt}
 use Rattle.family.specs.Mendel.{pair}
-use Rattle.samples.specs.Samples.{upFrom, inUse, clusters, reads, sum, columnTotal, sumFrom, logBinomial, expectation, expectationTotal, clusterTerm, sampleScore}
+use Rattle.lists.specs.Lists.{numbers}
+use Rattle.samples.specs.Samples.{inUse, clusters, reads, sum, columnTotal, sumFrom, logBinomial, expectation, expectationTotal, clusterTerm, sampleScore}
 use Rattle.parts.specs.Part.{weightAllowed}
 use Rattle.samples.proofs.SampleLaws.{in-use, sample-below, count-at-most}
 use Rattle.desks.specs.Accepted.{Accepted}
@@ -54,7 +55,7 @@ abbrev sharesInside : ℕ → Pair → Bool
 sharesInside n h = every (λ (c : ℕ). inside (share n h c)) (clusters n)
 
 -- antt computes all of them
-all-inside : T (every (λ (n : ℕ). every (sharesInside n) (genotypes n)) (upFrom 2 7))
+all-inside : T (every (λ (n : ℕ). every (sharesInside n) (genotypes n)) (numbers 2 7))
 unfolding expectation expectationTotal round ofInt div sub neg add sumOf le lt eq
 all-inside = tt
 
@@ -129,14 +130,14 @@ weight-within w h =
 
 -- ---- sums over the clusters
 
-counted : (f : ℕ → ℕ) (b n i m : ℕ) → ((c : ℕ) → c < n → f c ≤ b) → i + m ≤ n → sum (map f (upFrom i m)) ≤ m * b
+counted : (f : ℕ → ℕ) (b n i m : ℕ) → ((c : ℕ) → c < n → f c ≤ b) → i + m ≤ n → sum (map f (numbers i m)) ≤ m * b
 counted f b n i zero each l = omega arith
 counted f b n i (suc m) each l =
     let now = each i (omega arith) in
     let later = counted f b n (suc i) m each (omega arith) in
     rw suc-mul (omega arith)
 
-summed : (f : ℕ → Float) (b n a i m : ℕ) {x : Float} → ((c : ℕ) → c < n → Within b (f c)) → i + m ≤ n → Within a x → a + m * b ≤ 2 ^ 53 → Within (a + m * b) (sumFrom x (map f (upFrom i m)))
+summed : (f : ℕ → Float) (b n a i m : ℕ) {x : Float} → ((c : ℕ) → c < n → Within b (f c)) → i + m ≤ n → Within a x → a + m * b ≤ 2 ^ 53 → Within (a + m * b) (sumFrom x (map f (numbers i m)))
 summed f b n a i zero each l w s = rw (zero-mul, add-zero) w
 summed f b n a i (suc m) each l w s =
     let e : a + suc m * b ≡ a + b + m * b = rw suc-mul (omega arith) in

@@ -22,7 +22,8 @@ use Rattle.family.specs.declared.sample.Sample.the-variants.{Child, Father, Mot
 use Rattle.family.specs.Genotypes.{genotypeCount}
 use Rattle.trio.specs.Genotypes.{rowWidth, genotypeAt, tripleAt}
 use Rattle.family.specs.Mendel.{ordered, among, childPairs, mendelTerm}
-use Rattle.samples.specs.Samples.{upFrom, columnTotal, sampleScore}
+use Rattle.lists.specs.Lists.{numbers}
+use Rattle.samples.specs.Samples.{columnTotal, sampleScore}
 use Rattle.trio.specs.Score.{tripleScore, scoreOf}
 use Rattle.desks.specs.Accepted.{Accepted}
 use Rattle.limits.specs.Every.{every}
@@ -33,7 +34,7 @@ use Rattle.desks.proofs.SampleBounds.{sample-least, sample-within, samp
 -- ---- the Mendelian term
 
 -- ln (1 / d), for each d
-reciprocals-positive : T (every (λ (d : ℕ). positive (nat 1 ⊘ nat d)) (upFrom 1 4))
+reciprocals-positive : T (every (λ (d : ℕ). positive (nat 1 ⊘ nat d)) (numbers 1 4))
 unfolding round ofInt div
 reciprocals-positive = tt
 

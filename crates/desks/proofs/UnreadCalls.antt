@@ -23,7 +23,8 @@ use Rattle.family.specs.declared.sample.Sample.the-variants.{Child, Father, Mot
 use Rattle.family.specs.Numbers.{sampleNumber}
 use Rattle.family.specs.Genotypes.{genotypeCount}
 use Rattle.trio.specs.Genotypes.{genotypeAt, rowWidth, tripleAt}
-use Rattle.samples.specs.Samples.{upFrom, inUse, reads, sum, columnTotal}
+use Rattle.lists.specs.Lists.{numbers}
+use Rattle.samples.specs.Samples.{inUse, reads, sum, columnTotal}
 use Rattle.parts.specs.Part.{inputRight, rowCount, rightPart, padded, freshPart}
 use Rattle.opening.specs.Opening.{openStep}
 use Rattle.trio.specs.Steps.{scoreIn, unread, groundOf, closedAs}
@@ -92,7 +93,7 @@ padded-get (suc k) zero (x ∷ l) h = refl
 padded-get (suc k) (suc i) (x ∷ l) h = padded-get k i l (le-of-suc-le-suc h)
 
 module _ (counts : List ℕ) (short : length counts ≤ 24) where
-  column-padded : (s c n : ℕ) → sum (map (reads (padded 24 0 counts) s) (upFrom c n)) ≡ sum (map (reads counts s) (upFrom c n))
+  column-padded : (s c n : ℕ) → sum (map (reads (padded 24 0 counts) s) (numbers c n)) ≡ sum (map (reads counts s) (numbers c n))
   column-padded s c zero = refl
   column-padded s c (suc n) = ap₂ _+_ (padded-get 24 (3 * c + s) counts short) (column-padded s (suc c) n)
 
