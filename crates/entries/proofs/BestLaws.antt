@@ -1,11 +1,12 @@
 -- The best k of a set are unique, are kept by offering, and the best of two sets come from the best of each.
 use Prim.Native.Nat.{ℕ, zero, suc}
-use mathlib.Core.Bool.{Bool, true, false, cond}
+use mathlib.Core.Bool.{Bool, true, false, cond, true≢false}
 use mathlib.Core.List.{List, [], _∷_}
 use mathlib.Core.Logic.{_⊎_, inl, inr, ⊎-elim}
-use mathlib.Core.Path.{_≡_, refl, sym, subst, _∙_}
+use mathlib.Core.Path.{_≡_, refl, sym, ap, subst, _∙_}
 use lib.Dec.{T}
 use lib.ListN.{take}
+use Rattle.lists.specs.Lists.{passing}
 use Rattle.entries.specs.Best.{In, Or, Rest, IsBest, Best, offered, allOffered, Ranks}
 
 -- ---- membership
@@ -16,6 +17,26 @@ module _ {A : Type 0} where
   take-in (suc k) [] x i = i
   take-in (suc k) (p ∷ h) x (inl e) = inl e
   take-in (suc k) (p ∷ h) x (inr i) = inr (take-in k h x i)
+
+  -- what passes a test is of the list and passes, and all of that
+  pub passing-in : (t : A → Bool) (l : List A) (x : A) → In (passing t l) x → In l x × (t x ≡ true)
+  passing-in t [] x i = absurd i
+  passing-in t (a ∷ l) x i = go (t a) refl (passing-in t l x) i
+    where
+      go : (b : Bool) → t a ≡ b → (In (passing t l) x → In l x × (t x ≡ true)) → In (cond b (a ∷ passing t l) (passing t l)) x → In (a ∷ l) x × (t x ≡ true)
+      go true e r (inl c) = (inl c, ap t c ∙ e)
+      go true e r (inr j) = (inr (r j .0), r j .1)
+      go false e r j = (inr (r j .0), r j .1)
+
+  pub in-passing : (t : A → Bool) (l : List A) (x : A) → In l x → t x ≡ true → In (passing t l) x
+  in-passing t [] x i e = i
+  in-passing t (a ∷ l) x i e = go (t a) refl (λ j. in-passing t l x j e) i
+    where
+      go : (b : Bool) → t a ≡ b → (In l x → In (passing t l) x) → In (a ∷ l) x → In (cond b (a ∷ passing t l) (passing t l)) x
+      go true f r (inl c) = inl c
+      go true f r (inr j) = inr (r j)
+      go false f r (inl c) = absurd (true≢false (sym e ∙ ap t c ∙ f))
+      go false f r (inr j) = r j
 
   -- none of the list is in h, and no two of it are equal
   abbrev pub Fresh : List A → List A → Type 0

@@ -1,6 +1,6 @@
 -- What `offered` and `holdsAt` give on the list that a `Held` stands for, by its count n and its two places f and s.
 use Prim.Native.Nat.{ℕ, zero, suc}
-use mathlib.Core.Bool.{Bool, true, false, cond, or-false}
+use mathlib.Core.Bool.{Bool, true, false, not, cond, or-false}
 use mathlib.Core.List.{List, [], _∷_}
 use mathlib.Core.Logic.{_≢_}
 use mathlib.Core.Path.{_≡_, refl, sym, ap, _∙_}
@@ -107,7 +107,7 @@ module _ (a : Held) (f s : Entry) (h : a ≡ heldOf (heldList a)) where
   pub merge-one : after (holdsAt (heldList a) (f .position)) ≡ heldOf (mergedHeld (heldList a) (inUse 1 f s))
   merge-one = go (holdsAt (heldList a) (f .position))
     where
-      go : (t : Bool) → after t ≡ heldOf (allOffered beatsOf 2 (heldList a) (cond t [] (f ∷ [])))
+      go : (t : Bool) → after t ≡ heldOf (allOffered beatsOf 2 (heldList a) (cond (not t) (f ∷ []) []))
       go true = h
       go false = refl
 
@@ -118,7 +118,7 @@ module _ (a : Held) (f s : Entry) (h : a ≡ heldOf (heldList a)) where
   merge-two (suc (suc n)) o i k e = rw e (go (holdsAt (heldList a) (f .position)) (holdsAt (heldList a) (s .position)))
     where
       go : (t u : Bool) → cond u (after t) (heldOf (offered beatsOf 2 s (heldList (after t))))
-          ≡ heldOf (allOffered beatsOf 2 (heldList a) (cond t (cond u [] (s ∷ [])) (f ∷ cond u [] (s ∷ []))))
+          ≡ heldOf (allOffered beatsOf 2 (heldList a) (cond (not t) (f ∷ cond (not u) (s ∷ []) []) (cond (not u) (s ∷ []) [])))
       go true true = h
       go true false = refl
       go false true = refl

@@ -1,9 +1,10 @@
 -- What a search holds, as a list of at most two entries, and merging. Definitions only (RULES.md, T5, T8).
 use Prim.Native.Nat.{ℕ, zero, suc}
-use mathlib.Core.Bool.{Bool, false, cond, _||_}
+use mathlib.Core.Bool.{Bool, false, not, _||_}
 use mathlib.Core.List.{List, [], _∷_}
 use lib.Dec.{eqb}
 use lib.Ieee.{binary64, ofBits}
+use Rattle.lists.specs.Lists.{passing}
 use Rattle.entries.specs.declared.entry.Entry.{Entry}
 use Rattle.entries.specs.declared.held.Held.{Held}
 use Rattle.entries.specs.Best.{allOffered}
@@ -34,8 +35,7 @@ holdsAt (a ∷ more) p = eqb (a .position) p || holdsAt more p
 
 -- the entries of bs at positions that `own` does not hold
 abbrev pub fresh : List Entry → List Entry → List Entry
-fresh own [] = []
-fresh own (b ∷ bs) = cond (holdsAt own (b .position)) (fresh own bs) (b ∷ fresh own bs)
+fresh own bs = passing (λ b. not (holdsAt own (b .position))) bs
 
 -- the best two by distinct position; at a shared position the first list's entry stays. That this is the best of `Both`, then the best of the rest: `merged-two-best` (search_laws)
 abbrev pub mergedHeld : List Entry → List Entry → List Entry

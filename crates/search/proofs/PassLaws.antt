@@ -1,12 +1,12 @@
 -- Entries at rising positions, and one pass over them.
 use Prim.Native.Nat.{ℕ, zero, suc, _+_, _≤_, _<_}
-use mathlib.Core.Bool.{Bool, true, false, cond}
+use mathlib.Core.Bool.{Bool, true, false, not, cond}
 use mathlib.Core.List.{List, [], _∷_}
 use mathlib.Core.Logic.{inl, inr, ⊎-elim, _≢_}
 use mathlib.Core.Path.{_≡_, refl, sym, ap, subst, _∙_}
 use native.Mathlib.Decide.{ℕ-discrete}
 use native.Mathlib.Omega.{arith}
-use borrow.Author.Tests.{eqb-true, eqb-false}
+use borrow.Author.Tests.{eqb-false, ne-eqb, not-true}
 use lib.Dec.{T, eqb}
 use lib.Ieee.{Float}
 use lib.Signed.{ltZ}
@@ -15,7 +15,7 @@ use Rattle.entries.specs.Best.{In, Rest, IsBest, Best, Ranks}
 use Rattle.floats.specs.Key.{keyOf}
 use Rattle.entries.specs.Rank.{beatsOf}
 use Rattle.search.specs.Work.{passed, without, onePass, entryAt, IsEntry, entriesFrom}
-use Rattle.entries.proofs.BestLaws.{Fresh, best-ext}
+use Rattle.entries.proofs.BestLaws.{passing-in, in-passing, Fresh, best-ext}
 use Rattle.entries.proofs.RankLaws.{beats-transitive, ranks-apart, larger-beats, later-beats}
 
 -- ---- the entries of one score function
@@ -109,29 +109,18 @@ passed-best (e ∷ l) b r = go (ltZ (keyOf (e .score)) (keyOf (b .score))) refl 
     )
 
 without-in : (q : ℕ) (l : List Entry) (x : Entry) → In (without q l) x → In l x × (x .position ≢ q)
-without-in q [] x i = absurd i
-without-in q (e ∷ l) x i = go (eqb (e .position) q) refl (without-in q l x) i
-  where
-    go : (t : Bool) → eqb (e .position) q ≡ t → (In (without q l) x → In l x × (x .position ≢ q)) → In (cond t (without q l) (e ∷ without q l)) x → In (e ∷ l) x × (x .position ≢ q)
-    go true a r i = (inr (r i .0), r i .1)
-    go false a r (inl c) = (inl c, λ d. eqb-false (e .position) q a (ap (λ (z : Entry). z .position) (sym c) ∙ d))
-    go false a r (inr i) = (inr (r i .0), r i .1)
+without-in q l x i =
+    let p = passing-in (λ (e : Entry). not (eqb (e .position) q)) l x i in
+    (p .0, eqb-false (x .position) q (not-true (eqb (x .position) q) (p .1)))
 
 in-without : (q : ℕ) (l : List Entry) (x : Entry) → In l x → x .position ≢ q → In (without q l) x
-in-without q [] x i n = i
-in-without q (e ∷ l) x i n = go (eqb (e .position) q) refl (λ j. in-without q l x j n) i
-  where
-    go : (t : Bool) → eqb (e .position) q ≡ t → (In l x → In (without q l) x) → In (e ∷ l) x → In (cond t (without q l) (e ∷ without q l)) x
-    go true a r (inl c) = absurd (n (ap (λ (z : Entry). z .position) c ∙ eqb-true (e .position) q a))
-    go true a r (inr j) = r j
-    go false a r (inl c) = inl c
-    go false a r (inr j) = inr (r j)
+in-without q l x i n = in-passing (λ (e : Entry). not (eqb (e .position) q)) l x i (ap not (ne-eqb (x .position) q n))
 
 without-rises : (q : ℕ) (l : List Entry) (p : ℕ) → Rising p l → Rising p (without q l)
 without-rises q [] p r = tt
 without-rises q (e ∷ l) p r = go (eqb (e .position) q) (without-rises q l (suc (e .position)) (r .1))
   where
-    go : (t : Bool) → Rising (suc (e .position)) (without q l) → Rising p (cond t (without q l) (e ∷ without q l))
+    go : (t : Bool) → Rising (suc (e .position)) (without q l) → Rising p (cond (not t) (e ∷ without q l) (without q l))
     go true s = rising-down (without q l) (suc (e .position)) p (omega (arith, r .0)) s
     go false s = (r .0, s)
 

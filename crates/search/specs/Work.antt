@@ -1,12 +1,13 @@
 -- Scored positions: one pass over all of them, and partial results that have some rows of them. Over any score. Definitions only (RULES.md, T5, T6, T8, D3).
 use Prim.Native.Nat.{ℕ, zero, suc, _*_, _/_, _^_}
-use mathlib.Core.Bool.{Bool, cond}
+use mathlib.Core.Bool.{Bool, not, cond}
 use mathlib.Core.List.{List, [], _∷_}
 use mathlib.Core.Path.{_≡_}
 use lib.Bits.{bitOr}
 use lib.Dec.{T, eqb}
 use lib.Ieee.{Float}
 use lib.Signed.{ltZ}
+use Rattle.lists.specs.Lists.{passing}
 use Rattle.entries.specs.declared.entry.Entry.{Entry}
 use Rattle.entries.specs.Held.{mergedHeld}
 use Rattle.search.specs.Marks.{fullMarks}
@@ -21,8 +22,7 @@ passed b (e ∷ l) = passed (cond (ltZ (keyOf (e .score)) (keyOf (b .score))) b 
 
 -- the entries that are not at position p
 abbrev pub without : ℕ → List Entry → List Entry
-without p [] = []
-without p (e ∷ l) = cond (eqb (e .position) p) (without p l) (e ∷ without p l)
+without p l = passing (λ e. not (eqb (e .position) p)) l
 
 -- what one pass keeps, then what a pass over the rest keeps, and so on, k in all
 abbrev pub onePass : ℕ → List Entry → List Entry

@@ -1,10 +1,10 @@
 -- Merging two lists of entries: the best two of both.
 use Prim.Native.Nat.{ℕ, zero, suc}
-use mathlib.Core.Bool.{Bool, true, false, cond, _||_, true≢false}
+use mathlib.Core.Bool.{Bool, true, false, not, cond, _||_, true≢false}
 use mathlib.Core.List.{List, [], _∷_}
 use mathlib.Core.Logic.{_⊎_, inl, inr, ⊎-elim}
 use mathlib.Core.Path.{_≡_, refl, sym, ap, subst, _∙_}
-use borrow.Author.Tests.{eqb-true, eq-eqb}
+use borrow.Author.Tests.{eqb-true, eq-eqb, not-true}
 use lib.Dec.{T, eqb}
 use lib.Ieee.{Float}
 use Rattle.entries.specs.declared.entry.Entry.{Entry}
@@ -12,7 +12,7 @@ use Rattle.entries.specs.Best.{In, Or, Rest, Best, Ranks}
 use Rattle.entries.specs.Held.{holdsAt, fresh, mergedHeld}
 use Rattle.entries.specs.Rank.{beatsOf}
 use Rattle.search.specs.Work.{entryAt, IsEntry}
-use Rattle.entries.proofs.BestLaws.{Fresh, best-ext, best-in, best-unique, all-offered-best, absorbed}
+use Rattle.entries.proofs.BestLaws.{passing-in, in-passing, Fresh, best-ext, best-in, best-unique, all-offered-best, absorbed}
 use Rattle.entries.proofs.RankLaws.{ranks-apart}
 use Rattle.search.proofs.PassLaws.{ranks}
 use Rattle.search_laws.specs.Both.{Both, Ordered}
@@ -39,25 +39,16 @@ in-held-at (a ∷ l) x (inr i) = go (eqb (a .position) (x .position)) (in-held-a
 
 -- what is fresh is of the list, at a position that `own` does not hold
 fresh-in : (own l : List Entry) (x : Entry) → In (fresh own l) x → In l x × (holdsAt own (x .position) ≡ false)
-fresh-in own [] x i = absurd i
-fresh-in own (b ∷ l) x i = go (holdsAt own (b .position)) refl (fresh-in own l x) i
-  where
-    go : (t : Bool) → holdsAt own (b .position) ≡ t → (In (fresh own l) x → In l x × (holdsAt own (x .position) ≡ false)) → In (cond t (fresh own l) (b ∷ fresh own l)) x
-        → In (b ∷ l) x × (holdsAt own (x .position) ≡ false)
-    go true h r j = (inr (r j .0), r j .1)
-    go false h r (inl e) = (inl e, ap (λ (y : Entry). holdsAt own (y .position)) e ∙ h)
-    go false h r (inr j) = (inr (r j .0), r j .1)
+fresh-in own l x i =
+    let p = passing-in (λ (e : Entry). not (holdsAt own (e .position))) l x i in
+    (p .0, not-true (holdsAt own (x .position)) (p .1))
 
 in-fresh : (own l : List Entry) (x : Entry) → In l x → (holdsAt own (x .position) ≡ true) ⊎ In (fresh own l) x
-in-fresh own [] x i = absurd i
-in-fresh own (b ∷ l) x i = go (holdsAt own (b .position)) refl (in-fresh own l x) i
+in-fresh own l x i = go (holdsAt own (x .position)) refl
   where
-    go : (t : Bool) → holdsAt own (b .position) ≡ t → (In l x → (holdsAt own (x .position) ≡ true) ⊎ In (fresh own l) x) → In (b ∷ l) x
-        → (holdsAt own (x .position) ≡ true) ⊎ In (cond t (fresh own l) (b ∷ fresh own l)) x
-    go true h r (inl e) = inl (ap (λ (y : Entry). holdsAt own (y .position)) e ∙ h)
-    go true h r (inr j) = r j
-    go false h r (inl e) = inr (inl e)
-    go false h r (inr j) = ⊎-elim (λ k. inl k) (λ k. inr (inr k)) (r j)
+    go : (t : Bool) → holdsAt own (x .position) ≡ t → (holdsAt own (x .position) ≡ true) ⊎ In (fresh own l) x
+    go true e = inl e
+    go false e = inr (in-passing (λ (y : Entry). not (holdsAt own (y .position))) l x i (ap not e))
 
 -- what is left out of the best of a set has no repeat, and nothing of `own` in it
 fresh-fresh : (own : List Entry) (k : ℕ) (S : Entry → Type 0) (l h : List Entry) → Best beatsOf k S l
@@ -68,7 +59,7 @@ fresh-fresh own (suc k) S (q ∷ l) h b f =
     go (holdsAt own (q .position)) refl (fresh-fresh own k (Rest S q) l h (b .1) (λ x i s. f x i (s .0)))
     (fresh-fresh own k (Rest S q) l (q ∷ h) (b .1) (λ x i s. ⊎-elim (λ e. absurd (s .1 e)) (λ j. f x j (s .0)) i))
   where
-    go : (t : Bool) → holdsAt own (q .position) ≡ t → Fresh h (fresh own l) → Fresh (q ∷ h) (fresh own l) → Fresh h (cond t (fresh own l) (q ∷ fresh own l))
+    go : (t : Bool) → holdsAt own (q .position) ≡ t → Fresh h (fresh own l) → Fresh (q ∷ h) (fresh own l) → Fresh h (cond (not t) (q ∷ fresh own l) (fresh own l))
     go true e r s = r
     go false e r s = (λ i. absurd (subst T (sym (f q i (b .0 .0)) ∙ e) tt), s)
 
