@@ -1,7 +1,7 @@
 -- The pairs of a child, collected one by one as the code does. Assumes nothing.
 use Prim.Native.Nat.{ℕ, _+_, _≤_, _<_}
 use mathlib.Core.Path.{_≡_, refl, sym, ap, _∙_}
-use mathlib.Core.Bool.{Bool, true, false, cond, _||_, and-eq-true-iff}
+use mathlib.Core.Bool.{Bool, true, false, not, cond, _||_, and-eq-true-iff}
 use mathlib.Core.List.{List, [], _∷_, _++_, append-nil}
 use native.Mathlib.Numerals.{add-one}
 use native.Mathlib.Omega.{arith}
@@ -9,6 +9,7 @@ use borrow.Author.Tests.{eqb-true}
 use lib.Dec.{eqb}
 use lib.ListN.{length, take, drop, getD, drop-of-length-le}
 use lib.Seq.{length-take-le, drop-cons, getD-take}
+use Rattle.lists.proofs.PassingLaws.{passing-append}
 use Rattle.family.specs.declared.pair.Pair.{Pair}
 use Rattle.family.specs.Mendel.{pair}
 use Rattle.family.specs.Mendel.{samePair, among, withoutPair, distinct, pushed}
@@ -21,21 +22,12 @@ same-is p q e =
     let h = eqb-true (p .high) (q .high) (parts .1) in
     ap (λ x. record { low = x; high = p .high }) l ∙ ap (λ x. record { low = q .low; high = x }) h
 
-without-append : (p : Pair) (l m : List Pair) → withoutPair p (l ++ m) ≡ withoutPair p l ++ withoutPair p m
-without-append p [] m = refl
-without-append p (q ∷ l) m = go (samePair p q) (without-append p l m)
-  where
-    go : (b : Bool) → withoutPair p (l ++ m) ≡ withoutPair p l ++ withoutPair p m
-        → cond b (withoutPair p (l ++ m)) (q ∷ withoutPair p (l ++ m)) ≡ cond b (withoutPair p l) (q ∷ withoutPair p l) ++ withoutPair p m
-    go true e = e
-    go false e = ap (q ∷_) e
-
 -- to leave out q is to keep every other p
 pub among-without : (p q : Pair) (l : List Pair) → samePair q p ≡ false → among p (withoutPair q l) ≡ among p l
 among-without p q [] h = refl
 among-without p q (r ∷ l) h = go (samePair q r) refl (among-without p q l h)
   where
-    go : (b : Bool) → samePair q r ≡ b → among p (withoutPair q l) ≡ among p l → among p (cond b (withoutPair q l) (r ∷ withoutPair q l)) ≡ (samePair r p || among p l)
+    go : (b : Bool) → samePair q r ≡ b → among p (withoutPair q l) ≡ among p l → among p (cond (not b) (r ∷ withoutPair q l) (withoutPair q l)) ≡ (samePair r p || among p l)
     go true e k = k ∙ sym (ap (_|| among p l) (ap (λ x. samePair x p) (sym (same-is q r e)) ∙ h))
     go false e k = ap (samePair r p ||_) k
 
@@ -47,10 +39,10 @@ module _ (q p : Pair) (d : List Pair) where
 
   without-pushed : (b : Bool) → withoutPair q (cond b d (d ++ (p ∷ []))) ≡ cond b rest (rest ++ withoutPair q (p ∷ []))
   without-pushed true = refl
-  without-pushed false = without-append q d (p ∷ [])
+  without-pushed false = passing-append (λ r. not (samePair q r)) d (p ∷ [])
 
   -- with s: is p the first, a: is it among the others, b: among them without the first
-  by-cases : (s a b : Bool) → (s ≡ false → b ≡ a) → q ∷ cond a rest (rest ++ cond s [] (p ∷ [])) ≡ cond (s || b) (q ∷ rest) (q ∷ (rest ++ (p ∷ [])))
+  by-cases : (s a b : Bool) → (s ≡ false → b ≡ a) → q ∷ cond a rest (rest ++ cond (not s) (p ∷ []) []) ≡ cond (s || b) (q ∷ rest) (q ∷ (rest ++ (p ∷ [])))
   by-cases true true b k = refl
   by-cases true false b k = ap (q ∷_) (append-nil rest)
   by-cases false true b k = sym (ap (λ x. cond x (q ∷ rest) (q ∷ (rest ++ (p ∷ [])))) (k refl))

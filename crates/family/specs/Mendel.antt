@@ -1,10 +1,11 @@
 -- The Mendelian term. Definitions only (RULES.md, T3).
 use Prim.Native.Nat.{ℕ}
-use mathlib.Core.Bool.{Bool, false, cond, _&&_, _||_}
+use mathlib.Core.Bool.{Bool, false, not, cond, _&&_, _||_}
 use mathlib.Core.List.{List, [], _∷_, _++_}
 use lib.Dec.{eqb, leb}
 use lib.ListN.{length, take}
 use lib.Ieee.{Float}
+use Rattle.lists.specs.Lists.{passing}
 use Rattle.floats.specs.F64.{_⊘_, nat, decimal}
 use Rattle.kernels.specs.Ln.{lnOf}
 use Rattle.family.specs.declared.pair.Pair.{Pair}
@@ -27,8 +28,7 @@ among p (q ∷ l) = samePair q p || among p l
 
 -- the list without p
 abbrev pub withoutPair : Pair → List Pair → List Pair
-withoutPair p [] = []
-withoutPair p (q ∷ l) = cond (samePair p q) (withoutPair p l) (q ∷ withoutPair p l)
+withoutPair p l = passing (λ q. not (samePair p q)) l
 
 -- each pair of a list once, where it first stands
 abbrev pub distinct : List Pair → List Pair
