@@ -2,7 +2,8 @@
 ghost use mathlib.Core.Path.{_≡_};
 ghost use Prim.Native.Nat.{_≤_};
 ghost use Rattle.floats.specs.F64.{nat};
-ghost use Rattle.parts.specs.Part.{padded, freshPart, emptyPart, gives};
+ghost use Rattle.lists.specs.Lists.{padded};
+ghost use Rattle.parts.specs.Part.{freshPart, emptyPart, gives};
 ghost use Rattle.opening.specs.Opening.{openStep};
 ghost use lib.ListN.{length};
 use entries::held::Held;

@@ -4,6 +4,7 @@ use mathlib.Core.Bool.{Bool, true, false, _&&_}
 use mathlib.Core.List.{List, [], _∷_, map}
 use lib.Dec.{eqb, leb}
 use lib.Ieee.{Float, binary64, toBits}
+use Rattle.lists.specs.Lists.{padded}
 use Rattle.floats.specs.F64.{nat}
 use Rattle.limits.specs.Limits.{inRange, countAllowed}
 use Rattle.entries.specs.Held.{heldOf, heldList}
@@ -71,13 +72,7 @@ rightPart p = inputRight p && workRight (rowCount p) (p .marks) (p .held)
 
 -- ---- parts of given lists
 
--- the first k of a list, filled up with z
-abbrev pub padded : {A : Type 0} → ℕ → A → List A → List A
-padded zero z l = []
-padded (suc k) z [] = z ∷ padded k z []
-padded (suc k) z (x ∷ l) = x ∷ padded k z l
-
--- an input with no row worked
+-- an input with no row worked, for at most 24 counts and 8 weights
 abbrev pub freshPart : ℕ → List ℕ → List Float → Part
 freshPart n counts weights =
     record { clusters = n; counts = padded 24 0 counts; weights = padded 8 (nat 0) weights; marks = noWork .marks; held = heldOf (noWork .held) }

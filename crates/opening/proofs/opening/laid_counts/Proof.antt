@@ -3,7 +3,7 @@ use Prim.Native.Nat.{_≤_, _-_}
 use mathlib.Core.Path.{_≡_, ap, _∙_}
 use lib.ListN.{length, getD, take, set}
 use lib.Seq.{take-all}
-use Rattle.parts.specs.Part.{padded}
+use Rattle.lists.specs.Lists.{padded}
 use Rattle.opening.proofs.OpenLaws.{laid-more}
 use borrow.Author.Needs.{needs}
 use native.Mathlib.Omega.{arith}

@@ -5,7 +5,7 @@ use lib.Ieee.{nan, round, ofInt, ofBits}
 use Rattle.floats.specs.F64.{nat}
 use lib.ListN.{length, getD, take, set}
 use lib.Seq.{take-all}
-use Rattle.parts.specs.Part.{padded}
+use Rattle.lists.specs.Lists.{padded}
 use Rattle.opening.proofs.OpenLaws.{laid-more}
 use borrow.Author.Needs.{needs}
 use native.Mathlib.Omega.{arith}
