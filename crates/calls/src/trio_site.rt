@@ -9,13 +9,13 @@ use crate::numbers::read_weights;
 use crate::numbers::short_whole;
 use crate::sites::End;
 use crate::sites::TAB;
+use closings::closing::Closed;
 use desks::call::call;
 use family::ground::Ground;
 use reading::fields::field;
 use reading::fields::next_field;
 use reading::wholes::Whole;
-use trio::closing::Closed;
-use trio::genotypes::triple_of;
+use triples::genotypes::triple_of;
 use writing::laying::lay;
 
 // The name of a ground behind a tab, in a row of eight, zeros behind it.

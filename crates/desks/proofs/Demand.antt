@@ -15,7 +15,8 @@ use Rattle.parts.specs.declared.part.Part.{Part}
 use Rattle.parts.specs.declared.part.Stepped.{Stepped}
 use Rattle.parts.specs.Part.{inputRight, rowCount, withWork, rightPart, freshPart}
 use Rattle.opening.specs.Opening.{openStep}
-use Rattle.trio.specs.Steps.{scoreIn, rowsIn, refusedClosing, closeStep}
+use Rattle.trio.specs.Steps.{scoreIn, rowsIn}
+use Rattle.closings.specs.Closing.{refusedClosing, closeStep}
 use Rattle.desks.specs.Call.{calledBy, callOf, workedTo}
 use Rattle.desks.specs.History.{History, merged, partOf, rowsOf, Promised}
 use Rattle.desks.proofs.Inputs.{scores-numbers}

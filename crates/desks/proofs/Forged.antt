@@ -31,15 +31,16 @@ use Rattle.search_laws.proofs.KeepLaws.{first-held, joined-right}
 use Rattle.search_laws.proofs.ReworkLaws.{worked-last, reworked-rising}
 use Rattle.search_laws.proofs.ShapeLaws.{and-true, and-both, Shaped, right-shaped, full-holds, held-back, work-right}
 use Rattle.search_laws.proofs.WorkLaws.{row-sound}
-use Rattle.trio.specs.declared.closing.Closed.{Closed}
+use Rattle.closings.specs.declared.closing.Closed.{Closed}
 use Rattle.family.specs.declared.pair.Triple.{Triple}
 use Rattle.family.specs.declared.sample.Sample.the-variants.{Child}
 use Rattle.parts.specs.declared.part.Part.{Part}
 use Rattle.family.specs.Genotypes.{genotypeCount}
-use Rattle.trio.specs.Genotypes.{genotypeAt, rowWidth, tripleAt}
+use Rattle.triples.specs.Genotypes.{genotypeAt, rowWidth, tripleAt, tripleOf}
 use Rattle.parts.specs.Part.{weightAllowed, inputRight, sameInput, rowCount, workIn, rightPart, freshPart, emptyPart, withWork, gives}
 use Rattle.samples.specs.Samples.{columnTotal}
-use Rattle.trio.specs.Steps.{scoreIn, unread, rowsIn, rowStep, mergeStep, closedAs, refusedClosing, closeStep}
+use Rattle.trio.specs.Steps.{scoreIn, rowsIn, rowStep, mergeStep}
+use Rattle.closings.specs.Closing.{unread, closedAs, refusedClosing, closeStep}
 use Rattle.desks.specs.Call.{onePassCall, workedTo}
 use Rattle.desks.proofs.Inputs.{input-accepted, scores-numbers}
 use Rattle.desks.proofs.ScoreBounds.{unread-least}
@@ -220,7 +221,7 @@ abbrev allele : Closed → ℕ
 allele c = c .triple .child .low
 
 forged-calls : allele (closedAs forged) ≡ 0
-unfolding closedAs tripleAt genotypeAt genotypeCount forged
+unfolding closedAs tripleOf tripleAt genotypeAt genotypeCount forged
 forged-calls = refl
 
 one-pass-calls : allele (onePassCall (freshPart 2 [] [])) ≡ 1

@@ -20,9 +20,10 @@ use Rattle.search_laws.proofs.ShapeLaws.{and-true, and-both, Shaped, right-shap
 use Rattle.search_laws.proofs.WorkLaws.{none-sound, row-sound, joined-sound, sound-full, sound-not-full, sound-all}
 use Rattle.parts.specs.declared.part.Part.{Part}
 use Rattle.parts.specs.declared.part.Stepped.{Stepped}
-use Rattle.trio.specs.Genotypes.{rowWidth}
+use Rattle.triples.specs.Genotypes.{rowWidth}
 use Rattle.parts.specs.Part.{sameNumbers, inputRight, sameInput, rowCount, workIn, withWork, rightPart, gives}
-use Rattle.trio.specs.Steps.{scoreIn, rowStep, mergeStep, closedAs, refusedClosing, closeStep}
+use Rattle.trio.specs.Steps.{scoreIn, rowStep, mergeStep}
+use Rattle.closings.specs.Closing.{closedAs, refusedClosing, closeStep}
 use Rattle.desks.specs.Call.{onePassCall}
 use Rattle.desks.specs.History.{History, opened, worked, merged, mergedOther, closed, partOf, rowsOf, Later, itself, then-worked, then-merged, merged-into, then-refused, then-closed, Promised}
 

@@ -11,7 +11,8 @@ use lib.Ieee.{isNan}
 use Rattle.search.specs.Work.{noWork}
 use Rattle.parts.specs.declared.part.Part.{Part}
 use Rattle.parts.specs.Part.{rowCount, withWork, rightPart}
-use Rattle.trio.specs.Steps.{scoreIn, rowsIn, rowStep, closeStep}
+use Rattle.trio.specs.Steps.{scoreIn, rowsIn, rowStep}
+use Rattle.closings.specs.Closing.{closeStep}
 use Rattle.desks.specs.Call.{onePassCall, workedTo}
 use Rattle.desks.specs.History.{History, opened, worked, partOf, rowsOf}
 use Rattle.desks.proofs.Promises.{promised}

@@ -2,7 +2,7 @@
 -- Assumes nothing.
 use Prim.Native.Nat.{ℕ, suc-le-suc, _/_, _%_, _^_, _<_}
 use native.Mathlib.Omega.{arith}
-use mathlib.Core.Path.{_≡_, refl, subst, _∙_}
+use mathlib.Core.Path.{_≡_, refl, ap, subst, _∙_}
 use mathlib.Core.Bool.{Bool, true, false, cond}
 use mathlib.Core.List.{List}
 use lib.Dec.{T, lit≤, lit<}
@@ -20,11 +20,12 @@ use Rattle.family.specs.declared.pair.Pair.{Pair}
 use Rattle.family.specs.declared.sample.Sample.{Sample}
 use Rattle.family.specs.declared.sample.Sample.the-variants.{Child, Father, Mother}
 use Rattle.family.specs.Genotypes.{genotypeCount}
-use Rattle.trio.specs.Genotypes.{rowWidth, genotypeAt, tripleAt}
+use Rattle.triples.specs.Genotypes.{rowWidth, genotypeAt, tripleAt}
 use Rattle.family.specs.Mendel.{ordered, among, childPairs, mendelTerm}
 use Rattle.lists.specs.Lists.{numbers}
 use Rattle.samples.specs.Samples.{columnTotal, sampleScore}
-use Rattle.trio.specs.Score.{tripleScore, scoreOf}
+use Rattle.triples.specs.Score.{tripleScore, scoreOf}
+use Rattle.triples.proofs.GenotypesLaws.{triple-within}
 use Rattle.desks.specs.Accepted.{Accepted}
 use Rattle.limits.specs.Every.{every}
 use Rattle.desks.proofs.Every.{every-between}
@@ -97,7 +98,7 @@ module _ (n : ℕ) (counts : List ℕ) (weights : List Float) (a : Accepted n co
 
   score-is : scoreOf n counts weights p ≡ of Father father ⊕ of Mother mother ⊕ of Child child ⊕ term
   unfolding tripleScore tripleAt
-  score-is = refl
+  score-is = ap (tripleScore n counts weights) (triple-within n p (a .some) (a .few))
 
   parents-low : Low (2 ^ 41) (of Father father ⊕ of Mother mother)
   parents-low = low-add (low Father father) (low Mother mother) (lit≤ tt)

@@ -10,7 +10,7 @@ use lib.Seq.{getD-append-add}
 use Rattle.family.specs.declared.pair.Pair.{Pair}
 use Rattle.family.specs.declared.pair.Triple.{Triple}
 use Rattle.family.specs.Genotypes.{genotypes, genotypeCount}
-use Rattle.trio.specs.Genotypes.{genotypeAt, rowWidth, tripleAt, each, triples}
+use Rattle.triples.specs.Genotypes.{genotypeAt, rowWidth, tripleAt, each, triples}
 use Rattle.family.specs.Mendel.{pair}
 use Rattle.family.proofs.GenotypesLaws.{genotype-count}
 

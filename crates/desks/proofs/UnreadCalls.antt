@@ -22,12 +22,13 @@ use Rattle.family.specs.declared.sample.Sample.{Sample}
 use Rattle.family.specs.declared.sample.Sample.the-variants.{Child, Father, Mother}
 use Rattle.family.specs.Numbers.{sampleNumber}
 use Rattle.family.specs.Genotypes.{genotypeCount}
-use Rattle.trio.specs.Genotypes.{genotypeAt, rowWidth, tripleAt}
+use Rattle.triples.specs.Genotypes.{genotypeAt, rowWidth, tripleAt, tripleOf}
 use Rattle.lists.specs.Lists.{numbers}
 use Rattle.samples.specs.Samples.{inUse, reads, sum, columnTotal}
 use Rattle.parts.specs.Part.{inputRight, rowCount, rightPart, padded, freshPart}
 use Rattle.opening.specs.Opening.{openStep}
-use Rattle.trio.specs.Steps.{scoreIn, unread, groundOf, closedAs}
+use Rattle.trio.specs.Steps.{scoreIn}
+use Rattle.closings.specs.Closing.{unread, groundOf, closedAs}
 use Rattle.desks.specs.Call.{onePassCall, calledBy, callOf}
 use Rattle.desks.specs.UnreadCall.{lastTriple, LastUnread}
 use Rattle.desks.proofs.Flat.{flat-pass}
@@ -36,8 +37,8 @@ use Rattle.desks.proofs.Opening.{opened-tells, opened-is, padded-length
 use Rattle.desks.proofs.ScoreBounds.{unread-least}
 
 -- the last position has the last genotype three times
-last-triple : (n : ℕ) → 1 ≤ n → n ≤ 8 → tripleAt n (genotypeCount n * rowWidth n - 1) ≡ lastTriple n
-unfolding tripleAt genotypeAt genotypeCount
+last-triple : (n : ℕ) → 1 ≤ n → n ≤ 8 → tripleOf n (genotypeCount n * rowWidth n - 1) ≡ lastTriple n
+unfolding tripleOf tripleAt genotypeAt genotypeCount
 last-triple zero s h = absurd (omega arith)
 last-triple (suc zero) s h = refl
 last-triple (suc (suc zero)) s h = refl
@@ -76,7 +77,7 @@ module _ (start : Part) (many : 2 ≤ start .clusters) (few : start .clusters �
       record {
         is-done = refl;
         at = ap (λ (l : List Entry). heldOf l .first .position) held-is;
-        triple-is = ap (λ (l : List Entry). tripleAt n (heldOf l .first .position)) held-is ∙ last-triple n (omega arith) few;
+        triple-is = ap (λ (l : List Entry). tripleOf n (heldOf l .first .position)) held-is ∙ last-triple n (omega arith) few;
         score-is = ap (λ (l : List Entry). heldOf l .first .score) held-is ∙ least (genotypeCount n * rowWidth n - 1);
         ground-is = rw none-read;
       }

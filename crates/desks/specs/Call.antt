@@ -6,13 +6,14 @@ use lib.Dec.{eqb}
 use lib.Ieee.{Float}
 use Rattle.refusals.specs.Refusals.{numberOf}
 use Rattle.search.specs.Work.{wholeWork}
-use Rattle.trio.specs.declared.closing.Closed.{Closed}
+use Rattle.closings.specs.declared.closing.Closed.{Closed}
 use Rattle.parts.specs.declared.part.Part.{Part}
 use Rattle.parts.specs.declared.part.Stepped.{Stepped}
-use Rattle.trio.specs.Genotypes.{rowWidth}
+use Rattle.triples.specs.Genotypes.{rowWidth}
 use Rattle.parts.specs.Part.{rowCount, withWork}
 use Rattle.opening.specs.Opening.{openStep}
-use Rattle.trio.specs.Steps.{scoreIn, rowStep, closedAs, refusedClosing}
+use Rattle.trio.specs.Steps.{scoreIn, rowStep}
+use Rattle.closings.specs.Closing.{closedAs, refusedClosing}
 
 -- what one undivided pass over the input of a part says: it keeps the best triple and the best of the rest, a later equal score replacing an earlier one
 abbrev pub onePassCall : Part → Closed

@@ -10,9 +10,10 @@ use Rattle.search.specs.Marks.{isMarked}
 use Rattle.entries.specs.Rank.{beatsOf}
 use Rattle.search.specs.Work.{Within}
 use Rattle.parts.specs.declared.part.Part.{Part}
-use Rattle.trio.specs.Genotypes.{rowWidth}
+use Rattle.triples.specs.Genotypes.{rowWidth}
 use Rattle.parts.specs.Part.{rowCount, sameInput, rightPart, gives}
-use Rattle.trio.specs.Steps.{scoreIn, rowStep, mergeStep, closeStep, refusedClosing}
+use Rattle.trio.specs.Steps.{scoreIn, rowStep, mergeStep}
+use Rattle.closings.specs.Closing.{closeStep, refusedClosing}
 use Rattle.desks.specs.Call.{onePassCall}
 
 -- what desks do with the parts of one input, `start` being the part that opening it gave

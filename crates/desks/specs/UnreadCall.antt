@@ -4,11 +4,11 @@ use mathlib.Core.Path.{_≡_}
 use lib.Ieee.{inf}
 use mathlib.Core.Bool.{true}
 use Rattle.refusals.specs.declared.Refusal.the-variants.{Done}
-use Rattle.trio.specs.declared.closing.Closed.{Closed}
+use Rattle.closings.specs.declared.closing.Closed.{Closed}
 use Rattle.family.specs.declared.ground.Ground.the-variants.{Unread}
 use Rattle.family.specs.declared.pair.Triple.{Triple}
 use Rattle.family.specs.Genotypes.{genotypeCount}
-use Rattle.trio.specs.Genotypes.{rowWidth}
+use Rattle.triples.specs.Genotypes.{rowWidth}
 use Rattle.family.specs.Mendel.{pair}
 
 -- every animal with the last genotype: both alleles name the last cluster

@@ -2,11 +2,11 @@
 ghost use mathlib.Core.Path.{_≡_};
 ghost use Rattle.trio.specs.Steps.{rowsIn};
 ghost use Rattle.desks.specs.Call.{callOf, workedTo};
+use closings::closing::Closed;
+use closings::closing::close;
+use closings::closing::refused_closing;
 use opening::opening::open_part;
 use parts::part::Part;
-use trio::closing::Closed;
-use trio::closing::close;
-use trio::closing::refused_closing;
 use trio::rows::row_count;
 use trio::rows::work_row;
 

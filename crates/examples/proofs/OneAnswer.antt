@@ -42,14 +42,14 @@ use Rattle.samples.proofs.samples.compute_log_likelihood.Reads as compute-log-l
 use Rattle.parts.proofs.part.Part.empty.Reads as part-empty
 use Rattle.parts.proofs.shape.right_part.Reads as right-part
 use Rattle.parts.proofs.shape.same_input.Reads as same-input
-use Rattle.trio.proofs.animal.sample_score.Reads as sample-score
+use Rattle.closings.proofs.animal.sample_score.Reads as sample-score
 use Rattle.opening.proofs.opening.open_part.Reads as open-part
 use Rattle.trio.proofs.rows.row_count.Reads as row-count
 use Rattle.trio.proofs.rows.work_row.Reads as work-row
 use Rattle.trio.proofs.merging.merge.Reads as merge
 use Rattle.family.proofs.ground.ground_number.Reads as ground-number
-use Rattle.trio.proofs.closing.refused_closing.Reads as refused-closing
-use Rattle.trio.proofs.closing.close.Reads as close
+use Rattle.closings.proofs.closing.refused_closing.Reads as refused-closing
+use Rattle.closings.proofs.closing.close.Reads as close
 use Rattle.desks.proofs.call.call.Reads as call
 use Rattle.stirlings.proofs.stirling.stirling.Reads as stirling
 use Rattle.stirlings.proofs.stirling.ln_factorial.Reads as ln-factorial
@@ -68,7 +68,8 @@ use Rattle.kernel_exports.proofs.admulfas_stirling.Reads as c-stirling
 use Rattle.exports.proofs.diploid_call.admulfas_diploid.Reads as c-diploid
 use Rattle.exports.proofs.trio_call.admulfas_trio.Reads as c-trio
 use Rattle.exports.proofs.mosaic_call.admulfas_mosaic.Reads as c-mosaic
-use Rattle.trio.proofs.genotypes.triple_of.Reads as triple-of
+use Rattle.triples.proofs.genotypes.triple_of.Reads as triple-of
+use Rattle.triples.proofs.score.score_at.Reads as score-at
 use Rattle.reading.proofs.fields.field_end.Reads as field-end
 use Rattle.reading.proofs.fields.field.Reads as field
 use Rattle.reading.proofs.fields.next_field.Reads as next-field
@@ -227,6 +228,9 @@ column-total-once κ a v w e f = only
 
 pub compute-log-likelihood-once : OneAnswer compute-log-likelihood.Post
 compute-log-likelihood-once κ a v w e f = only
+
+pub score-at-once : OneAnswer score-at.Post
+score-at-once κ a v w e f = only
 
 pub part-empty-once : OneAnswer part-empty.Post
 part-empty-once κ a v w e f = only

@@ -11,11 +11,11 @@ use Rattle.kernels.specs.Ln.{lnOf}
 use Rattle.kernels.specs.Exp.{expOf}
 use Rattle.refusals.specs.declared.Refusal.the-variants.{Done}
 use Rattle.refusals.specs.Refusals.{numberOf}
-use Rattle.trio.specs.declared.closing.Closed.{Closed}
+use Rattle.closings.specs.declared.closing.Closed.{Closed}
 use Rattle.family.specs.declared.ground.Ground.the-variants.{Unread}
 use Rattle.family.specs.declared.sample.Sample.the-variants.{Mother}
 use Rattle.family.specs.Genotypes.{genotypeCount}
-use Rattle.trio.specs.Genotypes.{triples}
+use Rattle.triples.specs.Genotypes.{triples}
 use Rattle.family.specs.Mendel.{pair, childPairs}
 use Rattle.samples.specs.Samples.{columnTotal}
 use Rattle.opening.specs.Opening.{openStep}

@@ -6,7 +6,7 @@ use mathlib.Core.List.{List, [], _∷_}
 use lib.Ieee.{Float}
 use Rattle.refusals.specs.Refusals.{numberOf}
 use Rattle.family.specs.declared.pair.Triple.{Triple}
-use Rattle.trio.specs.declared.closing.Closed.{Closed}
+use Rattle.closings.specs.declared.closing.Closed.{Closed}
 use Rattle.family.specs.Numbers.{groundNumber}
 
 -- the pairs of child, father and mother

@@ -1,3 +1,4 @@
 -- What belongs to no one function of `parts`.
 pub mod PlacesLaws
+pub mod RightLaws
 pub mod SameLaws

@@ -11,7 +11,7 @@ use Rattle.search.specs.Marks.{marked}
 use Rattle.search.specs.Work.{Work, joined, rowWork}
 use Rattle.search_laws.proofs.BestCode.{pass-back}
 use Rattle.parts.specs.declared.part.Part.{Part}
-use Rattle.trio.specs.Genotypes.{rowWidth}
+use Rattle.triples.specs.Genotypes.{rowWidth}
 use Rattle.parts.specs.Part.{rowCount, workIn, withWork, rightPart, gives}
 use Rattle.trio.specs.Steps.{scoreIn, rowStep}
 

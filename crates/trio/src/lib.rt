@@ -1,7 +1,3 @@
-// The trio genotyper: the best pairs of child, father and mother, searched in rows that desks may share.
-pub mod animal;
-pub mod closing;
-pub mod genotypes;
+// The trio genotyper's search, in rows that desks may share: working a row, and merging two parts.
 pub mod merging;
 pub mod rows;
-pub mod score;

@@ -3,11 +3,10 @@ ghost use mathlib.Core.Path.{_≡_};
 ghost use Prim.Native.Nat.{_+_, _*_, _≤_, _<_, _^_};
 ghost use Rattle.entries.specs.Held.{heldOf};
 ghost use Rattle.search.specs.Work.{onePass, entriesFrom, rowWork};
-ghost use Rattle.trio.specs.Score.{scoreOf};
 ghost use Rattle.parts.specs.Part.{withWork};
+ghost use Rattle.triples.specs.Score.{scoreOf};
 ghost use Rattle.trio.specs.Steps.{rowsIn, rowStep};
 use crate::merging::joined;
-use crate::score::score_at;
 use entries::entry::Entry;
 use entries::held::Held;
 use entries::held::offer;
@@ -17,10 +16,11 @@ use parts::part::Stepped;
 use parts::shape::right_part;
 use refusals::Refusal;
 use search::marks::row_marked;
+use triples::score::score_at;
 
 // The best two of `many` positions from `from` on.
 fn best_of(clusters: u64, counts: [u32; 24], weights: [f64; 8], from: u64, many: u64) -> Held
-    requires { ⌜ ((1 ≤ clusters) × (clusters ≤ 8)) × (from + many < 2 ^ 64) ⌝ }
+    requires { ⌜ from + many < 2 ^ 64 ⌝ }
     ensures { λ r. ⌜ r ≡ heldOf (onePass 2 (entriesFrom (scoreOf clusters counts weights) from many)) ⌝ }
 {
     let mut h = Held::nothing();
@@ -36,7 +36,7 @@ fn best_of(clusters: u64, counts: [u32; 24], weights: [f64; 8], from: u64, many:
 
 // The input of p, marked with row r alone, one of g, and holding its best two.
 fn row_part(p: Part, r: u64, g: u64) -> Part
-    requires { ⌜ (((1 ≤ p .clusters) × (p .clusters ≤ 8)) × (r < g)) × (g ≤ 36) ⌝ }
+    requires { ⌜ (r < g) × (g ≤ 36) ⌝ }
     ensures { λ q. ⌜ q ≡ withWork p (rowWork (g * g) (scoreOf (p .clusters) (p .counts) (p .weights)) r) ⌝ }
 {
     let counts = p.counts;

@@ -6,14 +6,14 @@ use crate::words;
 use crate::write;
 use crate::write::Out;
 use crate::write::Text;
+use closings::animal;
+use closings::closing::Closed;
 use family::ground;
 use family::mendel;
 use family::pair::Pair;
 use family::sample::Sample;
 use opening::opening::open_part;
 use parts::part::Stepped;
-use trio::animal;
-use trio::closing::Closed;
 
 // A pair, and where the next word starts.
 struct ReadPair {

@@ -3,7 +3,8 @@ use mathlib.Core.Path.{sym, ap, _∙_}
 use borrow.Author.Needs.{needs}
 use Rattle.refusals.specs.Refusals.{numberOf}
 use Rattle.parts.specs.declared.part.Stepped.{Stepped}
-use Rattle.trio.specs.Steps.{rowsIn, refusedClosing, closeStep}
+use Rattle.trio.specs.Steps.{rowsIn}
+use Rattle.closings.specs.Closing.{refusedClosing, closeStep}
 use Rattle.desks.specs.Call.{workedTo}
 use Rattle.desks.proofs.Demand.{worked-call, refused-call}
 use Rattle.desks.proofs.call.call.Statement.{statement}

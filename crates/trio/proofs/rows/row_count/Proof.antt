@@ -4,8 +4,8 @@ use mathlib.Core.Path.{_≡_, sym, _∙_}
 use native.Mathlib.Omega.{arith}
 use borrow.Author.Needs.{needs}
 use Rattle.parts.specs.Part.{rightPart}
+use Rattle.parts.proofs.RightLaws.{few-clusters}
 use Rattle.trio.specs.Steps.{rowsIn}
-use Rattle.trio.proofs.ShapeCode.{few-clusters}
 use Rattle.trio.proofs.rows.row_count.Statement.{statement}
 use Rattle.trio.proofs.rows.row_count.Tie as tie
 

@@ -8,20 +8,20 @@ use Rattle.trio.proofs.rows.row_part.Tie as tie
 mul-many : tie.Need-mul-many
 mul-many c =
     let a = c .before .before .args in
-    let e = row-end (a .r) (a .g) (c .before .before .pre .0 .1) (c .before .before .pre .1) in
+    let e = row-end (a .r) (a .g) (c .before .before .pre .0) (c .before .before .pre .1) in
     omega arith
 
 mul-best-of : tie.Need-mul-best-of
 mul-best-of c =
     let a = c .before .before .args in
-    let e = row-end (a .r) (a .g) (c .before .before .pre .0 .1) (c .before .before .pre .1) in
+    let e = row-end (a .r) (a .g) (c .before .before .pre .0) (c .before .before .pre .1) in
     omega arith
 
 best-of-requires : tie.Need-best-of-requires
 best-of-requires c κs =
     let a = c .before .before .args in
-    let e = row-end (a .r) (a .g) (c .before .before .pre .0 .1) (c .before .before .pre .1) in
-    (c .before .before .pre .0 .0, omega arith)
+    let e = row-end (a .r) (a .g) (c .before .before .pre .0) (c .before .before .pre .1) in
+    omega arith
 
 row-marked-requires : tie.Need-row-marked-requires
 row-marked-requires c κs = search needs

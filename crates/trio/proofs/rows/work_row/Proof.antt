@@ -6,10 +6,10 @@ use native.Mathlib.Omega.{arith}
 use borrow.Author.Needs.{needs}
 use borrow.Author.Tests.{le-ltb}
 use Rattle.parts.specs.Part.{rowCount, rightPart}
+use Rattle.parts.proofs.RightLaws.{few-clusters}
 use Rattle.trio.specs.Steps.{rowStep}
 use Rattle.trio.proofs.RowCode.{row-done}
 use Rattle.family.proofs.GenotypesLaws.{genotypes-few}
-use Rattle.trio.proofs.ShapeCode.{some-clusters, few-clusters}
 use Rattle.trio.proofs.rows.work_row.Statement.{statement}
 use Rattle.trio.proofs.rows.work_row.Tie as tie
 
@@ -29,7 +29,7 @@ row-part-requires : tie.Need-row-part-requires
 row-part-requires c κs =
     let p = c .before .before .before .before .before .args .p in
     let t = right (c .before .before .before) in
-    (((some-clusters p t, few-clusters p t), c .if2 .taken), subst (λ (n : ℕ). n ≤ 36) (sym (c .before .genotype-count .ensures)) (genotypes-few (p .clusters) (few-clusters p t)))
+    (c .if2 .taken, subst (λ (n : ℕ). n ≤ 36) (sym (c .before .genotype-count .ensures)) (genotypes-few (p .clusters) (few-clusters p t)))
 
 joined-requires : tie.Need-joined-requires
 joined-requires c κs = search needs

@@ -1,0 +1,19 @@
+-- What the right shape of a part gives.
+use Prim.Native.Nat.{_≤_}
+use mathlib.Core.Bool.{true}
+use mathlib.Core.Path.{_≡_}
+use mathlib.Mathlib.Data.Bool.Basic.{and-elim-left, and-elim-right}
+use borrow.Author.Tests.{leb-true}
+use lib.Dec.{leb}
+use Rattle.search.specs.Shape.{workRight}
+use Rattle.parts.specs.declared.part.Part.{Part}
+use Rattle.parts.specs.Part.{inputRight, rowCount, rightPart}
+
+module _ (p : Part) (right : rightPart p ≡ true) where
+  right-input : inputRight p ≡ true
+  unfolding rightPart
+  right-input = and-elim-left (inputRight p) (workRight (rowCount p) (p .marks) (p .held)) right
+
+  pub few-clusters : p .clusters ≤ 8
+  unfolding inputRight
+  few-clusters = leb-true (p .clusters) 8 (and-elim-left (leb (p .clusters) 8) _ (and-elim-right (leb 1 (p .clusters)) _ right-input))
