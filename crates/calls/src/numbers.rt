@@ -2,12 +2,12 @@
 ghost use Prim.Native.Nat.{_≤_};
 ghost use lib.ListN.{length};
 use crate::sites::TAB;
-use reading::decimals::Decimal;
-use reading::decimals::read_decimal;
+use numerals::decimals::Decimal;
+use numerals::decimals::read_decimal;
+use numerals::wholes::Whole;
+use numerals::wholes::read_whole;
 use reading::fields::field;
 use reading::fields::next_field;
-use reading::wholes::Whole;
-use reading::wholes::read_whole;
 
 pub enum Count {
     Is(u32),

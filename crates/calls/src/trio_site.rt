@@ -12,9 +12,9 @@ use crate::sites::TAB;
 use closings::closing::Closed;
 use desks::call::call;
 use family::ground::Ground;
+use numerals::wholes::Whole;
 use reading::fields::field;
 use reading::fields::next_field;
-use reading::wholes::Whole;
 use triples::genotypes::triple_of;
 use writing::laying::lay;
 

@@ -1,4 +1,4 @@
--- Walking alleles, or hypotheses, in rising order. Definitions only.
+-- Walking alleles, or hypotheses, in rising order, as M1 to M8 ask it (RULES.md). Definitions only.
 use Prim.Native.Nat.{ℕ, zero, suc}
 use mathlib.Core.List.{List}
 use lib.ListN.{set}

@@ -1,5 +1,3 @@
 -- The laws of `reading`.
 pub mod FieldLaws
-pub mod WholeLaws
-pub mod DecimalLaws
 pub mod NameLaws

@@ -1,6 +1,6 @@
 -- Names as numbers, byte by byte. Assumes nothing.
 use mathlib.Core.Path.{_≡_, sym, ap, _∙_}
-use mathlib.Core.Bool.{Bool, true, false, not, _&&_}
+use mathlib.Core.Bool.{true, false, not}
 use mathlib.Core.List.{List, [], _∷_}
 use Prim.Native.Nat.{ℕ, suc, _+_, _*_, _^_, _≤_, _<_}
 use native.Mathlib.Nat.{le-trans, zero-lt-suc, mul-le-mul-right, pow-suc, pow-le-pow-right}
@@ -10,7 +10,9 @@ use borrow.Author.Tests.{eq-eqb, ne-eqb, le-leb, lt-leb}
 use lib.Dec.{lit≤}
 use lib.ListN.{length, getD, drop, drop-of-length-le}
 use lib.Seq.{drop-cons}
-use Rattle.reading.specs.Names.{noZero, packedFrom, packedOf}
+use Rattle.limits.specs.Every.{every}
+use Rattle.limits.proofs.EveryLaws.{every-more, every-bad, every-end}
+use Rattle.reading.specs.Names.{notZero, packedFrom, packedOf}
 
 pub packed-long : (l : List ℕ) → 8 < length l → 0 ≡ packedOf l
 unfolding packedOf
@@ -19,7 +21,7 @@ packed-long l h = rw (lt-leb (length l) 8 h)
 -- the first i bytes are none of them 0, and make n
 pub record Packing (l : List ℕ) (n i : ℕ) : Type 0 where
   pub within : i ≤ length l
-  pub none : noZero (drop i l) ≡ noZero l
+  pub none : every notZero (drop i l) ≡ every notZero l
   pub same : packedFrom n (drop i l) ≡ packedFrom 0 l
   pub fits : n < 256 ^ i
 
@@ -37,7 +39,7 @@ module _ (l : List ℕ) (n i : ℕ) (short : length l ≤ 8) (p : Packing l n i)
   pub packed-on : i < length l → getD l i 0 < 256 → (getD l i 0 ≡ 0 → ⊥) → Packing l (n * 256 + getD l i 0) (i + 1)
   packed-on h b z = record {
     within = omega arith;
-    none = ap (λ (t : Bool). not t && noZero (drop (i + 1) l)) (sym (ne-eqb (getD l i 0) 0 z)) ∙ sym (ap noZero (at h)) ∙ p .none;
+    none = every-more notZero 0 l i h (ap not (ne-eqb (getD l i 0) 0 z)) ∙ p .none;
     same = sym (ap (packedFrom n) (at h)) ∙ p .same;
     fits = rw (add-one i) (next b);
   }
@@ -45,12 +47,12 @@ module _ (l : List ℕ) (n i : ℕ) (short : length l ≤ 8) (p : Packing l n i)
   pub packed-no : i < length l → getD l i 0 ≡ 0 → 0 ≡ packedOf l
   unfolding packedOf
   packed-no h z =
-      let zero-there : noZero l ≡ false = sym (p .none) ∙ ap noZero (at h) ∙ ap (λ (t : Bool). not t && noZero (drop (i + 1) l)) (eq-eqb (getD l i 0) 0 z) in
+      let zero-there : every notZero l ≡ false = sym (every-bad notZero 0 l i h (ap not (eq-eqb (getD l i 0) 0 z)) ∙ p .none) in
       rw (le-leb (length l) 8 short, zero-there)
 
   pub packed-end : length l ≤ i → n ≡ packedOf l
   unfolding packedOf
   packed-end h =
       let over : drop i l ≡ [] = drop-of-length-le l h in
-      let none-there : noZero l ≡ true = sym (p .none) ∙ ap noZero over in
+      let none-there : every notZero l ≡ true = sym (every-end notZero 0 l i h ∙ p .none) in
       rw (le-leb (length l) 8 short, none-there) (sym (ap (packedFrom n) over) ∙ p .same)

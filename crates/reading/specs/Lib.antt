@@ -1,5 +1,3 @@
--- The definitions of `reading`: fields, names, whole numbers, decimal numbers.
+-- The definitions of `reading`: fields, names.
 pub mod Fields
 pub mod Names
-pub mod Wholes
-pub mod Decimals

@@ -1,5 +1,3 @@
-// Text in: the fields of a line, names, numbers in decimal.
-pub mod decimals;
+// Text in: the fields of a line, names.
 pub mod fields;
 pub mod names;
-pub mod wholes;

@@ -19,13 +19,14 @@ use lib.Ieee.Scale.{round-same}
 use lib.Ieee.Positive.{first-pos}
 use Rattle.floats.specs.F64.{_⊘_, nat, ratio}
 use Rattle.floats.proofs.Rounded.{exact-small}
-use Rattle.reading.specs.declared.wholes.Whole.the-variants as whole
-use Rattle.reading.specs.declared.decimals.Decimal.the-variants.{Is, Unread}
+use Rattle.limits.specs.Every.{every}
+use Rattle.numerals.specs.declared.wholes.Whole.the-variants as whole
+use Rattle.numerals.specs.declared.decimals.Decimal.the-variants.{Is, Unread}
 use Rattle.reading.specs.Fields.{upTo, behind, fieldEnd}
-use Rattle.reading.specs.Wholes.{allDigits, digits, number, wholeOf}
-use Rattle.reading.specs.Decimals.{point, plainDecimal, pointDecimal, decimalOf}
+use Rattle.numerals.specs.Wholes.{isDigit, digits, number, wholeOf}
+use Rattle.numerals.specs.Decimals.{point, plainDecimal, pointDecimal, decimalOf}
 use Rattle.reading.proofs.FieldLaws.{up-to-taken, end-there}
-use Rattle.reading.proofs.WholeLaws.{number-shift, number-append, number-lt, whole-read, whole-unread}
+use Rattle.numerals.proofs.WholeLaws.{number-shift, number-append, number-lt, whole-read, whole-unread}
 
 cross : (M N a b D E : ℕ) → M * 1 ≡ a * D → N * 1 ≡ b * E → M * E * b ≡ a * (N * D)
 cross M N a b D E h k =
@@ -61,10 +62,10 @@ both-sides w p = number-append 0 w p ∙ number-shift (number w) p
 pub short-power : (k : ℕ) → k ≤ 15 → 10 ^ k ≤ 2 ^ 53
 short-power k h = le-trans (pow-le-pow-right (zero-lt-suc 9) h) (lit≤ tt)
 
-pub short-number : (w : List ℕ) → length w ≤ 15 → T (allDigits w) → number w ≤ 2 ^ 53
+pub short-number : (w : List ℕ) → length w ≤ 15 → T (every isDigit w) → number w ≤ 2 ^ 53
 short-number w h t = le-of-lt (lt-of-lt-of-le (number-lt w t) (short-power (length w) h))
 
-pub short-both : (w p : List ℕ) → length w + length p ≤ 15 → T (allDigits w) → T (allDigits p) → number w * 10 ^ length p + number p ≤ 2 ^ 53
+pub short-both : (w p : List ℕ) → length w + length p ≤ 15 → T (every isDigit w) → T (every isDigit p) → number w * 10 ^ length p + number p ≤ 2 ^ 53
 short-both w p h s t =
     let less : suc (number w) * 10 ^ length p ≤ 10 ^ length w * 10 ^ length p = mul-le-mul-right (10 ^ length p) (number-lt w s) in
     let same : 10 ^ length w * 10 ^ length p ≤ 2 ^ 53 = le-trans (le-of-eq (sym (pow-add 10 (length w) (length p)))) (short-power (length w + length p) h) in
@@ -81,8 +82,8 @@ ten-next i = rw (add-one i) (sym (pow-suc 10 i))
 
 -- ---- digits alone
 
-all-digits : (l : List ℕ) → digits l ≡ true → T (allDigits l)
-all-digits l e = and-r (ltb 0 (length l)) (allDigits l) (subst T (sym e) tt)
+all-digits : (l : List ℕ) → digits l ≡ true → T (every isDigit l)
+all-digits l e = and-r (ltb 0 (length l)) (every isDigit l) (subst T (sym e) tt)
 
 no-good : (s : Bool) → (s && false) ≡ false
 no-good true = refl

@@ -1,11 +1,11 @@
--- `reading::wholes::grown` meets its contract: each return is one case of the definition. Assumes nothing.
+-- `numerals::wholes::grown` meets its contract: each return is one case of the definition. Assumes nothing.
 use Prim.Native.Nat.{_+_, _*_, _^_}
 use native.Mathlib.Omega.{arith}
 use borrow.Author.Tests.{le-leb, lt-leb, le-ltb, lt-ltb}
 use borrow.Author.Needs.{needs}
-use Rattle.reading.specs.Wholes.{grownBy}
-use Rattle.reading.proofs.wholes.grown.Statement.{statement}
-use Rattle.reading.proofs.wholes.grown.Tie as tie
+use Rattle.numerals.specs.Wholes.{grownBy}
+use Rattle.numerals.proofs.wholes.grown.Statement.{statement}
+use Rattle.numerals.proofs.wholes.grown.Tie as tie
 
 returns : tie.Need-returns
 unfolding grownBy

@@ -1,23 +1,20 @@
 -- Whole numbers in decimal. Definitions only (RULES.md, A2).
 use Prim.Native.Nat.{ℕ, _+_, _-_, _*_, _^_}
-use mathlib.Core.Bool.{Bool, true, cond, _&&_}
+use mathlib.Core.Bool.{Bool, cond, _&&_}
 use mathlib.Core.List.{List, [], _∷_}
 use lib.Dec.{leb, ltb}
 use lib.ListN.{length}
-use Rattle.reading.specs.declared.wholes.Whole.{Whole}
-use Rattle.reading.specs.declared.wholes.Whole.the-variants.{Is, Unread}
+use Rattle.limits.specs.Every.{every}
+use Rattle.numerals.specs.declared.wholes.Whole.{Whole}
+use Rattle.numerals.specs.declared.wholes.Whole.the-variants.{Is, Unread}
 
 -- a byte from `0` to `9`
 abbrev pub isDigit : ℕ → Bool
 isDigit b = leb 48 b && leb b 57
 
-abbrev pub allDigits : List ℕ → Bool
-allDigits [] = true
-allDigits (b ∷ l) = isDigit b && allDigits l
-
 -- at least one byte, and nothing but digits
 abbrev pub digits : List ℕ → Bool
-digits l = ltb 0 (length l) && allDigits l
+digits l = ltb 0 (length l) && every isDigit l
 
 -- the number that digits write behind n, and that they write alone
 abbrev pub numberFrom : ℕ → List ℕ → ℕ

@@ -1,7 +1,7 @@
 // Whole numbers in decimal (docs/RULES.md, A2).
 ghost use mathlib.Core.Path.{_≡_};
 ghost use Prim.Native.Nat.{_<_};
-ghost use Rattle.reading.specs.Wholes.{digitOf, grownBy, wholeOf};
+ghost use Rattle.numerals.specs.Wholes.{digitOf, grownBy, wholeOf};
 
 pub enum Whole {
     Is(u64),

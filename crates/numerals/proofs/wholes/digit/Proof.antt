@@ -1,8 +1,8 @@
--- `reading::wholes::digit` meets its contract: each return is one case of the definition. Assumes nothing.
+-- `numerals::wholes::digit` meets its contract: each return is one case of the definition. Assumes nothing.
 use borrow.Author.Tests.{le-leb, lt-leb}
 use borrow.Author.Needs.{needs}
-use Rattle.reading.proofs.wholes.digit.Statement.{statement}
-use Rattle.reading.proofs.wholes.digit.Tie as tie
+use Rattle.numerals.proofs.wholes.digit.Statement.{statement}
+use Rattle.numerals.proofs.wholes.digit.Tie as tie
 
 returns : tie.Need-returns
 returns c = rw (lt-leb 48 (c .before .args .b) (c .if1 .taken))

@@ -11,8 +11,9 @@ use lib.Dec.{T, leb, ltb, leb→le, lit≤}
 use lib.Ieee.Fits.{and-l, and-r}
 use lib.ListN.{length, getD, drop, drop-of-length-le}
 use lib.Seq.{drop-cons}
-use Rattle.reading.specs.declared.wholes.Whole.the-variants.{Is, Unread}
-use Rattle.reading.specs.Wholes.{isDigit, allDigits, digits, numberFrom, number, wholeOf, digitOf, grownBy}
+use Rattle.limits.specs.Every.{every}
+use Rattle.numerals.specs.declared.wholes.Whole.the-variants.{Is, Unread}
+use Rattle.numerals.specs.Wholes.{isDigit, digits, numberFrom, number, wholeOf, digitOf, grownBy}
 
 never : {n : ℕ} → Unread ≡ Is n → ⊥
 never h = let z : _≡_ {A = ℕ} 0 1 = cc in omega arith
@@ -44,7 +45,7 @@ number-grows n [] = omega arith
 number-grows n (b ∷ l) = let h = number-grows (n * 10 + (b - 48)) l in omega arith
 
 -- a byte that does not go on: no digit, or a number that is too large however the rest goes on
-pub step-no : (n b : ℕ) (l : List ℕ) → grownBy n (digitOf b) ≡ Unread → (allDigits (b ∷ l) && ltb (numberFrom n (b ∷ l)) (2 ^ 64)) ≡ false
+pub step-no : (n b : ℕ) (l : List ℕ) → grownBy n (digitOf b) ≡ Unread → (every isDigit (b ∷ l) && ltb (numberFrom n (b ∷ l)) (2 ^ 64)) ≡ false
 unfolding grownBy
 step-no n b l h = go (n * 10 + (b - 48)) (leb 48 b) (leb b 57) refl refl h
   where
@@ -52,13 +53,13 @@ step-no n b l h = go (n * 10 + (b - 48)) (leb 48 b) (leb b 57) refl refl h
     large m true g = le-ltb (numberFrom m l) (2 ^ 64) (le-trans g (number-grows m l))
     large m false g = refl
 
-    by-tests : (m : ℕ) (p q : Bool) → leb (b - 48) 9 ≡ p → ltb m (2 ^ 64) ≡ q → b ≤ 57 → cond (p && q) (Is m) Unread ≡ Unread → (allDigits l && ltb (numberFrom m l) (2 ^ 64)) ≡ false
+    by-tests : (m : ℕ) (p q : Bool) → leb (b - 48) 9 ≡ p → ltb m (2 ^ 64) ≡ q → b ≤ 57 → cond (p && q) (Is m) Unread ≡ Unread → (every isDigit l && ltb (numberFrom m l) (2 ^ 64)) ≡ false
     by-tests m true true e g d u = absurd (never (sym u))
-    by-tests m true false e g d u = large m (allDigits l) (ltb-false m (2 ^ 64) g)
+    by-tests m true false e g d u = large m (every isDigit l) (ltb-false m (2 ^ 64) g)
     by-tests m false q e g d u = let k : 9 < b - 48 = leb-false (b - 48) 9 e in absurd (omega arith)
 
     go : (m : ℕ) (p q : Bool) → n * 10 + (b - 48) ≡ m → leb b 57 ≡ q → cond (leb (cond (p && q) (b - 48) 10) 9 && ltb (n * 10 + cond (p && q) (b - 48) 10) (2 ^ 64)) (Is (n * 10 + cond (p && q) (b - 48) 10)) Unread ≡ Unread
-        → (((p && q) && allDigits l) && ltb (numberFrom m l) (2 ^ 64)) ≡ false
+        → (((p && q) && every isDigit l) && ltb (numberFrom m l) (2 ^ 64)) ≡ false
     go m true true z e u = by-tests m (leb (b - 48) 9) (ltb m (2 ^ 64)) refl refl (leb-true b 57 e) (rw z at u)
     go m true false z e u = refl
     go m false q z e u = refl
@@ -68,7 +69,7 @@ step-no n b l h = go (n * 10 + (b - 48)) (leb 48 b) (leb b 57) refl refl h
 -- the first i bytes are digits and write n
 pub record Read (l : List ℕ) (n i : ℕ) : Type 0 where
   pub within : i ≤ length l
-  pub all : allDigits (drop i l) ≡ allDigits l
+  pub all : every isDigit (drop i l) ≡ every isDigit l
   pub same : numberFrom n (drop i l) ≡ number l
   pub fits : n < 2 ^ 64
 
@@ -81,7 +82,7 @@ module _ (l : List ℕ) (n i : ℕ) (r : Read l n i) where
       let s = step-yes n (getD l i 0) m e in
       record {
         within = omega arith;
-        all = ap (λ (t : Bool). t && allDigits (drop (i + 1) l)) (sym (s .digit)) ∙ sym (ap allDigits (at h)) ∙ r .all;
+        all = ap (λ (t : Bool). t && every isDigit (drop (i + 1) l)) (sym (s .digit)) ∙ sym (ap (every isDigit) (at h)) ∙ r .all;
         same = ap (λ (k : ℕ). numberFrom k (drop (i + 1) l)) (s .grown) ∙ sym (ap (numberFrom n) (at h)) ∙ r .same;
         fits = s .fits;
       }
@@ -89,9 +90,9 @@ module _ (l : List ℕ) (n i : ℕ) (r : Read l n i) where
   pub read-no : i < length l → grownBy n (digitOf (getD l i 0)) ≡ Unread → Unread ≡ wholeOf l
   unfolding wholeOf
   read-no h e =
-      let none : (allDigits l && ltb (number l) (2 ^ 64)) ≡ false =
+      let none : (every isDigit l && ltb (number l) (2 ^ 64)) ≡ false =
       rw (← r .all, ← r .same, at h) (step-no n (getD l i 0) (drop (i + 1) l) e) in
-      refused (ltb 0 (length l)) (allDigits l) (ltb (number l) (2 ^ 64)) none
+      refused (ltb 0 (length l)) (every isDigit l) (ltb (number l) (2 ^ 64)) none
     where
       refused : (p q t : Bool) → (q && t) ≡ false → Unread ≡ cond ((p && q) && t) (Is (number l)) Unread
       refused true q t h = rw h
@@ -102,7 +103,7 @@ module _ (l : List ℕ) (n i : ℕ) (r : Read l n i) where
   read-end p h =
       let over : drop i l ≡ [] = drop-of-length-le l h in
       let value : number l ≡ n = sym (r .same) ∙ ap (numberFrom n) over in
-      let good : allDigits l ≡ true = sym (r .all) ∙ ap allDigits over in
+      let good : every isDigit l ≡ true = sym (r .all) ∙ ap (every isDigit) over in
       rw (lt-ltb 0 (length l) p, good, value, lt-ltb n (2 ^ 64) (r .fits))
 
 -- ---- numbers of so many digits
@@ -123,11 +124,11 @@ pub number-append : (n : ℕ) (w p : List ℕ) → numberFrom n (w ++ p) ≡ num
 number-append n [] p = refl
 number-append n (b ∷ w) p = number-append (n * 10 + (b - 48)) w p
 
-pub number-lt : (l : List ℕ) → T (allDigits l) → number l < 10 ^ length l
+pub number-lt : (l : List ℕ) → T (every isDigit l) → number l < 10 ^ length l
 number-lt [] t = omega arith
 number-lt (b ∷ l) t =
-    let few : b - 48 ≤ 9 = less b (leb→le b 57 (and-r (leb 48 b) (leb b 57) (and-l (isDigit b) (allDigits l) t))) in
-    let rest : number l < 10 ^ length l = number-lt l (and-r (isDigit b) (allDigits l) t) in
+    let few : b - 48 ≤ 9 = less b (leb→le b 57 (and-r (leb 48 b) (leb b 57) (and-l (isDigit b) (every isDigit l) t))) in
+    let rest : number l < 10 ^ length l = number-lt l (and-r (isDigit b) (every isDigit l) t) in
     let most : (b - 48) * 10 ^ length l ≤ 9 * 10 ^ length l = mul-le-mul-right (10 ^ length l) few in
     rw (zero-add (b - 48), number-shift (b - 48) l, pow-succ' 10 (length l)) (omega arith)
   where
@@ -136,7 +137,7 @@ number-lt (b ∷ l) t =
 
 -- ---- short numbers are below 2^64
 
-short-number : (l : List ℕ) → length l ≤ 15 → T (allDigits l) → number l < 2 ^ 64
+short-number : (l : List ℕ) → length l ≤ 15 → T (every isDigit l) → number l < 2 ^ 64
 short-number l h t = lt-of-lt-of-le (number-lt l t) (le-trans (pow-le-pow-right (zero-lt-suc 9) h) (lit≤ tt))
 
 short-whole : (l : List ℕ) → length l ≤ 15 → wholeOf l ≡ cond (digits l) (Is (number l)) Unread
@@ -144,7 +145,7 @@ unfolding wholeOf
 short-whole l h = go (digits l) refl
   where
     go : (t : Bool) → digits l ≡ t → cond (t && ltb (number l) (2 ^ 64)) (Is (number l)) Unread ≡ cond t (Is (number l)) Unread
-    go true e = rw (lt-ltb (number l) (2 ^ 64) (short-number l h (and-r (ltb 0 (length l)) (allDigits l) (subst T (sym e) tt))))
+    go true e = rw (lt-ltb (number l) (2 ^ 64) (short-number l h (and-r (ltb 0 (length l)) (every isDigit l) (subst T (sym e) tt))))
     go false e = refl
 
 pub whole-read : (l : List ℕ) (n : ℕ) → length l ≤ 15 → wholeOf l ≡ Is n → (digits l ≡ true) × (n ≡ number l)

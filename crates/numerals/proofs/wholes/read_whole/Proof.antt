@@ -1,14 +1,14 @@
--- `reading::wholes::read_whole` meets its contract. The loop's invariant: the digits so far write the number, and what is left decides. Assumes nothing.
+-- `numerals::wholes::read_whole` meets its contract. The loop's invariant: the digits so far write the number, and what is left decides. Assumes nothing.
 use mathlib.Core.Path.{_≡_, refl, sym, ap, _∙_}
 use Prim.Native.Nat.{_-_}
 use lib.ListN.{length, getD}
 use borrow.Author.Tests.{le-ltb}
 use borrow.Author.Needs.{needs}
-use Rattle.reading.specs.declared.wholes.Whole.the-variants.{Is, Unread}
-use Rattle.reading.specs.Wholes.{wholeOf, digitOf, grownBy}
-use Rattle.reading.proofs.WholeLaws.{Read, read-on, read-no, read-end}
-use Rattle.reading.proofs.wholes.read_whole.Statement.{statement}
-use Rattle.reading.proofs.wholes.read_whole.Tie as tie
+use Rattle.numerals.specs.declared.wholes.Whole.the-variants.{Is, Unread}
+use Rattle.numerals.specs.Wholes.{wholeOf, digitOf, grownBy}
+use Rattle.numerals.proofs.WholeLaws.{Read, read-on, read-no, read-end}
+use Rattle.numerals.proofs.wholes.read_whole.Statement.{statement}
+use Rattle.numerals.proofs.wholes.read_whole.Tie as tie
 
 abbrev Inv-loop : tie.InvT-loop
 Inv-loop field n₀ i₀ n i = Read field n i

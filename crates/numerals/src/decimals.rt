@@ -1,10 +1,10 @@
 // Decimal numbers: the f64 nearest to what the digits say (docs/RULES.md, A3).
 ghost use mathlib.Core.Path.{_≡_};
 ghost use Prim.Native.Nat.{_^_, _≤_};
-ghost use Rattle.reading.specs.Decimals.{plainDecimal, pointDecimal, decimalOf};
-use crate::fields::field_end;
+ghost use Rattle.numerals.specs.Decimals.{plainDecimal, pointDecimal, decimalOf};
 use crate::wholes::Whole;
 use crate::wholes::read_whole;
+use reading::fields::field_end;
 
 pub enum Decimal {
     Is(f64),

@@ -1,0 +1,3 @@
+-- The laws of `numerals`.
+pub mod WholeLaws
+pub mod DecimalLaws

@@ -1,0 +1,3 @@
+-- The definitions of `numerals`: whole numbers, decimal numbers.
+pub mod Wholes
+pub mod Decimals

@@ -1,0 +1,3 @@
+// Numbers in decimal: whole ones, and those with a point.
+pub mod decimals;
+pub mod wholes;
