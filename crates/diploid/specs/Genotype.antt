@@ -1,8 +1,7 @@
--- The answer at every input. Definitions only (RULES.md, G1, G3, O1, O2).
-use Prim.Native.Nat.{ℕ, _+_}
+-- The answer at every input. Definitions only (RULES.md, G1, G3, O1, O2, R4).
+use Prim.Native.Nat.{ℕ}
 use mathlib.Core.Bool.{_&&_, cond}
 use mathlib.Core.List.{List}
-use lib.Dec.{eqb}
 use lib.Signed.{leZ, _≤ℤ_, _<ℤ_}
 use lib.Ieee.{Float}
 use Rattle.floats.specs.F64.{nat}
@@ -15,10 +14,11 @@ use Rattle.models.specs.declared.state.State.{State}
 use Rattle.models.specs.declared.state.State.the-variants.{Ref, Het, Hom, Non}
 use Rattle.diploid.specs.declared.genotype.GenotypeResult.{GenotypeResult}
 use Rattle.tables.specs.Tables.{tableAllowed}
-use Rattle.limits.specs.Limits.{countAllowed}
 use Rattle.diploid.specs.Allowed.{modelAllowed}
 use Rattle.qualities.specs.Order.{Pick, larger, smaller}
-use Rattle.diploid.specs.Scores.{scoresOf}
+use Rattle.scores.specs.declared.scores.Scored.{Scored}
+use Rattle.scores.specs.declared.scores.Scored.the-variants.{Beyond, Unread, Are}
+use Rattle.scores.specs.Scores.{scoredBy}
 use Rattle.qualities.specs.Quality.{qualsOf}
 use Rattle.tables.specs.Calibration.{calibrated}
 
@@ -46,14 +46,18 @@ called max min table s =
     let q = qualsOf max min s in
     record { refusal = Done; state = winner s; gq = calibrated table (q .gq); sq = q .sq }
 
--- O1: the model is checked first, then the table, then the counts; G1: without reads the answer is blank; else it is what the scores make
+-- R4: a count beyond its limit is refused; G1: without reads the answer is blank; else it is what the scores make
+unfoldable pub answered : Pick → Pick → List Float → Scored → GenotypeResult
+answered max min table Beyond = blank Count
+answered max min table Unread = blank Done
+answered max min table (Are s) = called max min table s
+
+-- O1: the model is checked first, then the table, then the counts
 unfoldable pub genotypeBy : Pick → Pick → Model → List Float → ℕ → ℕ → ℕ → GenotypeResult
 genotypeBy max min m table ref alt1 alt2 =
     cond (modelAllowed m)
     (cond (tableAllowed table)
-    (cond (countAllowed ref && (countAllowed alt1 && countAllowed alt2))
-    (cond (eqb (ref + alt1 + alt2) 0) (blank Done) (called max min table (scoresOf max m ref alt1 alt2)))
-    (blank Count))
+    (answered max min table (scoredBy max m ref alt1 alt2))
     (blank Table))
     (blank BadModel)
 

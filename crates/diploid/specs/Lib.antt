@@ -1,4 +1,3 @@
 -- The definitions that the contracts of `diploid` cite.
 pub mod Allowed
-pub mod Scores
 pub mod Genotype

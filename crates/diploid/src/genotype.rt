@@ -3,16 +3,16 @@ ghost use mathlib.Core.Path.{_≡_};
 ghost use lib.Signed.{leZ};
 ghost use Rattle.floats.specs.Key.{keyOf};
 ghost use Rattle.qualities.specs.Order.{larger, smaller};
-ghost use Rattle.diploid.specs.Genotype.{winner, blank, called, genotypeOf};
-use crate::allowed::counts_allowed;
+ghost use Rattle.diploid.specs.Genotype.{winner, blank, called, answered, genotypeOf};
 use crate::allowed::model_allowed;
-use crate::scores::genotype_scores;
 use floats::key::key;
 use models::model::Model;
 use models::state::State;
 use qualities::quality::genotype_quals;
 use qualities::scores::Scores;
 use refusals::Refusal;
+use scores::scores::Scored;
+use scores::scores::genotype_scores;
 use tables::allowed::table_allowed;
 use tables::calibration::calibrate_gq;
 
@@ -68,6 +68,17 @@ fn scored_answer(table: &[f64], scores: Scores) -> GenotypeResult
     }
 }
 
+// What three counts make that have been scored.
+fn answer(table: &[f64], scored: Scored) -> GenotypeResult
+    ensures { λ r. ⌜ r ≡ answered larger smaller (now (table .entry)) scored ⌝ }
+{
+    match scored {
+        Scored::Beyond => blank_answer(Refusal::Count),
+        Scored::Unread => blank_answer(Refusal::Done),
+        Scored::Are(scores) => scored_answer(table, scores),
+    }
+}
+
 // The state, gq and sq of three counts, or the first refusal that holds.
 pub fn genotype(
     model: Model,
@@ -84,11 +95,5 @@ pub fn genotype(
     if !table_allowed(table) {
         return blank_answer(Refusal::Table);
     }
-    if !counts_allowed(ref_cov, alt_cov1, alt_cov2) {
-        return blank_answer(Refusal::Count);
-    }
-    if ref_cov + alt_cov1 + alt_cov2 == 0 {
-        return blank_answer(Refusal::Done);
-    }
-    scored_answer(table, genotype_scores(model, ref_cov, alt_cov1, alt_cov2))
+    answer(table, genotype_scores(model, ref_cov, alt_cov1, alt_cov2))
 }

@@ -18,7 +18,7 @@ use Rattle.tables.specs.Tables.{Entry, entries, tableAllowed}
 use Rattle.limits.specs.Limits.{inRange, allFit}
 use Rattle.diploid.specs.Allowed.{modelAllowed}
 use Rattle.qualities.specs.Order.{larger, smaller}
-use Rattle.diploid.specs.Scores.{ThreeEach, EachScore, scoresOf}
+use Rattle.scores.specs.Scores.{ThreeEach, EachScore, scoresOf}
 use Rattle.qualities.specs.Quality.{Quality, qualsOf}
 use Rattle.tables.specs.Calibration.{Divides}
 use Rattle.diploid.specs.Genotype.{called}

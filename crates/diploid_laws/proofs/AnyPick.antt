@@ -19,7 +19,7 @@ use Rattle.bounds.proofs.ExpBounds.{exp-of-zero}
 use Rattle.kernels.specs.Ln.{lnNearOne, lnParts, lnReduced, lnPositive, lnOf}
 use Rattle.kernels.specs.Exp.{expOf}
 use Rattle.kernels.specs.Log10.{log10Of, pow10Of}
-use Rattle.refusals.specs.declared.Refusal.the-variants.{Done, Count, Model as BadModel, Table}
+use Rattle.refusals.specs.declared.Refusal.the-variants.{Done, Model as BadModel, Table}
 use Rattle.models.specs.declared.model.Mode.{Mode}
 use Rattle.models.specs.declared.model.Mode.the-variants.{Beta, Bino, Phased}
 use Rattle.models.specs.declared.model.Model.{Model}
@@ -30,10 +30,11 @@ use Rattle.limits.specs.Limits.{countAllowed}
 use Rattle.diploid.specs.Allowed.{modelAllowed}
 use Rattle.tables.specs.Tables.{tableAllowed}
 use Rattle.qualities.specs.Order.{Pick, IsMax, IsMin, larger, smaller, absolute}
-use Rattle.diploid.specs.Scores.{fraction, oneWay, eitherWay, phasedScores, scoresBy, scoresOf, ThreeEach, EachScore}
+use Rattle.scores.specs.declared.scores.Scored.the-variants.{Beyond, Unread, Are}
+use Rattle.scores.specs.Scores.{fraction, oneWay, eitherWay, phasedScores, scoresBy, scoresOf, scoredBy, ThreeEach, EachScore}
 use Rattle.qualities.specs.Quality.{inTens, wholeOf, normalised, minusTen, gapOf, qualsOf}
 use Rattle.tables.specs.Calibration.{calibrated}
-use Rattle.diploid.specs.Genotype.{winner, blank, called, genotypeBy, genotypeOf}
+use Rattle.diploid.specs.Genotype.{winner, blank, called, answered, genotypeBy, genotypeOf}
 use Rattle.floats.proofs.Zeros.{zeroOf, Number, Alike, same, zeros, alike-equal, alike-sym, alike-trans, alike-number, add-alike, sub-alike, zeros-sum}
 use Rattle.diploid_laws.proofs.ScoreBounds.{larger-is-max, scores-within, way-within}
 use Rattle.diploid_laws.proofs.QualityBounds.{one, in-tens-within, in-tens-fit, whole-steps, whole-within, less-whole, times-ten-within, first-times-ten-within, absolute-not-below}
@@ -275,39 +276,33 @@ module _ (max min : Pick) (is-max : IsMax max) (is-min : IsMin min) (m : Model) 
 
   -- refusals and a total of zero do not come to a pick
   pub genotype-any : (table : List Float) (ref alt1 alt2 : ℕ) → genotypeBy max min m table ref alt1 alt2 ≡ genotypeOf m table ref alt1 alt2
-  unfolding genotypeBy
+  unfolding genotypeBy answered scoredBy
   genotype-any table ref alt1 alt2 = by-model (modelAllowed m) refl
     where
-      scored : Pick → Pick → GenotypeResult
-      scored max min = called max min table (scoresOf max m ref alt1 alt2)
-
-      by-total : (t : Bool) → scored max min ≡ scored larger smaller → cond t (blank Done) (scored max min) ≡ cond t (blank Done) (scored larger smaller)
-      by-total true e = refl
-      by-total false e = e
+      -- what is scored where the tests of the counts and of their total say t and u, and its answer
+      answer : Pick → Pick → Bool → Bool → GenotypeResult
+      answer max min t u = answered max min table (cond t (cond u Unread (Are (scoresOf max m ref alt1 alt2))) Beyond)
 
       counts : Bool
       counts = countAllowed ref && (countAllowed alt1 && countAllowed alt2)
 
-      by-counts : (t : Bool) → modelAllowed m ≡ true → counts ≡ t
-          → cond t (cond (eqb (ref + alt1 + alt2) 0) (blank Done) (scored max min)) (blank Count) ≡ cond t (cond (eqb (ref + alt1 + alt2) 0) (blank Done) (scored larger smaller)) (blank Count)
-      by-counts true a h =
+      by-counts : (t u : Bool) → modelAllowed m ≡ true → counts ≡ t → answer max min t u ≡ answer larger smaller t u
+      by-counts true true a h = refl
+      by-counts true false a h =
           let all : T counts = subst T (sym h) tt in
           let alts = and-r (countAllowed ref) (countAllowed alt1 && countAllowed alt2) all in
-          by-total (eqb (ref + alt1 + alt2) 0)
-          (called-any a table ref alt1 alt2 (leb→le ref 1000000 (and-l (countAllowed ref) (countAllowed alt1 && countAllowed alt2) all))
-          (leb→le alt1 1000000 (and-l (countAllowed alt1) (countAllowed alt2) alts)) (leb→le alt2 1000000 (and-r (countAllowed alt1) (countAllowed alt2) alts)))
-      by-counts false a h = refl
+          called-any a table ref alt1 alt2 (leb→le ref 1000000 (and-l (countAllowed ref) (countAllowed alt1 && countAllowed alt2) all))
+          (leb→le alt1 1000000 (and-l (countAllowed alt1) (countAllowed alt2) alts)) (leb→le alt2 1000000 (and-r (countAllowed alt1) (countAllowed alt2) alts))
+      by-counts false u a h = refl
 
-      under-table : Pick → Pick → GenotypeResult
-      under-table max min =
-          cond (tableAllowed table) (cond counts (cond (eqb (ref + alt1 + alt2) 0) (blank Done) (scored max min)) (blank Count)) (blank Table)
+      under-table : Pick → Pick → Bool → GenotypeResult
+      under-table max min t = cond t (answer max min counts (eqb (ref + alt1 + alt2) 0)) (blank Table)
 
-      by-table : (t : Bool) → modelAllowed m ≡ true
-          → cond t (cond counts (cond (eqb (ref + alt1 + alt2) 0) (blank Done) (scored max min)) (blank Count)) (blank Table)
-          ≡ cond t (cond counts (cond (eqb (ref + alt1 + alt2) 0) (blank Done) (scored larger smaller)) (blank Count)) (blank Table)
-      by-table true a = by-counts counts a refl
+      by-table : (t : Bool) → modelAllowed m ≡ true → under-table max min t ≡ under-table larger smaller t
+      by-table true a = by-counts counts (eqb (ref + alt1 + alt2) 0) a refl
       by-table false a = refl
 
-      by-model : (t : Bool) → modelAllowed m ≡ t → cond t (under-table max min) (blank BadModel) ≡ cond t (under-table larger smaller) (blank BadModel)
+      by-model : (t : Bool) → modelAllowed m ≡ t
+          → cond t (under-table max min (tableAllowed table)) (blank BadModel) ≡ cond t (under-table larger smaller (tableAllowed table)) (blank BadModel)
       by-model true a = by-table (tableAllowed table) a
       by-model false a = refl

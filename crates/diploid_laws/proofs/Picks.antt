@@ -11,7 +11,7 @@ use Rattle.floats.proofs.Ranges.{le-not-lt}
 use Rattle.kernels.specs.Log10.{pow10Of}
 use Rattle.qualities.specs.declared.scores.Scores.{Scores}
 use Rattle.qualities.specs.Order.{Pick, IsMax, IsMin, larger, smaller, absolute}
-use Rattle.diploid.specs.Scores.{EachScore}
+use Rattle.scores.specs.Scores.{EachScore}
 use Rattle.qualities.specs.Quality.{minusTen, first, second, gapOf}
 use Rattle.floats.proofs.Differences.{less-itself}
 use Rattle.floats.proofs.Zeros.{zeroOf, Number, Alike, same, zeros, alike-number, lt-alike, neither-below, sub-alike-below}

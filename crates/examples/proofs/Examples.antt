@@ -11,7 +11,8 @@ use Rattle.kernels.specs.Ln.{lnNearOne, lnParts, lnReduced, lnPositive, lnOf}
 use Rattle.kernels.specs.Exp.{expSeries, expParts, expOf}
 use Rattle.diploid.specs.Allowed.{modelAllowed}
 use Rattle.tables.specs.Tables.{entries, neverFalling, tableAllowed}
-use Rattle.diploid.specs.Genotype.{genotypeBy}
+use Rattle.scores.specs.Scores.{scoredBy}
+use Rattle.diploid.specs.Genotype.{answered, genotypeBy}
 use Rattle.diploid_laws.proofs.WinnerLaws.{equal-scores}
 use Rattle.refusals.specs.Refusals.{numberOf}
 use Rattle.family.specs.Genotypes.{genotypeCount}
@@ -40,7 +41,7 @@ unfolding mosaicBy
 no-alleles p h d = rw (h, d)
 
 pub examples : Examples
-unfolding keyOf lnOf lnPositive lnReduced lnParts lnNearOne exponent significand expOf expParts expSeries genotypeBy modelAllowed tableAllowed entries neverFalling size isNan neg add sub mul div round lt le ofInt ofBits toBits
+unfolding keyOf lnOf lnPositive lnReduced lnParts lnNearOne exponent significand expOf expParts expSeries genotypeBy answered scoredBy modelAllowed tableAllowed entries neverFalling size isNan neg add sub mul div round lt le ofInt ofBits toBits
 examples =
     record {
       genotypes-number = genotype-counts;

@@ -25,6 +25,7 @@ use Rattle.tables.proofs.calibration.calibrate_gq.Reads as calibrate-gq
 use Rattle.qualities.proofs.order.max.Reads as max
 use Rattle.qualities.proofs.order.min.Reads as min
 use Rattle.qualities.proofs.quality.genotype_quals.Reads as genotype-quals
+use Rattle.scores.proofs.scores.genotype_scores.Reads as genotype-scores
 use Rattle.diploid.proofs.genotype.genotype.Reads as genotype
 use Rattle.entries.proofs.entry.beats.Reads as beats
 use Rattle.entries.proofs.held.Held.nothing.Reads as held-nothing
@@ -179,6 +180,9 @@ pub genotype-quals-once : OneAnswer genotype-quals.Post
 genotype-quals-once κ a v w e f = only
 
 -- ---- diploid
+
+pub genotype-scores-once : OneAnswer genotype-scores.Post
+genotype-scores-once κ a v w e f = only
 
 pub genotype-once : OneAnswer genotype.Post
 genotype-once κ a v w e f = only

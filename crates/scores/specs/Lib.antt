@@ -1,0 +1,2 @@
+-- The definitions that the contracts of `scores` cite.
+pub mod Scores
