@@ -1,11 +1,12 @@
 -- The pairs that a child can have: `distinct` means what it says, and d is 1 to 4 (RULES.md, T3, X3 to X6). Assumes nothing.
-use Prim.Native.Nat.{suc, _≤_, suc-le-suc, zero-le}
+use Prim.Native.Nat.{_≤_, suc-le-suc, zero-le}
 use mathlib.Core.Path.{_≡_, refl, sym, ap, _∙_}
 use mathlib.Core.Bool.{Bool, true, false, cond, not, _||_, and-eq-true-iff}
 use mathlib.Core.List.{List, [], _∷_}
-use native.Mathlib.Nat.{le-trans, le-step}
+use native.Mathlib.Nat.{le-trans}
 use borrow.Author.Tests.{not-true}
 use lib.ListN.{length}
+use Rattle.lists.proofs.PassingLaws.{passing-length}
 use Rattle.family.specs.declared.pair.Pair.{Pair}
 use Rattle.family.specs.Mendel.{pair, ordered, samePair, among, withoutPair, distinct, childPairs}
 use Rattle.family.proofs.MendelLaws.{same-is, among-without}
@@ -34,7 +35,7 @@ gone : (p : Pair) (l : List Pair) → among p (withoutPair p l) ≡ false
 gone p [] = refl
 gone p (q ∷ l) = go (samePair p q) refl (gone p l)
   where
-    go : (b : Bool) → samePair p q ≡ b → among p (withoutPair p l) ≡ false → among p (cond b (withoutPair p l) (q ∷ withoutPair p l)) ≡ false
+    go : (b : Bool) → samePair p q ≡ b → among p (withoutPair p l) ≡ false → among p (cond (not b) (q ∷ withoutPair p l) (withoutPair p l)) ≡ false
     go true e k = k
     go false e k = ap (_|| among p (withoutPair p l)) (differ p q e) ∙ k
 
@@ -52,7 +53,7 @@ without-once p (q ∷ l) h =
     let parts = and-eq-true-iff (not (among q l)) (noRepeat l) .0 h in
     go (samePair p q) (still-gone p q l (not-true (among q l) (parts .0))) (without-once p l (parts .1))
   where
-    go : (b : Bool) → among q (withoutPair p l) ≡ false → noRepeat (withoutPair p l) ≡ true → noRepeat (cond b (withoutPair p l) (q ∷ withoutPair p l)) ≡ true
+    go : (b : Bool) → among q (withoutPair p l) ≡ false → noRepeat (withoutPair p l) ≡ true → noRepeat (cond (not b) (q ∷ withoutPair p l) (withoutPair p l)) ≡ true
     go true g k = k
     go false g k = rw g k
 
@@ -62,17 +63,9 @@ distinct-once (p ∷ l) = rw (gone p (distinct l)) (without-once p (distinct l) 
 
 -- ---- one to four
 
-without-length : (p : Pair) (l : List Pair) → length (withoutPair p l) ≤ length l
-without-length p [] = zero-le
-without-length p (q ∷ l) = go (samePair p q) (without-length p l)
-  where
-    go : (b : Bool) → length (withoutPair p l) ≤ length l → length (cond b (withoutPair p l) (q ∷ withoutPair p l)) ≤ suc (length l)
-    go true k = le-step k
-    go false k = suc-le-suc k
-
 distinct-length : (l : List Pair) → length (distinct l) ≤ length l
 distinct-length [] = zero-le
-distinct-length (p ∷ l) = suc-le-suc (le-trans (without-length p (distinct l)) (distinct-length l))
+distinct-length (p ∷ l) = suc-le-suc (le-trans (passing-length (λ q. not (samePair p q)) (distinct l)) (distinct-length l))
 
 pub child-pairs-few : (f m : Pair) → (1 ≤ length (childPairs f m)) × (length (childPairs f m) ≤ 4)
 unfolding childPairs

@@ -6,7 +6,6 @@ use mathlib.Core.Logic.{_≢_}
 use mathlib.Core.Path.{_≡_, refl, sym, ap, subst, _∙_}
 use borrow.Author.Tests.{eq-eqb, ne-eqb}
 use lib.Ieee.{Float, isNan}
-use Rattle.floats.specs.F64.{nat}
 use Rattle.refusals.specs.Refusals.{numberOf}
 use Rattle.search.specs.Shape.{workRight}
 use Rattle.search.specs.Work.{noWork}
@@ -20,7 +19,7 @@ use Rattle.closings.specs.Closing.{refusedClosing, closeStep}
 use Rattle.desks.specs.Call.{calledBy, callOf, workedTo}
 use Rattle.desks.specs.History.{History, merged, partOf, rowsOf, Promised}
 use Rattle.desks.proofs.Inputs.{scores-numbers}
-use Rattle.desks.proofs.Opening.{Opened, opened-tells, opened-is, padded-length, fresh-right}
+use Rattle.desks.proofs.Opening.{Opened, opened-tells, opened-is, fresh-places, fresh-right}
 use Rattle.desks.proofs.Promises.{promised, same-rows}
 use Rattle.desks.proofs.Rising.{rising-closes}
 
@@ -39,7 +38,7 @@ module _ (n : ℕ) (counts : List ℕ) (weights : List Float) where
       record {
         right = r;
         no-work = refl;
-        numbers = scores-numbers p (and-both (inputRight p) (workRight (rowCount p) (p .marks) (p .held)) r .0) (padded-length 8 (nat 0) weights);
+        numbers = scores-numbers p (and-both (inputRight p) (workRight (rowCount p) (p .marks) (p .held)) r .0) (fresh-places n counts weights o);
       }
 
   module _ (accepted : numberOf (openStep n counts weights .refusal) ≡ 0) where

@@ -1,14 +1,15 @@
 -- What an opening that is not refused tells, and that the part which it gives has the right shape.
-use Prim.Native.Nat.{ℕ, zero, suc, _*_, _≤_}
+use Prim.Native.Nat.{ℕ, zero, suc, _*_, _-_, _≤_}
 use mathlib.Core.Bool.{Bool, true, false, not, cond, _&&_}
-use mathlib.Core.List.{List, [], _∷_}
+use mathlib.Core.List.{List, [], _∷_, _++_}
 use mathlib.Core.Path.{_≡_, refl, sym, ap, _∙_}
-use native.Mathlib.Nat.{le-of-suc-le-suc, not-suc-le-zero}
 use native.Mathlib.Omega.{arith}
 use borrow.Author.Tests.{eqb-true, eqb-false, ltb-false, le-leb}
 use lib.Dec.{eqb, ltb}
-use lib.ListN.{length}
+use lib.ListN.{length, replicate}
 use lib.Ieee.{Float, isNan, toBits, ofInt}
+use Rattle.lists.specs.Lists.{padded}
+use Rattle.lists.proofs.PaddedLaws.{padded-length}
 use Rattle.floats.specs.F64.{nat}
 use Rattle.refusals.specs.declared.Refusal.the-variants.{Done, NoCluster, TooMany, Shape, Count, Weight}
 use Rattle.refusals.specs.Refusals.{numberOf}
@@ -21,7 +22,7 @@ use Rattle.family.proofs.GenotypesLaws.{genotypes-some, genotypes-few}
 use Rattle.parts.specs.declared.part.Stepped.{Stepped}
 use Rattle.family.specs.Genotypes.{genotypeCount}
 use Rattle.limits.specs.Limits.{countAllowed}
-use Rattle.parts.specs.Part.{noCount, weightAllowed, noWeight, placesRight, inputRight, padded, freshPart, emptyPart, rightPart, gives}
+use Rattle.parts.specs.Part.{noCount, weightAllowed, noWeight, placesRight, inputRight, freshPart, emptyPart, rightPart, gives}
 use Rattle.limits.specs.Every.{every}
 use Rattle.opening.specs.Opening.{openStep}
 
@@ -85,21 +86,17 @@ module _ (n : ℕ) (counts : List ℕ) (weights : List Float) where
 
 -- ---- the shape of what it gives
 
-pub padded-length : {A : Type 0} (k : ℕ) (z : A) (l : List A) → length (padded k z l) ≡ k
-padded-length zero z l = refl
-padded-length (suc k) z [] = ap suc (padded-length k z [])
-padded-length (suc k) z (x ∷ l) = ap suc (padded-length k z l)
-
 module _ {A : Type 0} (inUse unused : A → Bool) (z : A) (blank : unused z ≡ true) where
-  places-none : (k : ℕ) → placesRight inUse unused 0 (padded k z []) ≡ true
+  places-none : (m : ℕ) → placesRight inUse unused 0 (replicate m z) ≡ true
   places-none zero = refl
-  places-none (suc k) = and-true blank (places-none k)
+  places-none (suc m) = and-true blank (places-none m)
 
-  pub places-padded : (k : ℕ) (l : List A) → length l ≤ k → every inUse l ≡ true → placesRight inUse unused (length l) (padded k z l) ≡ true
-  places-padded zero [] h a = refl
-  places-padded zero (x ∷ l) h a = absurd (not-suc-le-zero h)
-  places-padded (suc k) [] h a = places-none (suc k)
-  places-padded (suc k) (x ∷ l) h a = and-true (and-both (inUse x) (every inUse l) a .0) (places-padded k l (le-of-suc-le-suc h) (and-both (inUse x) (every inUse l) a .1))
+  places-front : (l : List A) (m : ℕ) → every inUse l ≡ true → placesRight inUse unused (length l) (l ++ replicate m z) ≡ true
+  places-front [] m a = places-none m
+  places-front (x ∷ l) m a = and-true (and-both (inUse x) (every inUse l) a .0) (places-front l m (and-both (inUse x) (every inUse l) a .1))
+
+  pub places-padded : (k : ℕ) (l : List A) → every inUse l ≡ true → placesRight inUse unused (length l) (padded k z l) ≡ true
+  places-padded k l a = places-front l (k - length l) a
 
 no-weight : noWeight (nat 0) ≡ true
 unfolding toBits ofInt
@@ -117,16 +114,18 @@ module _ (n : ℕ) (counts : List ℕ) (weights : List Float) (o : Opened n coun
       let f = genotypes-few n (o .few-clusters) in
       work-right {score = λ (p : ℕ). nat 0} no-score s (omega arith) none-sound
 
+  pub fresh-places : length (freshPart n counts weights .weights) ≡ 8
+  fresh-places =
+      let f = o .few-clusters in
+      padded-length 8 (nat 0) weights (omega (arith, o .weights-length))
+
   pub fresh-right : rightPart (freshPart n counts weights) ≡ true
   unfolding rightPart inputRight
   fresh-right =
-      let f = o .few-clusters in
-      let k : length counts ≤ 24 = omega (arith, o .counts-length) in
-      let m : length weights ≤ 8 = omega (arith, o .weights-length) in
       and-true
       (and-true (le-leb 1 n (o .some-clusters)) (and-true (le-leb n 8 (o .few-clusters)) (and-true
       (ap (λ (i : ℕ). placesRight countAllowed noCount i (padded 24 0 counts)) (sym (o .counts-length))
-      ∙ places-padded countAllowed noCount 0 refl 24 counts k (o .counts-allowed))
+      ∙ places-padded countAllowed noCount 0 refl 24 counts (o .counts-allowed))
       (ap (λ (i : ℕ). placesRight weightAllowed noWeight i (padded 8 (nat 0) weights)) (sym (o .weights-length))
-      ∙ places-padded weightAllowed noWeight (nat 0) no-weight 8 weights m (o .weights-allowed)))))
+      ∙ places-padded weightAllowed noWeight (nat 0) no-weight 8 weights (o .weights-allowed)))))
       fresh-work

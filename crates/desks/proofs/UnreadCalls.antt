@@ -1,15 +1,13 @@
 -- T4, T10: the call of an unread trio of two or more clusters is the last triple of all, however the other animals' counts and the weights are.
-use Prim.Native.Nat.{ℕ, zero, suc, _+_, _*_, _-_, _≤_, zero-le}
+use Prim.Native.Nat.{ℕ, zero, suc, _+_, _*_, _-_, _≤_}
 use mathlib.Core.Bool.{Bool, true, false, _||_}
 use mathlib.Core.List.{List, [], _∷_, map}
 use mathlib.Core.Path.{_≡_, refl, sym, ap, ap₂, subst, _∙_}
-use native.Mathlib.Nat.{mul-le-mul, le-trans, le-of-suc-le-suc, not-suc-le-zero}
+use native.Mathlib.Nat.{mul-le-mul, le-trans}
 use native.Mathlib.Omega.{arith}
 use borrow.Author.Tests.{eqb-true, eq-eqb}
 use lib.Dec.{eqb, lit≤}
-use lib.ListN.{length, getD}
 use lib.Ieee.{Float, inf}
-use Rattle.floats.specs.F64.{nat}
 use Rattle.refusals.specs.Refusals.{numberOf}
 use Rattle.entries.specs.declared.entry.Entry.{Entry}
 use Rattle.entries.specs.Held.{heldOf}
@@ -23,9 +21,10 @@ use Rattle.family.specs.declared.sample.Sample.the-variants.{Child, Father, Mot
 use Rattle.family.specs.Numbers.{sampleNumber}
 use Rattle.family.specs.Genotypes.{genotypeCount}
 use Rattle.triples.specs.Genotypes.{genotypeAt, rowWidth, tripleAt, tripleOf}
-use Rattle.lists.specs.Lists.{numbers}
+use Rattle.lists.specs.Lists.{numbers, padded}
+use Rattle.lists.proofs.PaddedLaws.{padded-at}
 use Rattle.samples.specs.Samples.{inUse, reads, sum, columnTotal}
-use Rattle.parts.specs.Part.{inputRight, rowCount, rightPart, padded, freshPart}
+use Rattle.parts.specs.Part.{inputRight, rowCount, rightPart, freshPart}
 use Rattle.opening.specs.Opening.{openStep}
 use Rattle.trio.specs.Steps.{scoreIn}
 use Rattle.closings.specs.Closing.{unread, groundOf, closedAs}
@@ -33,7 +32,7 @@ use Rattle.desks.specs.Call.{onePassCall, calledBy, callOf}
 use Rattle.desks.specs.UnreadCall.{lastTriple, LastUnread}
 use Rattle.desks.proofs.Flat.{flat-pass}
 use Rattle.desks.proofs.Inputs.{input-accepted}
-use Rattle.desks.proofs.Opening.{opened-tells, opened-is, padded-length, fresh-right}
+use Rattle.desks.proofs.Opening.{opened-tells, opened-is, fresh-places, fresh-right}
 use Rattle.desks.proofs.ScoreBounds.{unread-least}
 
 -- the last position has the last genotype three times
@@ -85,18 +84,10 @@ module _ (start : Part) (many : 2 ≤ start .clusters) (few : start .clusters �
 -- ---- over every input that an opening accepts
 
 -- a part lays the counts out with zeros behind them, which adds no reads
-padded-get : (k i : ℕ) (l : List ℕ) → length l ≤ k → getD (padded k 0 l) i 0 ≡ getD l i 0
-padded-get zero i [] h = refl
-padded-get zero i (x ∷ l) h = absurd (not-suc-le-zero h)
-padded-get (suc k) zero [] h = refl
-padded-get (suc k) (suc i) [] h = padded-get k i [] zero-le
-padded-get (suc k) zero (x ∷ l) h = refl
-padded-get (suc k) (suc i) (x ∷ l) h = padded-get k i l (le-of-suc-le-suc h)
-
-module _ (counts : List ℕ) (short : length counts ≤ 24) where
+module _ (counts : List ℕ) where
   column-padded : (s c n : ℕ) → sum (map (reads (padded 24 0 counts) s) (numbers c n)) ≡ sum (map (reads counts s) (numbers c n))
   column-padded s c zero = refl
-  column-padded s c (suc n) = ap₂ _+_ (padded-get 24 (3 * c + s) counts short) (column-padded s (suc c) n)
+  column-padded s c (suc n) = ap₂ _+_ (padded-at 24 0 counts (3 * c + s)) (column-padded s (suc c) n)
 
   total-padded : (n : ℕ) (s : Sample) → columnTotal n (padded 24 0 counts) s ≡ columnTotal n counts s
   unfolding columnTotal
@@ -134,10 +125,9 @@ module _ (n : ℕ) (counts : List ℕ) (weights : List Float) (accepted : number
       let o = opened-tells n counts weights accepted in
       let f = o .few-clusters in
       let p = freshPart n counts weights in
-      let short : length counts ≤ 24 = omega (arith, o .counts-length) in
-      let u : unread n (p .counts) ≡ true = unread-padded counts short n ∙ none in
+      let u : unread n (p .counts) ≡ true = unread-padded counts n ∙ none in
       let r = and-both (inputRight p) (workRight (rowCount p) (p .marks) (p .held)) (fresh-right n counts weights o) .0 in
-      let a = input-accepted p r (padded-length 8 (nat 0) weights) in
+      let a = input-accepted p r (fresh-places n counts weights o) in
       let c = unread-column n (p .counts) u in
       subst (λ (s : Stepped). LastUnread n (calledBy s)) (sym (opened-is n counts weights accepted))
       (last-unread p many f (λ q. unread-least n (p .counts) (p .weights) a q (c .0) (c .1)) u)
