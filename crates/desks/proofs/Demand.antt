@@ -7,12 +7,11 @@ use mathlib.Core.Path.{_≡_, refl, sym, ap, subst, _∙_}
 use borrow.Author.Tests.{eq-eqb, ne-eqb}
 use lib.Ieee.{Float, isNan}
 use Rattle.refusals.specs.Refusals.{numberOf}
-use Rattle.search.specs.Shape.{workRight}
 use Rattle.search.specs.Work.{noWork}
-use Rattle.search_laws.proofs.ShapeLaws.{and-both}
 use Rattle.parts.specs.declared.part.Part.{Part}
 use Rattle.parts.specs.declared.part.Stepped.{Stepped}
-use Rattle.parts.specs.Part.{inputRight, rowCount, withWork, rightPart, freshPart}
+use Rattle.parts.specs.Part.{withWork, rightPart, freshPart}
+use Rattle.parts.proofs.RightLaws.{right-input}
 use Rattle.opening.specs.Opening.{openStep}
 use Rattle.trio.specs.Steps.{scoreIn, rowsIn}
 use Rattle.closings.specs.Closing.{refusedClosing, closeStep}
@@ -31,14 +30,13 @@ pub record Fresh (start : Part) : Type 0 where
 
 module _ (n : ℕ) (counts : List ℕ) (weights : List Float) where
   pub fresh : Opened n counts weights → Fresh (freshPart n counts weights)
-  unfolding rightPart
   fresh o =
       let p = freshPart n counts weights in
       let r = fresh-right n counts weights o in
       record {
         right = r;
         no-work = refl;
-        numbers = scores-numbers p (and-both (inputRight p) (workRight (rowCount p) (p .marks) (p .held)) r .0) (fresh-places n counts weights o);
+        numbers = scores-numbers p (right-input p r) (fresh-places n counts weights o);
       }
 
   module _ (accepted : numberOf (openStep n counts weights .refusal) ≡ 0) where

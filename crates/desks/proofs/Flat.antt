@@ -4,18 +4,13 @@ use mathlib.Core.Bool.{Bool, false, cond}
 use mathlib.Core.List.{List, [], _∷_}
 use mathlib.Core.Path.{_≡_, sym, ap, _∙_}
 use native.Mathlib.Omega.{arith}
-use borrow.Author.Tests.{eq-eqb, ne-eqb, le-ltb}
+use borrow.Author.Tests.{eq-eqb, ne-eqb}
 use lib.Ieee.{Float}
-use lib.IntN.{ℤ, pos, negsuc}
 use lib.Signed.{ltZ}
 use Rattle.floats.specs.Key.{keyOf}
+use Rattle.floats.proofs.KeyEqual.{not-below-itself}
 use Rattle.entries.specs.declared.entry.Entry.{Entry}
 use Rattle.search.specs.Work.{passed, without, onePass, entryAt, entriesFrom}
-
--- no key is below itself
-not-below-itself : (k : ℤ) → ltZ k k ≡ false
-not-below-itself (pos a) = le-ltb a a (omega arith)
-not-below-itself (negsuc a) = le-ltb a a (omega arith)
 
 module _ (score : ℕ → Float) (level : Float) (flat : (p : ℕ) → score p ≡ level) where
   alike : (p q : ℕ) → ltZ (keyOf (score q)) (keyOf (score p)) ≡ false

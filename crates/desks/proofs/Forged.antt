@@ -1,10 +1,11 @@
 -- S2: what holds of every part of the right shape, whoever made it. No row and no merge spoils its shape; it closes with what it holds, and that is a triple at least; working all its rows again gives the one pass where the scores that it holds are true.
 -- Where they are not, nothing shows it: here is a part that calls a triple which one pass does not.
 use Prim.Native.Nat.{ℕ, zero, suc, _-_, _*_, _/_, _≤_, _<_}
-use mathlib.Core.Bool.{Bool, true, false, not, cond, _&&_}
+use mathlib.Core.Bool.{Bool, true, false, not, cond, and-false, and-eq-true-iff}
 use mathlib.Core.List.{List, [], _∷_}
 use mathlib.Core.Logic.{_≢_}
 use mathlib.Core.Path.{_≡_, refl, sym, ap, subst, _∙_}
+use mathlib.Mathlib.Data.Bool.Basic.{and-elim-left, and-intro, and-elim-right}
 use native.Mathlib.Nat.{zero-add, mul-pos, div-lt-iff-lt-mul}
 use native.Mathlib.Omega.{arith}
 use borrow.Author.Tests.{ltb-true, eqb-true, eq-eqb, lt-ltb}
@@ -29,7 +30,7 @@ use Rattle.lists.specs.Lists.{numbers}
 use Rattle.search_laws.specs.Sound.{workedAll}
 use Rattle.search_laws.proofs.KeepLaws.{first-held, joined-right}
 use Rattle.search_laws.proofs.ReworkLaws.{worked-last, reworked-rising}
-use Rattle.search_laws.proofs.ShapeLaws.{and-true, and-both, Shaped, right-shaped, full-holds, held-back, work-right}
+use Rattle.search_laws.proofs.ShapeLaws.{Shaped, right-shaped, full-holds, held-back, work-right}
 use Rattle.search_laws.proofs.WorkLaws.{row-sound}
 use Rattle.closings.specs.declared.closing.Closed.{Closed}
 use Rattle.family.specs.declared.pair.Triple.{Triple}
@@ -49,18 +50,18 @@ use Rattle.desks.proofs.UnreadCalls.{last-unread}
 -- the right shape is that of the input and that of the work
 right-parts : (p : Part) → rightPart p ≡ true → (inputRight p ≡ true) × (workRight (rowCount p) (p .marks) (p .held) ≡ true)
 unfolding rightPart
-right-parts p r = and-both (inputRight p) (workRight (rowCount p) (p .marks) (p .held)) r
+right-parts p r = and-eq-true-iff (inputRight p) (workRight (rowCount p) (p .marks) (p .held)) .0 r
 
 right-with : (p : Part) (v : Work) → inputRight p ≡ true → workRight (rowCount p) (v .marks) (heldOf (v .held)) ≡ true → rightPart (withWork p v) ≡ true
 unfolding rightPart inputRight
-right-with p v i w = and-true i w
+right-with p v i w = and-intro i w
 
 -- ---- no merge and no row spoils it
 
 -- two parts of one input have the same number of clusters
 same-clusters : (a b : Part) → sameInput a b ≡ true → b .clusters ≡ a .clusters
 unfolding sameInput
-same-clusters a b e = sym (eqb-true (a .clusters) (b .clusters) (and-both (eqb (a .clusters) (b .clusters)) _ e .0))
+same-clusters a b e = sym (eqb-true (a .clusters) (b .clusters) (and-elim-left (eqb (a .clusters) (b .clusters)) _ e))
 
 both-right : (a b : Part) → rightPart a ≡ true → rightPart b ≡ true → sameInput a b ≡ true → rightPart (withWork a (joined (workIn a) (workIn b))) ≡ true
 both-right a b r s e =
@@ -134,7 +135,7 @@ module _ (p : Part) where
     closes-in-search m =
         let e = p .held .first in
         let i = first-held (p .held .count) (p .held .first) (p .held .second) (closes-with-triple m) in
-        let k = and-both (not (isNan (e .score))) (inMarked rows (p .marks) e) (shaped .scored e i) .1 in
+        let k = and-elim-right (not (isNan (e .score))) (inMarked rows (p .marks) e) (shaped .scored e i) in
         div-lt-iff-lt-mul (mul-pos (shaped .some) (shaped .some)) .0 (unmarked-above rows (p .marks) (e .position / width) (shaped .below) k)
 
 -- so whatever closes has a triple to give
@@ -262,11 +263,7 @@ empty-merged b = rw empty-bad
 
 pub merged-with-empty : (a : Part) → mergeStep a emptyPart ≡ gives BadPart a
 unfolding mergeStep
-merged-with-empty a = rw empty-bad (go (rightPart a))
-  where
-    go : (t : Bool) → cond (t && false) (cond (sameInput a emptyPart) (gives Done (withWork a (joined (workIn a) (workIn emptyPart)))) (gives OtherTrio a)) (gives BadPart a) ≡ gives BadPart a
-    go true = refl
-    go false = refl
+merged-with-empty a = rw (empty-bad, and-false)
 
 pub empty-closed : closeStep emptyPart ≡ refusedClosing BadPart emptyPart
 unfolding closeStep

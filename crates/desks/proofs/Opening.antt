@@ -3,6 +3,7 @@ use Prim.Native.Nat.{ℕ, zero, suc, _*_, _-_, _≤_}
 use mathlib.Core.Bool.{Bool, true, false, not, cond, _&&_}
 use mathlib.Core.List.{List, [], _∷_, _++_}
 use mathlib.Core.Path.{_≡_, refl, sym, ap, _∙_}
+use mathlib.Mathlib.Data.Bool.Basic.{and-elim-left, and-intro, and-elim-right}
 use native.Mathlib.Omega.{arith}
 use borrow.Author.Tests.{eqb-true, eqb-false, ltb-false, le-leb}
 use lib.Dec.{eqb, ltb}
@@ -16,7 +17,7 @@ use Rattle.refusals.specs.Refusals.{numberOf}
 use Rattle.entries.specs.Held.{heldOf}
 use Rattle.search.specs.Shape.{workRight}
 use Rattle.search.specs.Work.{noWork}
-use Rattle.search_laws.proofs.ShapeLaws.{and-true, and-both, work-right}
+use Rattle.search_laws.proofs.ShapeLaws.{work-right}
 use Rattle.search_laws.proofs.WorkLaws.{none-sound}
 use Rattle.family.proofs.GenotypesLaws.{genotypes-some, genotypes-few}
 use Rattle.parts.specs.declared.part.Stepped.{Stepped}
@@ -72,8 +73,8 @@ module _ (n : ℕ) (counts : List ℕ) (weights : List Float) where
       record {
         some-clusters = omega arith;
         few-clusters = ltb-false 8 n (p .no-second);
-        counts-length = eqb-true (length counts) (3 * n) (and-both (eqb (length counts) (3 * n)) (eqb (length weights) n) (p .third) .0);
-        weights-length = eqb-true (length weights) n (and-both (eqb (length counts) (3 * n)) (eqb (length weights) n) (p .third) .1);
+        counts-length = eqb-true (length counts) (3 * n) (and-elim-left (eqb (length counts) (3 * n)) (eqb (length weights) n) (p .third));
+        weights-length = eqb-true (length weights) n (and-elim-right (eqb (length counts) (3 * n)) (eqb (length weights) n) (p .third));
         counts-allowed = p .fourth;
         weights-allowed = p .fifth;
       }
@@ -89,11 +90,11 @@ module _ (n : ℕ) (counts : List ℕ) (weights : List Float) where
 module _ {A : Type 0} (inUse unused : A → Bool) (z : A) (blank : unused z ≡ true) where
   places-none : (m : ℕ) → placesRight inUse unused 0 (replicate m z) ≡ true
   places-none zero = refl
-  places-none (suc m) = and-true blank (places-none m)
+  places-none (suc m) = and-intro blank (places-none m)
 
   places-front : (l : List A) (m : ℕ) → every inUse l ≡ true → placesRight inUse unused (length l) (l ++ replicate m z) ≡ true
   places-front [] m a = places-none m
-  places-front (x ∷ l) m a = and-true (and-both (inUse x) (every inUse l) a .0) (places-front l m (and-both (inUse x) (every inUse l) a .1))
+  places-front (x ∷ l) m a = and-intro (and-elim-left (inUse x) (every inUse l) a) (places-front l m (and-elim-right (inUse x) (every inUse l) a))
 
   pub places-padded : (k : ℕ) (l : List A) → every inUse l ≡ true → placesRight inUse unused (length l) (padded k z l) ≡ true
   places-padded k l a = places-front l (k - length l) a
@@ -122,8 +123,8 @@ module _ (n : ℕ) (counts : List ℕ) (weights : List Float) (o : Opened n coun
   pub fresh-right : rightPart (freshPart n counts weights) ≡ true
   unfolding rightPart inputRight
   fresh-right =
-      and-true
-      (and-true (le-leb 1 n (o .some-clusters)) (and-true (le-leb n 8 (o .few-clusters)) (and-true
+      and-intro
+      (and-intro (le-leb 1 n (o .some-clusters)) (and-intro (le-leb n 8 (o .few-clusters)) (and-intro
       (ap (λ (i : ℕ). placesRight countAllowed noCount i (padded 24 0 counts)) (sym (o .counts-length))
       ∙ places-padded countAllowed noCount 0 refl 24 counts (o .counts-allowed))
       (ap (λ (i : ℕ). placesRight weightAllowed noWeight i (padded 8 (nat 0) weights)) (sym (o .weights-length))

@@ -1,8 +1,9 @@
 -- D3: every history of parts of one accepted input keeps its promises. Of a score nothing is used but that it is a number.
 use Prim.Native.Nat.{ℕ, _<_}
-use mathlib.Core.Bool.{Bool, true, false, not, cond, _&&_, _||_}
+use mathlib.Core.Bool.{Bool, true, false, not, cond, _&&_, _||_, or-true}
 use mathlib.Core.List.{List, [], _∷_, map}
 use mathlib.Core.Path.{_≡_, refl, sym, ap, subst, _∙_}
+use mathlib.Mathlib.Data.Bool.Basic.{and-intro, and-elim-right}
 use native.Mathlib.Nat.{mul-pos}
 use borrow.Author.Tests.{ltb-true, eq-eqb, ne-eqb}
 use lib.Dec.{T, eqb, ltb}
@@ -16,12 +17,13 @@ use Rattle.search.specs.Shape.{workRight}
 use Rattle.search.specs.Work.{Work, joined, noWork, rowWork, Within, wholeWork}
 use Rattle.search_laws.specs.Sound.{Sound}
 use Rattle.search_laws.proofs.JoinLaws.{sound-unique}
-use Rattle.search_laws.proofs.ShapeLaws.{and-true, and-both, Shaped, right-shaped, held-back, work-right}
+use Rattle.search_laws.proofs.ShapeLaws.{Shaped, right-shaped, held-back, work-right}
 use Rattle.search_laws.proofs.WorkLaws.{none-sound, row-sound, joined-sound, sound-full, sound-not-full, sound-all}
 use Rattle.parts.specs.declared.part.Part.{Part}
 use Rattle.parts.specs.declared.part.Stepped.{Stepped}
 use Rattle.triples.specs.Genotypes.{rowWidth}
 use Rattle.parts.specs.Part.{sameNumbers, inputRight, sameInput, rowCount, workIn, withWork, rightPart, gives}
+use Rattle.parts.proofs.RightLaws.{right-input}
 use Rattle.trio.specs.Steps.{scoreIn, rowStep, mergeStep}
 use Rattle.closings.specs.Closing.{closedAs, refusedClosing, closeStep}
 use Rattle.desks.specs.Call.{onePassCall}
@@ -52,10 +54,6 @@ module _ (start : Part) where
       go true = ap (λ (t : Bool). t || eqb s r) e
       go false = e
 
-  or-true : (t : Bool) → (t || true) ≡ true
-  or-true true = refl
-  or-true false = refl
-
   later-keeps : {h k : History start} (r : ℕ) → Later start h k → rowsOf start h r ≡ true → rowsOf start k r ≡ true
   unfolding rowsOf
   later-keeps r itself e = e
@@ -68,8 +66,7 @@ module _ (start : Part) where
 -- start is an opened part: of the right shape, with no work in it, and its scores are numbers
 module _ (start : Part) (right-start : rightPart start ≡ true) (none : start ≡ withWork start noWork) (solid : (p : ℕ) → isNan (scoreIn start p) ≡ false) where
   input-right : inputRight start ≡ true
-  unfolding rightPart
-  input-right = and-both (inputRight start) (workRight (rowCount start) (start .marks) (start .held)) right-start .0
+  input-right = right-input start right-start
 
   abbrev rows : ℕ
   rows = rowCount start
@@ -82,7 +79,7 @@ module _ (start : Part) (right-start : rightPart start ≡ true) (none : start �
 
   shaped : Shaped rows (start .marks) (start .held)
   unfolding rightPart
-  shaped = right-shaped rows (start .marks) (start .held) (and-both (inputRight start) (workRight rows (start .marks) (start .held)) right-start .1)
+  shaped = right-shaped rows (start .marks) (start .held) (and-elim-right (inputRight start) (workRight rows (start .marks) (start .held)) right-start)
 
   some-width : 0 < width
   some-width = mul-pos (shaped .some) (shaped .some)
@@ -116,8 +113,8 @@ module _ (start : Part) (right-start : rightPart start ≡ true) (none : start �
   same-on : (v z : Work) → sameInput (withWork start v) (withWork start z) ≡ true
   unfolding sameInput
   same-on v z =
-      and-true (eq-eqb (start .clusters) (start .clusters) refl)
-      (and-true (same-self (start .counts)) (same-self (map (toBits binary64) (start .weights))))
+      and-intro (eq-eqb (start .clusters) (start .clusters) refl)
+      (and-intro (same-self (start .counts)) (same-self (map (toBits binary64) (start .weights))))
 
   merge-on : (w u : ℕ → Bool) (v z : Work) → IsSound w v → IsSound u z → mergeStep (withWork start v) (withWork start z) ≡ gives Done (withWork start (joined v z))
   unfolding mergeStep

@@ -2,6 +2,7 @@
 use Prim.Native.Nat.{ℕ, zero, suc, _≤_, _<_}
 use mathlib.Core.Bool.{Bool, true, false, _||_}
 use mathlib.Core.Path.{_≡_, refl, sym, ap, _∙_}
+use mathlib.Mathlib.Data.Bool.Basic.{or-inr}
 use native.Mathlib.Decide.{ℕ-discrete}
 use native.Mathlib.Nat.{not-suc-le-zero}
 use native.Mathlib.Omega.{arith}
@@ -28,17 +29,13 @@ module _ (start : Part) where
   rising-part zero = refl
   rising-part (suc k) = ap (λ (p : Part). rowStep p k .part) (rising-part k)
 
-  or-true : (t u : Bool) → u ≡ true → (t || u) ≡ true
-  or-true true u e = refl
-  or-true false u e = e
-
   rising-rows : (k r : ℕ) → k ≤ rowCount start → r < k → rowsOf start (rising k) r ≡ true
   unfolding rowsOf
   rising-rows zero r h l = absurd (not-suc-le-zero l)
   rising-rows (suc k) r h l = rw (lt-ltb k (rowCount start) h) (go (λ n. rising-rows k r (omega arith) n) (ℕ-discrete k r))
     where
       go : (r < k → rowsOf start (rising k) r ≡ true) → Dec (k ≡ r) → (rowsOf start (rising k) r || eqb k r) ≡ true
-      go f (yes e) = or-true (rowsOf start (rising k) r) (eqb k r) (eq-eqb k r e)
+      go f (yes e) = or-inr (rowsOf start (rising k) r) (eqb k r) (eq-eqb k r e)
       go f (no n) = ap (λ (t : Bool). t || eqb k r) (f (omega arith))
 
   pub rising-closes : rightPart start ≡ true → start ≡ withWork start noWork → ((p : ℕ) → isNan (scoreIn start p) ≡ false)

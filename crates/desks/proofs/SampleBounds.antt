@@ -7,7 +7,7 @@ use mathlib.Core.Path.{_≡_, refl, sym, subst}
 use mathlib.Core.Bool.{Bool, true, false, not, _&&_, _||_, and-false}
 use mathlib.Core.Logic.{⊎-elim}
 use mathlib.Core.List.{List, _++_, map}
-use borrow.Author.Tests.{le-ltb}
+use borrow.Author.Tests.{leb-true, le-ltb}
 use lib.Dec.{T, ltb, lit≤, lit<}
 use lib.IntN.{pos}
 use lib.ListN.{getD}
@@ -152,7 +152,7 @@ sample-least n counts weights s h z = rw z
 
 module _ (n : ℕ) (counts : List ℕ) (weights : List Float) (a : Accepted n counts weights) (s : Sample) where
   count-small : (c : ℕ) → c < n → reads counts (sampleNumber s) c ≤ 1000000
-  count-small c h = a .count-allowed (3 * c + sampleNumber s) (omega (arith, sample-below s))
+  count-small c h = leb-true (reads counts (sampleNumber s) c) 1000000 (a .count-allowed (3 * c + sampleNumber s) (omega (arith, sample-below s)))
 
   total-small : columnTotal n counts s < 2 ^ 23
   unfolding columnTotal

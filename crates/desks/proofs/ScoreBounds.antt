@@ -2,18 +2,18 @@
 -- Assumes nothing.
 use Prim.Native.Nat.{ℕ, suc-le-suc, _/_, _%_, _^_, _<_}
 use native.Mathlib.Omega.{arith}
-use mathlib.Core.Path.{_≡_, refl, ap, subst, _∙_}
+use mathlib.Core.Path.{_≡_, ap, subst, _∙_}
 use mathlib.Core.Bool.{Bool, true, false, cond}
 use mathlib.Core.List.{List}
 use lib.Dec.{T, lit≤, lit<}
 use lib.ListN.{length}
-use lib.Ieee.{Float, inf, binary64, add, round, isNan, fits, div, ofInt}
+use lib.Ieee.{Float, inf, binary64, round, isNan, fits, div, ofInt}
 use lib.Ieee.Fits.{round-fits, add-fits, div-fits}
 use lib.Ieee.Scale.{finite}
 use lib.Ieee.Positive.{positive}
 use Rattle.floats.specs.F64.{_⊕_, _⊘_, nat, decimal}
 use Rattle.floats.specs.Within.{Within, Low, least, finite-low}
-use Rattle.floats.proofs.Bounds.{within-more, within-add, above-fraction, low-number, low-more, low-add, least-left, least-right}
+use Rattle.floats.proofs.Bounds.{within-more, within-add, above-fraction, low-number, low-more, low-add, least-low, low-least}
 use Rattle.kernels.specs.Ln.{lnOf}
 use Rattle.bounds.proofs.LnBounds.{within-ln}
 use Rattle.family.specs.declared.pair.Pair.{Pair}
@@ -52,23 +52,11 @@ mendel-within c f m = go (among (ordered (c .low) (c .high)) (childPairs f m))
         within-ln (nat 1 ⊘ nat d) (div-fits binary64 (nat 1) (nat d)) (every-between (λ (e : ℕ). positive (nat 1 ⊘ nat e)) 1 4 d reciprocals-positive (few .0) (suc-le-suc (few .1)))
     go false = within-ln (decimal 1 6) (round-fits binary64 false 1 (10 ^ 6)) (above-fraction 1 (10 ^ 6) 1 20 (lit< tt) (lit≤ tt) (lit≤ tt) (lit≤ tt) (lit≤ tt) .is-positive)
 
--- ---- minus infinity swallows what it is added to
-
-swallows : {n : ℕ} {x : Float} → Low n x → inf true ⊕ x ≡ inf true
-unfolding add
-swallows least = refl
-swallows {x} (finite-low w) = least-left x w
-
-swallowed : {n : ℕ} {x : Float} → Low n x → x ⊕ inf true ≡ inf true
-unfolding add
-swallowed least = refl
-swallowed {x} (finite-low w) = least-right x w
+-- ---- the score at a position
 
 low-not-plus : {n : ℕ} {x : Float} → Low n x → x ≡ inf false → ⊥
 low-not-plus least e = let z : _≡_ {A = ℕ} 0 1 = cc in omega arith
 low-not-plus (finite-low w) e = subst (λ (y : Float). T (finite y)) e (w .is-finite)
-
--- ---- the score at a position
 
 module _ (n : ℕ) (counts : List ℕ) (weights : List Float) (a : Accepted n counts weights) (p : ℕ) where
   -- the score of an animal under genotype k
@@ -125,6 +113,6 @@ module _ (n : ℕ) (counts : List ℕ) (weights : List Float) (a : Accepted n co
 
   -- some animal has none: the sums swallow the rest
   pub unread-least : (s : Sample) → columnTotal n counts s ≡ 0 → scoreOf n counts weights p ≡ inf true
-  unread-least Child z = score-is ∙ rw (none Child child z, swallowed parents-low, swallows (finite-low heredity))
-  unread-least Father z = score-is ∙ rw (none Father father z, swallows (low Mother mother), swallows (low Child child), swallows (finite-low heredity))
-  unread-least Mother z = score-is ∙ rw (none Mother mother z, swallowed (low Father father), swallows (low Child child), swallows (finite-low heredity))
+  unread-least Child z = score-is ∙ rw (none Child child z, low-least parents-low, least-low (finite-low heredity))
+  unread-least Father z = score-is ∙ rw (none Father father z, least-low (low Mother mother), least-low (low Child child), least-low (finite-low heredity))
+  unread-least Mother z = score-is ∙ rw (none Mother mother z, low-least (low Father father), least-low (low Child child), least-low (finite-low heredity))

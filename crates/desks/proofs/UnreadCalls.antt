@@ -3,6 +3,7 @@ use Prim.Native.Nat.{ℕ, zero, suc, _+_, _*_, _-_, _≤_}
 use mathlib.Core.Bool.{Bool, true, false, _||_}
 use mathlib.Core.List.{List, [], _∷_, map}
 use mathlib.Core.Path.{_≡_, refl, sym, ap, ap₂, subst, _∙_}
+use mathlib.Mathlib.Data.Bool.Basic.{or-inr}
 use native.Mathlib.Nat.{mul-le-mul, le-trans}
 use native.Mathlib.Omega.{arith}
 use borrow.Author.Tests.{eqb-true, eq-eqb}
@@ -11,9 +12,7 @@ use lib.Ieee.{Float, inf}
 use Rattle.refusals.specs.Refusals.{numberOf}
 use Rattle.entries.specs.declared.entry.Entry.{Entry}
 use Rattle.entries.specs.Held.{heldOf}
-use Rattle.search.specs.Shape.{workRight}
 use Rattle.search.specs.Work.{onePass, entryAt, allEntries}
-use Rattle.search_laws.proofs.ShapeLaws.{and-both}
 use Rattle.parts.specs.declared.part.Part.{Part}
 use Rattle.parts.specs.declared.part.Stepped.{Stepped}
 use Rattle.family.specs.declared.sample.Sample.{Sample}
@@ -24,7 +23,8 @@ use Rattle.triples.specs.Genotypes.{genotypeAt, rowWidth, tripleAt, tripleOf}
 use Rattle.lists.specs.Lists.{numbers, padded}
 use Rattle.lists.proofs.PaddedLaws.{padded-at}
 use Rattle.samples.specs.Samples.{inUse, reads, sum, columnTotal}
-use Rattle.parts.specs.Part.{inputRight, rowCount, rightPart, freshPart}
+use Rattle.parts.specs.Part.{rowCount, freshPart}
+use Rattle.parts.proofs.RightLaws.{right-input}
 use Rattle.opening.specs.Opening.{openStep}
 use Rattle.trio.specs.Steps.{scoreIn}
 use Rattle.closings.specs.Closing.{unread, groundOf, closedAs}
@@ -111,22 +111,17 @@ unread-column n counts h = go (eqb (columnTotal n counts Child) 0) refl (eqb (co
 -- a mother without reads makes a trio unread
 pub unread-of : (n : ℕ) (counts : List ℕ) → columnTotal n counts Mother ≡ 0 → unread n counts ≡ true
 unfolding unread
-unread-of n counts e = rw (eq-eqb (columnTotal n counts Mother) 0 e) (go (eqb (columnTotal n counts Child) 0) (eqb (columnTotal n counts Father) 0))
-  where
-    go : (a b : Bool) → (a || (b || true)) ≡ true
-    go true b = refl
-    go false true = refl
-    go false false = refl
+unread-of n counts e = or-inr (eqb (columnTotal n counts Child) 0) _ (or-inr (eqb (columnTotal n counts Father) 0) _ (eq-eqb (columnTotal n counts Mother) 0 e))
 
 module _ (n : ℕ) (counts : List ℕ) (weights : List Float) (accepted : numberOf (openStep n counts weights .refusal) ≡ 0) (many : 2 ≤ n) where
   pub unread-call : unread n counts ≡ true → LastUnread n (callOf n counts weights)
-  unfolding calledBy rightPart
+  unfolding calledBy
   unread-call none =
       let o = opened-tells n counts weights accepted in
       let f = o .few-clusters in
       let p = freshPart n counts weights in
       let u : unread n (p .counts) ≡ true = unread-padded counts n ∙ none in
-      let r = and-both (inputRight p) (workRight (rowCount p) (p .marks) (p .held)) (fresh-right n counts weights o) .0 in
+      let r = right-input p (fresh-right n counts weights o) in
       let a = input-accepted p r (fresh-places n counts weights o) in
       let c = unread-column n (p .counts) u in
       subst (λ (s : Stepped). LastUnread n (calledBy s)) (sym (opened-is n counts weights accepted))

@@ -1,8 +1,9 @@
 -- On an allowed table calibration never divides between equal neighbours, and the calibrated value of a number from 0 to 1000 is at most 3000 in
 -- size. Assumes nothing.
 use mathlib.Core.Path.{_≡_, refl, sym, subst}
-use mathlib.Core.Bool.{Bool, true, false, _&&_, cond, true≢false}
+use mathlib.Core.Bool.{Bool, true, false, _&&_, cond}
 use mathlib.Core.List.{List, [], _∷_}
+use mathlib.Mathlib.Data.Bool.Basic.{and-elim-left, and-elim-right}
 use Prim.Native.Nat.{ℕ, _%_}
 use lib.IntN.{pos}
 use lib.Dec.{T, leb, eqb, lit≤}
@@ -21,14 +22,6 @@ use Rattle.floats.proofs.Fractions.{above-by-test, below-through, difference-mo
 
 -- ---- what the tests of an allowed table give
 
-pub and-first : (a b : Bool) → (a && b) ≡ true → a ≡ true
-and-first true b h = refl
-and-first false b h = h
-
-pub and-second : (a b : Bool) → (a && b) ≡ true → b ≡ true
-and-second true b h = h
-and-second false b h = absurd (true≢false (sym h))
-
 -- from 0 to 1000, -0.0 among them
 record Sound (x : Float) : Type 0 where
   small : Within 1000 x
@@ -37,8 +30,8 @@ record Sound (x : Float) : Type 0 where
 sound : (x : Float) → inRange (nat 0) (nat 1000) x ≡ true → Sound x
 unfolding round ofInt
 sound x h =
-    let lo : T (le (nat 0) x) = subst T (sym (and-first (le (nat 0) x) (le x (nat 1000)) h)) tt in
-    let hi : T (le x (nat 1000)) = subst T (sym (and-second (le (nat 0) x) (le x (nat 1000)) h)) tt in
+    let lo : T (le (nat 0) x) = subst T (sym (and-elim-left (le (nat 0) x) (le x (nat 1000)) h)) tt in
+    let hi : T (le x (nat 1000)) = subst T (sym (and-elim-right (le (nat 0) x) (le x (nat 1000)) h)) tt in
     let w : Within 1000 x = within-range x (within-whole (pos 0) 1000 (lit≤ tt) (lit≤ tt)) (within-whole (pos 1000) 1000 (lit≤ tt) (lit≤ tt)) lo hi in
     record { small = w; not-below = not-below-zero x (w .is-finite) lo }
 
@@ -60,12 +53,12 @@ unfolding entries
 sound-entries [] h = tt
 sound-entries (x ∷ []) h = tt
 sound-entries (x ∷ y ∷ rest) h =
-    let r : (inRange (nat 0) (nat 1000) y && allIn (nat 0) (nat 1000) rest) ≡ true = and-second (inRange (nat 0) (nat 1000) x) (allIn (nat 0) (nat 1000) (y ∷ rest)) h in (
+    let r : (inRange (nat 0) (nat 1000) y && allIn (nat 0) (nat 1000) rest) ≡ true = and-elim-right (inRange (nat 0) (nat 1000) x) (allIn (nat 0) (nat 1000) (y ∷ rest)) h in (
       record {
-        first = sound x (and-first (inRange (nat 0) (nat 1000) x) (allIn (nat 0) (nat 1000) (y ∷ rest)) h);
-        second = sound y (and-first (inRange (nat 0) (nat 1000) y) (allIn (nat 0) (nat 1000) rest) r);
+        first = sound x (and-elim-left (inRange (nat 0) (nat 1000) x) (allIn (nat 0) (nat 1000) (y ∷ rest)) h);
+        second = sound y (and-elim-left (inRange (nat 0) (nat 1000) y) (allIn (nat 0) (nat 1000) rest) r);
       },
-      sound-entries rest (and-second (inRange (nat 0) (nat 1000) y) (allIn (nat 0) (nat 1000) rest) r),
+      sound-entries rest (and-elim-right (inRange (nat 0) (nat 1000) y) (allIn (nat 0) (nat 1000) rest) r),
     )
 
 held-entries : (t : List Float) → T (allFit t) → Every Held (entries t)
@@ -79,7 +72,7 @@ unfolding tableAllowed
 allowed-entries t h =
     let falls = neverFalling (entries t) in
     let all = allIn (nat 0) (nat 1000) t in
-    sound-entries t (and-first all falls (and-second (leb (length t) 32) (all && falls) (and-second (eqb (length t % 2) 0) (leb (length t) 32 && (all && falls)) h)))
+    sound-entries t (and-elim-left all falls (and-elim-right (leb (length t) 32) (all && falls) (and-elim-right (eqb (length t % 2) 0) (leb (length t) 32 && (all && falls)) h)))
 
 -- ---- v is above the first member of every entry that the search has reached
 
@@ -93,7 +86,7 @@ taken-both P s (here k) = (s .0, s .1 .0)
 taken-both P s (later k r) = taken-both P (s .1) r
 
 rising : {v : Float} {p q a : Entry} {rest : List Entry} → NotBelow v → Every SoundEntry (a ∷ rest) → lt (a .x) v ≡ true → Taken v p q a rest → (lt (p .x) v ≡ true) × (le v (q .x) ≡ true)
-rising {v} {p} {q} n s h (here k) = (h, and-second (le (p .x) v) (le v (q .x)) k)
+rising {v} {p} {q} n s h (here k) = (h, and-elim-right (le (p .x) v) (le v (q .x)) k)
 rising {v} n s h (later {a} {b} k r) = rising n (s .1) (next-above v a b n (s .1 .0 .first .not-below) h k) r
 
 divides-both : (P : Entry → Type 0) {v : Float} {p q : Entry} (es : List Entry) → Every P es → Divides v p q es → P p × P q
@@ -155,7 +148,7 @@ unfolding from
 within-from v a [] n f s e h = within-more (s .0 .second .small) (lit≤ tt)
 within-from v a (b ∷ rest) n f s e h =
     by-test (holds a b v)
-    (λ (k : holds a b v ≡ true). within-along v a b n f (s .0) (s .1 .0) (e .0) (e .1 .0) h (and-second (le (a .x) v) (le v (b .x)) k))
+    (λ (k : holds a b v ≡ true). within-along v a b n f (s .0) (s .1 .0) (e .0) (e .1 .0) h (and-elim-right (le (a .x) v) (le v (b .x)) k))
     (λ (k : holds a b v ≡ false). within-from v b rest n f (s .1) (e .1) (next-above v a b (n .not-below) (s .1 .0 .first .not-below) h k))
 
 within-by : (v : Float) (es : List Entry) → Sound v → T (fits binary64 v) → Every SoundEntry es → Every Held es → Within 3000 (calibratedBy es v)

@@ -1,6 +1,6 @@
 -- The winner is the state of the largest key, the later one where two are equal, and no other state is. Assumes nothing.
 use mathlib.Core.Path.{_≡_, refl, sym, subst}
-use mathlib.Core.Bool.{Bool, true, false, not, _&&_, cond}
+use mathlib.Core.Bool.{Bool, true, false, not, _&&_, cond, and-false}
 use native.Mathlib.Nat.{le-of-lt}
 use borrow.Author.Tests.{lt-leb}
 use lib.IntN.{ℤ, pos, negsuc}
@@ -61,10 +61,6 @@ winner-wins s = go (leZ k0 k2) (leZ k1 k2) (leZ k0 k1) (at-most k0 k2) (above k0
     go true false false a b c d e f = clashℤ (<ℤ-≤ℤ-trans (f tt) (a tt)) (below-at-most k2 k1 (d tt))
     go false v true a b c d e f = het-wins (e tt) (<ℤ-≤ℤ-trans (b tt) (e tt))
     go false v false a b c d e f = ref-wins (f tt) (b tt)
-
-and-false : (b : Bool) → (b && false) ≡ false
-and-false true = refl
-and-false false = refl
 
 pub winner-only : {s : Scores} {t : State} → Wins s t → winner s ≡ t
 unfolding winner

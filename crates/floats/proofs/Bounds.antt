@@ -245,21 +245,30 @@ pub low-more : {a b : ℕ} {x : Float} → Low a x → a ≤ b → Low b x
 low-more least l = least
 low-more (finite-low h) l = finite-low (within-more h l)
 
-pub least-left : {n : ℕ} (x : Float) → Within n x → add binary64 (inf true) x ≡ inf true
+-- minus infinity swallows what it is added to
+pub least-finite : (x : Float) → T (finite x) → add binary64 (inf true) x ≡ inf true
 unfolding add
-least-left nan h = absurd (h .is-finite)
-least-left (inf s) h = absurd (h .is-finite)
-least-left (fin s m e) h = refl
+least-finite nan f = absurd f
+least-finite (inf s) f = absurd f
+least-finite (fin s m e) f = refl
 
-pub least-right : {n : ℕ} (x : Float) → Within n x → add binary64 x (inf true) ≡ inf true
+pub finite-least : (x : Float) → T (finite x) → add binary64 x (inf true) ≡ inf true
 unfolding add
-least-right nan h = absurd (h .is-finite)
-least-right (inf s) h = absurd (h .is-finite)
-least-right (fin s m e) h = refl
+finite-least nan f = absurd f
+finite-least (inf s) f = absurd f
+finite-least (fin s m e) f = refl
+
+pub least-low : {n : ℕ} {x : Float} → Low n x → add binary64 (inf true) x ≡ inf true
+unfolding add
+least-low least = refl
+least-low {x} (finite-low w) = least-finite x (w .is-finite)
+
+pub low-least : {n : ℕ} {x : Float} → Low n x → add binary64 x (inf true) ≡ inf true
+unfolding add
+low-least least = refl
+low-least {x} (finite-low w) = finite-least x (w .is-finite)
 
 pub low-add : {a b : ℕ} {x y : Float} → Low a x → Low b y → a + b ≤ 2 ^ 53 → Low (a + b) (add binary64 x y)
-unfolding add
-low-add least least l = least
-low-add {y} least (finite-low k) l = rw (least-left y k) least
-low-add {x} (finite-low h) least l = rw (least-right x h) least
+low-add least k l = rw (least-low k) least
+low-add (finite-low h) least l = rw (low-least (finite-low h)) least
 low-add (finite-low h) (finite-low k) l = finite-low (within-add h k l)

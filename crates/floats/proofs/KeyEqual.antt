@@ -1,7 +1,7 @@
 -- Two floats that are no NaN have the same key exactly where they are equal as floats: both zeros have one key, and no other two numbers share one.
 -- Of two numbers that are not equal one is below the other, so this follows from `key-order`. And the key of a NaN is below them all. Assumes nothing.
 use mathlib.Core.Path.{_≡_, refl, sym, ap, _∙_}
-use mathlib.Core.Bool.{Bool, true, false, not, _&&_, true≢false}
+use mathlib.Core.Bool.{Bool, true, false, not, _&&_, true≢false, and-true, and-false, and-comm}
 use Prim.Native.Nat.{ℕ, zero, suc, _+_, _*_, _%_, _^_, _≤_, _<_}
 use native.Mathlib.Nat.{le-antisymm, zero-lt-suc, zero-add, suc-add, add-comm}
 use native.Mathlib.Omega.{arith}
@@ -26,18 +26,6 @@ of-naturals a b = go (ltb a b) (ltb b a) (ltb→lt a b) (nltb→le a b) (ltb→l
     go true v f g h k = ne-eqb a b (apart a b (f tt))
     go false true f g h k = ne-eqb a b (λ e. apart b a (h tt) (sym e))
     go false false f g h k = eq-eqb a b (le-antisymm (k tt) (g tt))
-
-and-false : (b : Bool) → (b && false) ≡ false
-and-false true = refl
-and-false false = refl
-
-and-true : (b : Bool) → (b && true) ≡ b
-and-true true = refl
-and-true false = refl
-
-and-comm : (a b : Bool) → (a && b) ≡ (b && a)
-and-comm true b = sym (and-true b)
-and-comm false b = sym (and-false b)
 
 -- of unlike signs only the two zeros are equal
 of-zeros : (a b : ℕ) → (eqb a b && eqb a 0) ≡ not (ltb 0 (a + b))
@@ -77,7 +65,7 @@ no-order (pos a) (negsuc b) p q = absurd (true≢false q)
 no-order (negsuc a) (pos b) p q = absurd (true≢false p)
 no-order (negsuc a) (negsuc b) p q = ap negsuc (le-antisymm (ltb-false b a p) (ltb-false a b q))
 
-not-below-itself : (z : ℤ) → ltZ z z ≡ false
+pub not-below-itself : (z : ℤ) → ltZ z z ≡ false
 not-below-itself (pos a) = le-ltb a a (omega arith)
 not-below-itself (negsuc a) = le-ltb a a (omega arith)
 

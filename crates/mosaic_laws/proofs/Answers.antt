@@ -3,6 +3,7 @@
 use mathlib.Core.Path.{_≡_, refl, sym, ap, _∙_, subst}
 use mathlib.Core.Bool.{Bool, true, false, not, _||_, cond, true≢false}
 use mathlib.Core.List.{List, [], _∷_, map}
+use mathlib.Mathlib.Data.Bool.Basic.{and-elim-left}
 use Prim.Native.Nat.{ℕ, zero, suc, pred, _-_, _^_, _≤_, _<_}
 use native.Mathlib.Omega.{arith}
 use borrow.Author.Tests.{ltb-true, ltb-false, leb-true, eqb-false}
@@ -32,7 +33,6 @@ use Rattle.mosaic.specs.declared.genotype.MosaicResult.{MosaicResult}
 use Rattle.mosaic.proofs.OverLaws.{placed-at, placed-beyond}
 use Rattle.mosaic.proofs.WinnerLaws.{winner-low}
 use Rattle.mosaic.proofs.Scanned.{all-seen, at-most-36, number-at}
-use Rattle.diploid_laws.proofs.CalibrationBounds.{and-first}
 use Rattle.mosaic_laws.specs.Accepted.{Accepted}
 use Rattle.mosaic_laws.proofs.Seen.{seen-some, seen-in, count-in}
 use Rattle.mosaic_laws.proofs.Places.{flag-at, found-rest}
@@ -201,7 +201,7 @@ module _ (p : Params) (counts : List ℕ) (ok : Accepted p counts) where
     where
       go : (t : Bool) → somaticIn counts g i ≡ t → VafOf t (vafAt (foundOf first p counts g .vafs) i)
       go true e =
-          let f = found-vafs p counts ok g both i (seen-in counts i (and-first (seenIn counts i) (not (germlineIn g i)) e)) e in
+          let f = found-vafs p counts ok g both i (seen-in counts i (and-elim-left (seenIn counts i) (not (germlineIn g i)) e)) e in
           record { not-negative = positive-not-below (vafAt (foundOf first p counts g .vafs) i) (f .0 .above-zero); of-somatic = λ q. (f .0 .above-zero, f .1); of-other = λ q. absurd (true≢false q) }
       go false e = subst (VafOf false) (sym (found-rest counts (ok .few) g first p i m e)) nothing-here
 

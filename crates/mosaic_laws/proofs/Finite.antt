@@ -3,6 +3,7 @@
 use mathlib.Core.Path.{_≡_, refl, sym, ap, _∙_, subst}
 use mathlib.Core.Bool.{Bool, true, false, not, _&&_, _||_, cond, true≢false}
 use mathlib.Core.List.{List}
+use mathlib.Mathlib.Data.Bool.Basic.{and-elim-left, and-elim-right}
 use Prim.Native.Nat.{ℕ, zero, suc, _+_, _*_, _^_, _≤_, _<_}
 use native.Mathlib.Nat.{mul-le-mul}
 use native.Mathlib.Omega.{arith}
@@ -11,14 +12,13 @@ use lib.IntN.{pos}
 use lib.Dec.{T, eqb, lit≤, lit<}
 use lib.ListN.{length, set, replicate, length-set}
 use lib.Signed.{ltZ}
-use lib.Ieee.{Float, nan, inf, fin, binary64, round, add, lt, le, isNan, ofInt, fits}
-use lib.Ieee.Scale.{finite}
+use lib.Ieee.{Float, nan, inf, binary64, round, lt, le, isNan, ofInt, fits}
 use lib.Ieee.Fits.{add-fits, mul-fits, round-fits}
 use lib.Ieee.Positive.{above-of-le}
 use Rattle.floats.specs.F64.{_⊕_, _⊖_, _⊗_, _⊘_, nat, decimal}
 use Rattle.floats.specs.Key.{keyOf}
 use Rattle.floats.specs.Within.{Within, Low, least, finite-low}
-use Rattle.floats.proofs.Bounds.{within-number, within-more, within-whole, within-fraction, within-add, within-sub, within-mul, within-div, above-whole, above-fraction, positive-not-below, low-add, low-more}
+use Rattle.floats.proofs.Bounds.{within-number, within-more, within-whole, within-fraction, within-add, within-sub, within-mul, within-div, above-whole, above-fraction, positive-not-below, low-add, low-more, least-finite, finite-least, least-low, low-least}
 use Rattle.floats.proofs.KeyOrder.{key-order}
 use Rattle.floats.proofs.Whole.{below-is-most}
 use Rattle.floats.proofs.Fractions.{above-by-test}
@@ -34,7 +34,6 @@ use Rattle.models.specs.declared.params.Params.{Params}
 use Rattle.mosaic.specs.declared.hypotheses.Pair.{Pair}
 use Rattle.mosaic.proofs.CountLaws.{count-bound, total-bound}
 use Rattle.mosaic.proofs.OverLaws.{length-placed, at-set, placed-at}
-use Rattle.diploid_laws.proofs.CalibrationBounds.{and-first, and-second}
 use Rattle.mosaic_laws.specs.Accepted.{Accepted}
 use Rattle.mosaic_laws.proofs.Quotients.{observed-share}
 use Rattle.mosaic_laws.proofs.Terms.{either, within-factorial, highest-within, Dense, dense, Vaf, ln-within, one-at, gain-within, gain-least, above-finite, share-ln-within, one-within, two-within}
@@ -47,10 +46,10 @@ module _ (p : Params) (counts : List ℕ) (ok : Accepted p counts) (g : Pair) (b
   n = length counts
 
   first-in : g .first < n
-  first-in = seen-in counts (g .first) (and-first (seenIn counts (g .first)) (seenIn counts (g .second)) both)
+  first-in = seen-in counts (g .first) (and-elim-left (seenIn counts (g .first)) (seenIn counts (g .second)) both)
 
   second-in : g .second < n
-  second-in = seen-in counts (g .second) (and-second (seenIn counts (g .first)) (seenIn counts (g .second)) both)
+  second-in = seen-in counts (g .second) (and-elim-right (seenIn counts (g .first)) (seenIn counts (g .second)) both)
 
   total-small : totalOf counts ≤ 8000000
   total-small = omega (arith, total-bound counts (ok .counts-are) n, ok .few)
@@ -153,26 +152,6 @@ module _ (p : Params) (counts : List ℕ) (ok : Accepted p counts) (g : Pair) (b
       (λ e. low-add w (gain-low (vafAt l i) (h i (omega arith) e)) (omega (arith, steps i (2 ^ 41) (omega arith))))
       (λ e. low-more w (omega arith)))
       (finite-low (within-whole (pos 0) 0 (lit≤ tt) (lit≤ tt)))
-
-  finite-least : (x : Float) → T (finite x) → x ⊕ inf true ≡ inf true
-  unfolding add
-  finite-least nan f = absurd f
-  finite-least (inf s) f = absurd f
-  finite-least (fin s m e) f = refl
-
-  low-least : {a : ℕ} {x : Float} → Low a x → x ⊕ inf true ≡ inf true
-  low-least least = unfold add in refl
-  low-least (finite-low {x = x} w) = finite-least x (w .is-finite)
-
-  least-finite : (x : Float) → T (finite x) → inf true ⊕ x ≡ inf true
-  unfolding add
-  least-finite nan f = absurd f
-  least-finite (inf s) f = absurd f
-  least-finite (fin s m e) f = refl
-
-  least-low : {a : ℕ} {x : Float} → Low a x → inf true ⊕ x ≡ inf true
-  least-low least = unfold add in refl
-  least-low (finite-low {x = x} w) = least-finite x (w .is-finite)
 
   -- the sum is minus infinity from such an allele on
   sunk : (l : List Float) → Tryable l → (j : ℕ) → somaticIn counts g j ≡ true → le (nat 1) (vafAt l j) ≡ true → (k : ℕ) → k ≤ n → j < k → over (gainStep l) (nat 0) k ≡ inf true
@@ -301,7 +280,7 @@ module _ (p : Params) (counts : List ℕ) (ok : Accepted p counts) (g : Pair) (b
 
   other-seen : (i : ℕ) → i < n → somaticIn counts g i ≡ true → countAt counts i < totalOf counts
   other-seen i m s =
-      let one = seen-some counts (g .first) (and-first (seenIn counts (g .first)) (seenIn counts (g .second)) both) in
+      let one = seen-some counts (g .first) (and-elim-left (seenIn counts (g .first)) (seenIn counts (g .second)) both) in
       let unlike : i ≡ g .first → ⊥ = (λ q. clash (seenIn counts i) (eqb i (g .first)) (eqb i (g .second)) (same i (g .first) q) s) in
       omega (arith, counts-in counts i (g .first) n m first-in unlike)
     where
@@ -314,7 +293,7 @@ module _ (p : Params) (counts : List ℕ) (ok : Accepted p counts) (g : Pair) (b
 
   observed : (i : ℕ) → i < n → somaticIn counts g i ≡ true → let x = observedShare (countAt counts i) (nat (totalOf counts)) in Vaf x × (lt x (nat 1) ≡ true)
   observed i m s =
-      let v = observed-share (countAt counts i) (totalOf counts) (seen-some counts i (and-first (seenIn counts i) (not (germlineIn g i)) s)) (other-seen i m s) (omega (arith, total-small)) in
+      let v = observed-share (countAt counts i) (totalOf counts) (seen-some counts i (and-elim-left (seenIn counts i) (not (germlineIn g i)) s)) (other-seen i m s) (omega (arith, total-small)) in
       (record { above-zero = v .above-zero; is-f64 = v .is-f64; within = within-more (v .within) (lit≤ tt) }, v .below-one)
 
   step-vaf : (s : ℕ) → s ≤ 20 → lt (decimal 1 3) (stepOf (p .highest) s) ≡ true → Vaf (stepOf (p .highest) s)

@@ -10,7 +10,7 @@ use Rattle.parts.specs.declared.part.Part.{Part}
 use Rattle.parts.specs.Part.{inputRight, rowCount, rightPart}
 
 module _ (p : Part) (right : rightPart p ≡ true) where
-  right-input : inputRight p ≡ true
+  pub right-input : inputRight p ≡ true
   unfolding rightPart
   right-input = and-elim-left (inputRight p) (workRight (rowCount p) (p .marks) (p .held)) right
 

@@ -1,8 +1,9 @@
 -- Joining two works of the right shape gives one of the right shape, whoever made them.
 use Prim.Native.Nat.{ℕ, zero, suc, _*_, _/_, _≤_}
-use mathlib.Core.Bool.{Bool, true, false, not, _||_, or-true}
+use mathlib.Core.Bool.{Bool, true, false, not, _||_, or-true, and-eq-true-iff}
 use mathlib.Core.Logic.{inl, inr, ⊎-elim, _≢_}
 use mathlib.Core.Path.{_≡_, refl, ap, ap₂, _∙_}
+use mathlib.Mathlib.Data.Bool.Basic.{and-intro}
 use native.Mathlib.Decide.{ℕ-discrete}
 use native.Mathlib.Nat.{not-suc-le-zero, le-of-suc-le-suc}
 use native.Mathlib.Omega.{arith}
@@ -18,7 +19,7 @@ use Rattle.search.proofs.CountLaws.{held-none, held-two}
 use Rattle.search_laws.specs.Both.{Both, Ordered}
 use Rattle.search_laws.proofs.WordLaws.{marked-or}
 use Rattle.search_laws.proofs.MergeLaws.{both-one, merged-two-best}
-use Rattle.search_laws.proofs.ShapeLaws.{and-true, and-both, Shaped, right-shaped, marked-holds, Fills, best-right}
+use Rattle.search_laws.proofs.ShapeLaws.{Shaped, right-shaped, marked-holds, Fills, best-right}
 
 -- ---- the entries in use
 
@@ -41,13 +42,13 @@ module _ (rows m k : ℕ) (a b : Held) (s : Shaped rows m a) (t : Shaped rows k 
 
   scored-first : (e : Entry) → scoredInMarked rows m e ≡ true → scoredInMarked rows (bitOr m k) e ≡ true
   scored-first e p =
-      let q = and-both (not (isNan (e .score))) (inMarked rows m e) p in
-      and-true (q .0) (marked-or m k (row e) ∙ ap (λ (x : Bool). x || isMarked k (row e)) (q .1))
+      let q = and-eq-true-iff (not (isNan (e .score))) (inMarked rows m e) .0 p in
+      and-intro (q .0) (marked-or m k (row e) ∙ ap (λ (x : Bool). x || isMarked k (row e)) (q .1))
 
   scored-second : (e : Entry) → scoredInMarked rows k e ≡ true → scoredInMarked rows (bitOr m k) e ≡ true
   scored-second e p =
-      let q = and-both (not (isNan (e .score))) (inMarked rows k e) p in
-      and-true (q .0) (marked-or m k (row e) ∙ ap (λ (x : Bool). isMarked m (row e) || x) (q .1) ∙ or-true (isMarked m (row e)))
+      let q = and-eq-true-iff (not (isNan (e .score))) (inMarked rows k e) .0 p in
+      and-intro (q .0) (marked-or m k (row e) ∙ ap (λ (x : Bool). isMarked m (row e) || x) (q .1) ∙ or-true (isMarked m (row e)))
 
   -- ---- there are entries enough: those of the first, or where it has no mark those of the second
 

@@ -4,6 +4,7 @@ use mathlib.Core.Bool.{Bool, true, false, not, cond, _||_, true≢false}
 use mathlib.Core.List.{List, [], _∷_}
 use mathlib.Core.Logic.{_⊎_, inl, inr, ⊎-elim}
 use mathlib.Core.Path.{_≡_, refl, sym, ap, subst, _∙_}
+use mathlib.Mathlib.Data.Bool.Basic.{or-inr}
 use borrow.Author.Tests.{eqb-true, eq-eqb, not-true}
 use lib.Dec.{T, eqb}
 use lib.Ieee.{Float}
@@ -31,11 +32,7 @@ held-at (a ∷ l) p h = go (eqb (a .position) p) refl h (held-at l p)
 in-held-at : (l : List Entry) (x : Entry) → In l x → holdsAt l (x .position) ≡ true
 in-held-at [] x i = absurd i
 in-held-at (a ∷ l) x (inl e) = ap (λ (t : Bool). t || holdsAt l (x .position)) (eq-eqb (a .position) (x .position) (ap (λ (y : Entry). y .position) (sym e)))
-in-held-at (a ∷ l) x (inr i) = go (eqb (a .position) (x .position)) (in-held-at l x i)
-  where
-    go : (t : Bool) → holdsAt l (x .position) ≡ true → (t || holdsAt l (x .position)) ≡ true
-    go true h = refl
-    go false h = h
+in-held-at (a ∷ l) x (inr i) = or-inr (eqb (a .position) (x .position)) (holdsAt l (x .position)) (in-held-at l x i)
 
 -- what is fresh is of the list, at a position that `own` does not hold
 fresh-in : (own l : List Entry) (x : Entry) → In (fresh own l) x → In l x × (holdsAt own (x .position) ≡ false)

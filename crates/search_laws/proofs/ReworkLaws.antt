@@ -4,6 +4,7 @@ use mathlib.Core.Bool.{Bool, true, not, _||_, or-true}
 use mathlib.Core.List.{List, [], _∷_}
 use mathlib.Core.Logic.{_⊎_, inl, inr, ⊎-elim}
 use mathlib.Core.Path.{_≡_, refl, sym, ap, ap₂, subst, _∙_}
+use mathlib.Mathlib.Data.Bool.Basic.{and-elim-right}
 use native.Mathlib.Decide.{ℕ-discrete}
 use native.Mathlib.Nat.{add-zero, mul-pos}
 use native.Mathlib.Omega.{arith}
@@ -26,7 +27,7 @@ use Rattle.lists.specs.Lists.{numbers}
 use Rattle.search_laws.specs.Sound.{workedAll, Covers}
 use Rattle.search_laws.proofs.WordLaws.{marked-one, marked-or, marked-full}
 use Rattle.search_laws.proofs.MergeLaws.{merged-best, ordered-best}
-use Rattle.search_laws.proofs.ShapeLaws.{Shaped, right-shaped, and-both}
+use Rattle.search_laws.proofs.ShapeLaws.{Shaped, right-shaped}
 use Rattle.search_laws.proofs.WorkLaws.{row-best, best-all}
 
 module _ (width : ℕ) (score : ℕ → Float) where
@@ -103,7 +104,7 @@ module _ (rows : ℕ) (score : ℕ → Float) (marks : ℕ) (h : Held) (right : 
       full = marked-full rows (workedAll (rows * rows) score l start .marks) (worked-below (rows * rows) score rows l start (shaped .below) (c .none-past)) (λ r k. worked-marked (rows * rows) score l start r (c .every r k))
 
       held-row : (e : Entry) → In (heldList h) e → e .position / (rows * rows) < rows
-      held-row e i = unmarked-above rows marks (e .position / (rows * rows)) (shaped .below) (and-both (not (isNan (e .score))) (inMarked rows marks e) (shaped .scored e i) .1)
+      held-row e i = unmarked-above rows marks (e .position / (rows * rows)) (shaped .below) (and-elim-right (not (isNan (e .score))) (inMarked rows marks e) (shaped .scored e i))
 
       best : workedAll (rows * rows) score l start .held ≡ onePass 2 (allEntries rows (rows * rows) score)
       best =

@@ -1,9 +1,10 @@
 -- What the right shape says, and that a sound partial result has it.
 use Prim.Native.Nat.{ℕ, zero, suc, _+_, _*_, _/_, _^_, _≤_, _<_}
-use mathlib.Core.Bool.{Bool, true, false, not, _&&_, true≢false}
+use mathlib.Core.Bool.{Bool, true, false, not, true≢false, and-eq-true-iff}
 use mathlib.Core.List.{List, [], _∷_}
 use mathlib.Core.Logic.{⊎-elim, _≢_}
 use mathlib.Core.Path.{_≡_, refl, sym, ap, subst, _∙_}
+use mathlib.Mathlib.Data.Bool.Basic.{and-intro, and-elim-right}
 use native.Mathlib.Decide.{ℕ-discrete}
 use native.Mathlib.Nat.{div-lt-iff-lt-mul, mul-pos, mul-le-mul}
 use native.Mathlib.Omega.{arith}
@@ -26,13 +27,6 @@ use Rattle.search.proofs.MarksLaws.{marked-none, some-marked, unmarked-above}
 use Rattle.search_laws.specs.Both.{Ordered}
 use Rattle.search_laws.specs.Sound.{Sound}
 
-pub and-true : {s t : Bool} → s ≡ true → t ≡ true → (s && t) ≡ true
-and-true p q = rw (p, q)
-
-pub and-both : (s t : Bool) → (s && t) ≡ true → (s ≡ true) × (t ≡ true)
-and-both true t e = (refl, e)
-and-both false t e = absurd (true≢false (sym e))
-
 -- ---- what the right shape says
 
 pub record Shaped (rows marks : ℕ) (h : Held) : Type 0 where
@@ -47,9 +41,9 @@ right-list : (rows marks n : ℕ) (f s : Entry) → listRight rows marks (inUse 
 right-list rows marks zero f s r = (tt, λ e i. absurd i)
 right-list rows marks (suc zero) f s r = (tt, λ e. ⊎-elim (λ d. subst (λ (x : Entry). scoredInMarked rows marks x ≡ true) (sym d) r) absurd)
 right-list rows marks (suc (suc n)) f s r =
-    let a = and-both (scoredInMarked rows marks f) _ r in
-    let b = and-both (scoredInMarked rows marks s) _ (a .1) in
-    let c = and-both (not (eqb (f .position) (s .position))) (beatsOf f s) (b .1) in (
+    let a = and-eq-true-iff (scoredInMarked rows marks f) _ .0 r in
+    let b = and-eq-true-iff (scoredInMarked rows marks s) _ .0 (a .1) in
+    let c = and-eq-true-iff (not (eqb (f .position) (s .position))) (beatsOf f s) .0 (b .1) in (
       (eqb-false (f .position) (s .position) (not-true _ (c .0)), subst T (sym (c .1)) tt),
       λ e. ⊎-elim (λ d. subst (λ (x : Entry). scoredInMarked rows marks x ≡ true) (sym d) (a .0)) (⊎-elim (λ d. subst (λ (x : Entry). scoredInMarked rows marks x ≡ true) (sym d) (b .0)) absurd),
     )
@@ -57,11 +51,11 @@ right-list rows marks (suc (suc n)) f s r =
 pub right-shaped : (rows marks : ℕ) (h : Held) → workRight rows marks h ≡ true → Shaped rows marks h
 unfolding workRight
 right-shaped rows marks h r =
-    let a = and-both (leb 1 rows) _ r in
-    let b = and-both (leb rows 63) _ (a .1) in
-    let c = and-both (ltb marks (2 ^ rows)) _ (b .1) in
-    let d = and-both (eqb (h .count) (heldCount rows marks)) _ (c .1) in
-    let e = and-both (unusedZero (h .count) (h .first) (h .second)) _ (d .1) in
+    let a = and-eq-true-iff (leb 1 rows) _ .0 r in
+    let b = and-eq-true-iff (leb rows 63) _ .0 (a .1) in
+    let c = and-eq-true-iff (ltb marks (2 ^ rows)) _ .0 (b .1) in
+    let d = and-eq-true-iff (eqb (h .count) (heldCount rows marks)) _ .0 (c .1) in
+    let e = and-eq-true-iff (unusedZero (h .count) (h .first) (h .second)) _ .0 (d .1) in
     let l = right-list rows marks (h .count) (h .first) (h .second) (e .1) in
     record {
       some = leb-true 1 rows (a .0);
@@ -114,13 +108,13 @@ module _ {rows marks : ℕ} {S : Entry → Type 0} (f : Fills rows marks S) (som
   list-right (p ∷ []) b = f .scored p (b .0 .0)
   list-right (p ∷ q ∷ []) b =
       let m = b .1 .0 .0 in
-      and-true (f .scored p (b .0 .0)) (and-true (f .scored q (m .0)) (and-true
+      and-intro (f .scored p (b .0 .0)) (and-intro (f .scored q (m .0)) (and-intro
       (ap not (ne-eqb (p .position) (q .position) (λ e. m .1 (f .apart q p (m .0) (b .0 .0) (sym e)))))
       (is-true (beatsOf p q) (⊎-elim (λ e. absurd (m .1 e)) (λ t. t) (b .0 .1 q (m .0))))))
   list-right (p ∷ q ∷ r ∷ l) b = absurd (b .1 .1)
 
   in-marked : (e : Entry) → S e → inMarked rows marks e ≡ true
-  in-marked e p = and-both (not (isNan (e .score))) (inMarked rows marks e) (f .scored e p) .1
+  in-marked e p = and-elim-right (not (isNan (e .score))) (inMarked rows marks e) (f .scored e p)
 
   count-none : marks ≡ 0 → (l : List Entry) → Best beatsOf 2 S l → heldOf l .count ≡ 0
   count-none z [] b = refl
@@ -164,11 +158,11 @@ module _ {rows marks : ℕ} {S : Entry → Type 0} (f : Fills rows marks S) (som
   pub best-right : (l : List Entry) → Best beatsOf 2 S l → workRight rows marks (heldOf l) ≡ true
   unfolding workRight
   best-right l b =
-      and-true (le-leb 1 rows some)
-      (and-true (le-leb rows 63 few)
-      (and-true (lt-ltb marks (2 ^ rows) below)
-      (and-true (eq-eqb (heldOf l .count) (heldCount rows marks) (count-right l b))
-      (and-true (unused-zero l) (ap (listRight rows marks) (held-back S l b) ∙ list-right l b)))))
+      and-intro (le-leb 1 rows some)
+      (and-intro (le-leb rows 63 few)
+      (and-intro (lt-ltb marks (2 ^ rows) below)
+      (and-intro (eq-eqb (heldOf l .count) (heldCount rows marks) (count-right l b))
+      (and-intro (unused-zero l) (ap (listRight rows marks) (held-back S l b) ∙ list-right l b)))))
 
 -- ---- so a sound partial result has it
 
@@ -185,7 +179,7 @@ module _ {rows : ℕ} {score : ℕ → Float} (solid : (p : ℕ) → isNan (scor
   within-fills : Fills rows (v .marks) (Within (rows * rows) score w)
   within-fills =
       record {
-        scored = λ e p. and-true (ap (λ (x : Entry). not (isNan (x .score))) (p .0) ∙ ap not (solid (e .position)))
+        scored = λ e p. and-intro (ap (λ (x : Entry). not (isNan (x .score))) (p .0) ∙ ap not (solid (e .position)))
             (s .marks-are (e .position / (rows * rows)) ∙ is-true (w (e .position / (rows * rows))) (p .1));
         apart = λ a b p q e. p .0 ∙ ap (entryAt score) e ∙ sym (q .0);
         one = λ n. let r = some-marked (v .marks) n in (at (r .0) 0, marked-within (r .0) 0 (mul-pos some some) (r .1));

@@ -12,6 +12,7 @@ use lib.Dec.{T, eqb, eqb→eq, eqb-refl, ltb, lt→ltb, ltb→lt}
 use lib.Ieee.Bits.{is-true}
 use lib.Ieee.{Float}
 use lib.Pow.{pow-pos, pow-lt}
+use Rattle.floats.proofs.Rounded.{or-split}
 use Rattle.entries.specs.declared.entry.Entry.{Entry}
 use Rattle.entries.specs.Best.{In, Or, Best}
 use Rattle.entries.specs.Held.{mergedHeld}
@@ -26,10 +27,6 @@ use Rattle.search_laws.proofs.WordLaws.{marked-one, marked-or, full-mar
 use Rattle.search_laws.proofs.MergeLaws.{merged-best}
 
 -- ---- rows
-
-or-cases : (s t : Bool) → T (s || t) → T s ⊎ T t
-or-cases true t h = inl tt
-or-cases false t h = inr h
 
 pub or-either : (s t : Bool) → T s ⊎ T t → T (s || t)
 or-either true t h = tt
@@ -87,7 +84,7 @@ module _ {rows width : ℕ} {score : ℕ → Float} where
         held-best =
             best-ext beatsOf 2 (Or (Within width score w) (Within width score u)) (Within width score (λ r. w r || u r))
             (λ x. ⊎-elim (λ p. (p .0, or-either (w (x .position / width)) (u (x .position / width)) (inl (p .1)))) (λ p. (p .0, or-either (w (x .position / width)) (u (x .position / width)) (inr (p .1)))))
-            (λ x p. ⊎-elim (λ a. inl (p .0, a)) (λ a. inr (p .0, a)) (or-cases (w (x .position / width)) (u (x .position / width)) (p .1)))
+            (λ x p. ⊎-elim (λ a. inl (p .0, a)) (λ a. inr (p .0, a)) (or-split (w (x .position / width)) (u (x .position / width)) (p .1)))
             (mergedHeld (v .held) (z .held))
             (merged-best score (Within width score w) (Within width score u) (v .held) (z .held) (λ x p. p .0) (λ x p. p .0) (s .held-best) (t .held-best));
       }
