@@ -8,10 +8,10 @@ use crate::sites::End;
 use crate::sites::TAB;
 use diploid::genotype::GenotypeResult;
 use diploid::genotype::genotype;
+use figures::figures::lay_figure;
 use models::model::Model;
 use models::state::State;
 use reading::fields::next_field;
-use writing::figures::lay_figure;
 use writing::laying::lay;
 
 // The name of a state between tabs.

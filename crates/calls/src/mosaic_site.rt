@@ -7,11 +7,11 @@ use crate::numbers::read_counts;
 use crate::sites::End;
 use crate::sites::TAB;
 use family::pair::Pair;
+use figures::figures::lay_figure;
 use models::params::Params;
 use mosaic::genotype::MosaicResult;
 use mosaic::genotype::genotype;
 use reading::fields::next_field;
-use writing::figures::lay_figure;
 use writing::laying::lay;
 use writing::laying::lay_whole;
 

@@ -1,3 +1,2 @@
 -- The laws of `writing`.
-pub mod FigureLaws
 pub mod LayingLaws

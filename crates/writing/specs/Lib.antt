@@ -1,3 +1,2 @@
--- The definitions of `writing`: texts laid into a buffer, figures.
+-- The definitions of `writing`: texts laid into a buffer.
 pub mod Laying
-pub mod Figures

@@ -1,3 +1,2 @@
-// Text out: bytes laid into a buffer, numbers in decimal, figures with two decimals.
-pub mod figures;
+// Text out: bytes laid into a buffer, numbers in decimal.
 pub mod laying;

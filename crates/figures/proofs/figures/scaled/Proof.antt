@@ -1,10 +1,10 @@
--- `writing::figures::scaled` meets its contract: the shift is a power of two that fits, and from 2^−62 on nothing is left. Assumes nothing.
+-- `figures::figures::scaled` meets its contract: the shift is a power of two that fits, and from 2^−62 on nothing is left. Assumes nothing.
 use native.Mathlib.Omega.{arith}
 use lib.Pow.{pow-pos}
 use borrow.Author.Needs.{needs}
-use Rattle.writing.proofs.FigureLaws.{shifted-one, half-small, nothing-left}
-use Rattle.writing.proofs.figures.scaled.Statement.{statement}
-use Rattle.writing.proofs.figures.scaled.Tie as tie
+use Rattle.figures.proofs.FigureLaws.{shifted-one, half-small, nothing-left}
+use Rattle.figures.proofs.figures.scaled.Statement.{statement}
+use Rattle.figures.proofs.figures.scaled.Tie as tie
 
 returns : tie.Need-returns
 returns c = nothing-left (c .before .args .digits) (c .before .args .k) (search needs) (c .if1 .taken)

@@ -4,9 +4,9 @@ use mathlib.Core.Bool.{Bool, cond}
 use mathlib.Core.List.{List, [], _∷_, _++_}
 use lib.Dec.{ltb}
 use lib.Ieee.{Float, nan, inf, fin, up, down}
-use Rattle.writing.specs.declared.figures.Figure.{Figure}
-use Rattle.writing.specs.declared.figures.Figure.the-variants.{Is, TooLarge}
+use Rattle.figures.specs.declared.figures.Figure.{Figure}
+use Rattle.figures.specs.declared.figures.Figure.the-variants.{Is, TooLarge}
 use Rattle.writing.specs.Laying.{glyphOf, wholeText}
 
 -- the whole number nearest to 100·a / c, the larger of two that are equally near: 100·a / c + 1/2 without its fraction
 abbrev pub nearestHundredths : ℕ → ℕ → ℕ

@@ -3,11 +3,11 @@ ghost use mathlib.Core.Path.{_≡_};
 ghost use Prim.Native.Nat.{_%_, _^_, _<_};
 ghost use lib.ListN.{length};
 ghost use mathlib.Core.Bool.{cond};
-ghost use Rattle.writing.specs.Figures.{nearestHundredths, figureOf, figureText};
+ghost use Rattle.figures.specs.Figures.{nearestHundredths, figureOf, figureText};
 ghost use Rattle.writing.specs.Laying.{laidEnd, laid, glyphOf};
-use crate::laying::lay;
-use crate::laying::lay_whole;
 use floats::bits::bits;
+use writing::laying::lay;
+use writing::laying::lay_whole;
 
 // Whether the number is negative, and its hundredths; or that it is no number below 2^53 in size.
 pub enum Figure {

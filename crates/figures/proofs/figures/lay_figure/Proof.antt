@@ -1,17 +1,17 @@
--- `writing::figures::lay_figure` meets its contract: three texts, one behind the other. Assumes nothing.
+-- `figures::figures::lay_figure` meets its contract: three texts, one behind the other. Assumes nothing.
 use Prim.Native.Nat.{ℕ, _/_}
 use mathlib.Core.List.{List, [], _∷_}
 use mathlib.Core.Path.{_≡_, sym, ap, _∙_}
 use lib.Seq.{length-take-le}
 use lib.ListN.{length, take}
 use borrow.Author.Needs.{needs}
 use Rattle.writing.proofs.LayingLaws.{Laid, behind-it}
-use Rattle.writing.proofs.FigureLaws.{sign-short, figure-text}
-use Rattle.writing.specs.declared.figures.Figure.the-variants.{TooLarge}
-use Rattle.writing.specs.Figures.{figureOf, figureText}
+use Rattle.figures.proofs.FigureLaws.{sign-short, figure-text}
+use Rattle.figures.specs.declared.figures.Figure.the-variants.{TooLarge}
+use Rattle.figures.specs.Figures.{figureOf, figureText}
 use Rattle.writing.specs.Laying.{laidEnd, laid, wholeText}
-use Rattle.writing.proofs.figures.lay_figure.Statement.{statement}
-use Rattle.writing.proofs.figures.lay_figure.Tie as tie
+use Rattle.figures.proofs.figures.lay_figure.Statement.{statement}
+use Rattle.figures.proofs.figures.lay_figure.Tie as tie
 
 hundredths-requires : tie.Need-hundredths-requires
 hundredths-requires c κs = search needs

@@ -1,12 +1,12 @@
--- `writing::figures::hundredths` meets its contract: each return is the case of the exponent's field. Assumes nothing.
+-- `figures::figures::hundredths` meets its contract: each return is the case of the exponent's field. Assumes nothing.
 use mathlib.Core.Path.{refl, sym, ap, _∙_, subst}
 use Prim.Native.Nat.{_^_}
 use lib.Dec.{T, leb}
 use borrow.Author.Needs.{needs}
-use Rattle.writing.specs.declared.figures.Figure.the-variants.{Is}
-use Rattle.writing.proofs.FigureLaws.{figure-none, figure-low, figure-high}
-use Rattle.writing.proofs.figures.hundredths.Statement.{statement}
-use Rattle.writing.proofs.figures.hundredths.Tie as tie
+use Rattle.figures.specs.declared.figures.Figure.the-variants.{Is}
+use Rattle.figures.proofs.FigureLaws.{figure-none, figure-low, figure-high}
+use Rattle.figures.proofs.figures.hundredths.Statement.{statement}
+use Rattle.figures.proofs.figures.hundredths.Tie as tie
 
 bits-requires : tie.Need-bits-requires
 bits-requires c κs = search needs

@@ -14,9 +14,9 @@ use lib.Ieee.Fits.{down-pos}
 use lib.Ieee.Bits.{ofBits-toBits}
 use lib.Ieee.Exact.{HasValue, odd-sign}
 use lib.Ieee.Nearest.{div-same}
-use Rattle.writing.specs.declared.figures.Figure.the-variants.{Is, TooLarge}
+use Rattle.figures.specs.declared.figures.Figure.the-variants.{Is, TooLarge}
 use Rattle.writing.specs.Laying.{glyphOf, wholeText}
-use Rattle.writing.specs.Figures.{nearestHundredths, figureAt, figureOf, figureText}
+use Rattle.figures.specs.Figures.{nearestHundredths, figureAt, figureOf, figureText}
 
 -- ---- by any fraction of the same value
 

@@ -1,0 +1,2 @@
+-- The laws of `figures`.
+pub mod FigureLaws

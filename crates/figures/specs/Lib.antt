@@ -1,0 +1,2 @@
+-- The definitions of `figures`.
+pub mod Figures

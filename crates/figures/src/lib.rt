@@ -1,0 +1,2 @@
+// Figures: a float with two decimals, as text.
+pub mod figures;
