@@ -1,3 +1,2 @@
 -- What belongs to no one function of `family`.
 pub mod GenotypesLaws
-pub mod MendelLaws

@@ -3,7 +3,10 @@ use Prim.Native.Nat.{ℕ, zero, suc}
 use mathlib.Core.List.{List, [], _∷_, _++_}
 use lib.ListN.{length}
 use Rattle.family.specs.declared.pair.Pair.{Pair}
-use Rattle.family.specs.Mendel.{pair}
+
+-- the pair of two cluster numbers, as they are given
+abbrev pub pair : ℕ → ℕ → Pair
+pair i j = record { low = i; high = j }
 
 -- m pairs from (i, j) on, the second number rising
 abbrev pub pairsWith : ℕ → ℕ → ℕ → List Pair

@@ -1,6 +1,5 @@
-// What a trio is made of: pairs of clusters and how many there are, the three animals, the grounds of a call, and the Mendelian term.
+// What a trio is made of: pairs of clusters and how many there are, the three animals, the grounds of a call.
 pub mod genotypes;
 pub mod ground;
-pub mod mendel;
 pub mod pair;
 pub mod sample;

@@ -1,7 +1,7 @@
--- `family::mendel::distinct_pairs` meets its contract. Assumes nothing.
+-- `mendel::mendel::distinct_pairs` meets its contract. Assumes nothing.
 use borrow.Author.Needs.{needs}
-use Rattle.family.proofs.mendel.distinct_pairs.Statement.{statement}
-use Rattle.family.proofs.mendel.distinct_pairs.Tie as tie
+use Rattle.mendel.proofs.mendel.distinct_pairs.Statement.{statement}
+use Rattle.mendel.proofs.mendel.distinct_pairs.Tie as tie
 
 child-pairs-requires : tie.Need-child-pairs-requires
 child-pairs-requires c κs = search needs

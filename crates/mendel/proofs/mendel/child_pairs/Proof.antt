@@ -1,14 +1,14 @@
--- `family::mendel::child_pairs` meets its contract: four pairs are pushed, the first of them onto nothing. Assumes nothing.
+-- `mendel::mendel::child_pairs` meets its contract: four pairs are pushed, the first of them onto nothing. Assumes nothing.
 use Prim.Native.Nat.{_≤_}
 use mathlib.Core.Path.{_≡_, sym, ap, _∙_}
 use native.Mathlib.Omega.{arith}
 use lib.ListN.{length, length-map}
 use lib.Seq.{length-take-le}
-use Rattle.family.specs.Mendel.{childPairs, pairsOf}
-use Rattle.family.proofs.MendelLaws.{four-pushed}
+use Rattle.mendel.specs.Mendel.{childPairs, pairsOf}
+use Rattle.mendel.proofs.MendelLaws.{four-pushed}
 use borrow.Author.Needs.{needs}
-use Rattle.family.proofs.mendel.child_pairs.Statement.{statement}
-use Rattle.family.proofs.mendel.child_pairs.Tie as tie
+use Rattle.mendel.proofs.mendel.child_pairs.Statement.{statement}
+use Rattle.mendel.proofs.mendel.child_pairs.Tie as tie
 
 sorted-requires : tie.Need-sorted-requires
 sorted-requires c κs = search needs

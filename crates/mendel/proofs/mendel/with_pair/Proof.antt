@@ -1,4 +1,4 @@
--- `family::mendel::with_pair` meets its contract: what it stores stands behind the pairs before it. Assumes nothing.
+-- `mendel::mendel::with_pair` meets its contract: what it stores stands behind the pairs before it. Assumes nothing.
 use Prim.Native.Nat.{_<_}
 use mathlib.Core.Path.{_≡_, sym, _∙_}
 use mathlib.Core.Bool.{true, false}
@@ -7,9 +7,9 @@ use native.Mathlib.Omega.{arith}
 use lib.ListN.{length, length-map}
 use lib.Seq.{take-suc-set}
 use borrow.Author.Needs.{needs}
-use Rattle.family.specs.Mendel.{among, pairsOf}
-use Rattle.family.proofs.mendel.with_pair.Statement.{statement}
-use Rattle.family.proofs.mendel.with_pair.Tie as tie
+use Rattle.mendel.specs.Mendel.{among, pairsOf}
+use Rattle.mendel.proofs.mendel.with_pair.Statement.{statement}
+use Rattle.mendel.proofs.mendel.with_pair.Tie as tie
 
 contains-requires : tie.Need-contains-requires
 contains-requires c κs = search needs

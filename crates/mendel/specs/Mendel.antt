@@ -8,11 +8,9 @@ use lib.Ieee.{Float}
 use Rattle.lists.specs.Lists.{passing}
 use Rattle.floats.specs.F64.{_⊘_, nat, decimal}
 use Rattle.kernels.specs.Ln.{lnOf}
 use Rattle.family.specs.declared.pair.Pair.{Pair}
-use Rattle.family.specs.declared.mendel.Possible.{Possible}
-
-abbrev pub pair : ℕ → ℕ → Pair
-pair i j = record { low = i; high = j }
+use Rattle.family.specs.Genotypes.{pair}
+use Rattle.mendel.specs.declared.mendel.Possible.{Possible}
 
 -- two cluster numbers as a pair, the lower first
 abbrev pub ordered : ℕ → ℕ → Pair

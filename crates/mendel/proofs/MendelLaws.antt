@@ -10,9 +10,9 @@ use lib.Dec.{eqb}
 use lib.ListN.{length, take, drop, getD, drop-of-length-le}
 use lib.Seq.{length-take-le, drop-cons, getD-take}
 use Rattle.lists.proofs.PassingLaws.{passing-append}
 use Rattle.family.specs.declared.pair.Pair.{Pair}
-use Rattle.family.specs.Mendel.{pair}
-use Rattle.family.specs.Mendel.{samePair, among, withoutPair, distinct, pushed}
+use Rattle.family.specs.Genotypes.{pair}
+use Rattle.mendel.specs.Mendel.{samePair, among, withoutPair, distinct, pushed}
 
 -- the test tells equal pairs
 pub same-is : (p q : Pair) → samePair p q ≡ true → p ≡ q

@@ -2,8 +2,8 @@
 ghost use mathlib.Core.Path.{_≡_};
 ghost use Prim.Native.Nat.{suc, _≤_, _<_};
 ghost use lib.ListN.{length};
-ghost use Rattle.family.specs.Mendel.{ordered, samePair, among, childPairs, mendelTerm, pairsOf, pushed};
-use crate::pair::Pair;
+ghost use Rattle.mendel.specs.Mendel.{ordered, samePair, among, childPairs, mendelTerm, pairsOf, pushed};
+use family::pair::Pair;
 use kernels::ln::ln;
 
 // Up to four different pairs: the first `count` of `pairs`.

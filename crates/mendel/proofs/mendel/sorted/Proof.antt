@@ -1,7 +1,7 @@
--- `family::mendel::sorted` meets its contract. Assumes nothing.
+-- `mendel::mendel::sorted` meets its contract. Assumes nothing.
 use borrow.Author.Tests.{le-leb, lt-leb}
-use Rattle.family.proofs.mendel.sorted.Statement.{statement}
-use Rattle.family.proofs.mendel.sorted.Tie as tie
+use Rattle.mendel.proofs.mendel.sorted.Statement.{statement}
+use Rattle.mendel.proofs.mendel.sorted.Tie as tie
 
 returns : tie.Need-returns
 returns c = let a = c .before .args in rw (le-leb (a .a) (a .b) (c .if1 .taken))

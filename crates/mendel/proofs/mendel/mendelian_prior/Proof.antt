@@ -1,11 +1,11 @@
--- `family::mendel::mendelian_prior` meets its contract. Assumes nothing.
+-- `mendel::mendel::mendelian_prior` meets its contract. Assumes nothing.
 use mathlib.Core.Path.{_≡_, sym, _∙_}
 use mathlib.Core.Bool.{true, false}
 use lib.Ieee.{round, ofInt, ofBits}
 use borrow.Author.Needs.{needs}
-use Rattle.family.specs.Mendel.{ordered, among, childPairs, mendelTerm}
-use Rattle.family.proofs.mendel.mendelian_prior.Statement.{statement}
-use Rattle.family.proofs.mendel.mendelian_prior.Tie as tie
+use Rattle.mendel.specs.Mendel.{ordered, among, childPairs, mendelTerm}
+use Rattle.mendel.proofs.mendel.mendelian_prior.Statement.{statement}
+use Rattle.mendel.proofs.mendel.mendelian_prior.Tie as tie
 
 child-pairs-requires : tie.Need-child-pairs-requires
 child-pairs-requires c κs = search needs

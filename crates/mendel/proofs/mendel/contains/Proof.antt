@@ -1,15 +1,15 @@
--- `family::mendel::contains` meets its contract. The loop's invariant: whether p is there is whether it is among those from `i` on. Assumes nothing.
+-- `mendel::mendel::contains` meets its contract. The loop's invariant: whether p is there is whether it is among those from `i` on. Assumes nothing.
 use Prim.Native.Nat.{_≤_, _-_}
 use mathlib.Core.Path.{_≡_, refl, sym, _∙_}
 use mathlib.Core.Bool.{true, false}
 use native.Mathlib.Omega.{arith}
 use borrow.Author.Needs.{needs}
 use lib.ListN.{length, take, drop, getD, length-map}
-use Rattle.family.specs.Mendel.{samePair, among}
-use Rattle.family.specs.Mendel.{pair}
-use Rattle.family.proofs.MendelLaws.{among-here, among-next, among-past}
-use Rattle.family.proofs.mendel.contains.Statement.{statement}
-use Rattle.family.proofs.mendel.contains.Tie as tie
+use Rattle.mendel.specs.Mendel.{samePair, among}
+use Rattle.family.specs.Genotypes.{pair}
+use Rattle.mendel.proofs.MendelLaws.{among-here, among-next, among-past}
+use Rattle.mendel.proofs.mendel.contains.Statement.{statement}
+use Rattle.mendel.proofs.mendel.contains.Tie as tie
 
 abbrev Inv-loop : tie.InvT-loop
 Inv-loop p pairs n i₀ i = (i ≤ n) × (among p (drop i (take n pairs)) ≡ among p (take n pairs))

@@ -1,7 +1,7 @@
--- `family::mendel::same_pair` meets its contract. Assumes nothing.
+-- `mendel::mendel::same_pair` meets its contract. Assumes nothing.
 use borrow.Author.Tests.{eq-eqb, ne-eqb}
-use Rattle.family.proofs.mendel.same_pair.Statement.{statement}
-use Rattle.family.proofs.mendel.same_pair.Tie as tie
+use Rattle.mendel.proofs.mendel.same_pair.Statement.{statement}
+use Rattle.mendel.proofs.mendel.same_pair.Tie as tie
 
 returns : tie.Need-returns
 returns c = let a = c .before .before .before .before .before .args in rw (eq-eqb (a .a .low) (a .b .low) (c .before .before .if1 .taken))

@@ -1,0 +1,2 @@
+-- The definitions of `mendel`.
+pub mod Mendel
