@@ -14,7 +14,7 @@ use Rattle.search.specs.Marks.{fullMarks}
 use Rattle.family.specs.declared.ground.Ground.{Ground}
 use Rattle.family.specs.declared.ground.Ground.the-variants.{NoGround, Won, Tied, Unread}
 use Rattle.family.specs.declared.sample.Sample.the-variants.{Child, Father, Mother}
-use Rattle.family.specs.Mendel.{pair}
+use Rattle.family.specs.Genotypes.{pair}
 use Rattle.parts.specs.declared.part.Part.{Part}
 use Rattle.parts.specs.Part.{rowCount, rightPart}
 use Rattle.samples.specs.Samples.{columnTotal}

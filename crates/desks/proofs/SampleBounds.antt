@@ -26,9 +26,8 @@ use Rattle.bounds.proofs.BinomialBounds.{term-within}
 use Rattle.family.specs.declared.pair.Pair.{Pair}
 use Rattle.family.specs.declared.sample.Sample.{Sample}
 use Rattle.family.specs.Numbers.{sampleNumber}
-use Rattle.family.specs.Genotypes.{pairsWith, pairsFrom, genotypes}
+use Rattle.family.specs.Genotypes.{pairsWith, pairsFrom, genotypes, pair}
 use Rattle.triples.specs.Genotypes.{genotypeAt}
-use Rattle.family.specs.Mendel.{pair}
 use Rattle.lists.specs.Lists.{numbers}
 use Rattle.samples.specs.Samples.{inUse, clusters, reads, sum, columnTotal, sumFrom, logBinomial, expectation, expectationTotal, clusterTerm, sampleScore}
 use Rattle.parts.specs.Part.{weightAllowed}

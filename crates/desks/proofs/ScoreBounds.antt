@@ -21,7 +21,7 @@ use Rattle.family.specs.declared.sample.Sample.{Sample}
 use Rattle.family.specs.declared.sample.Sample.the-variants.{Child, Father, Mother}
 use Rattle.family.specs.Genotypes.{genotypeCount}
 use Rattle.triples.specs.Genotypes.{rowWidth, genotypeAt, tripleAt}
-use Rattle.family.specs.Mendel.{ordered, among, childPairs, mendelTerm}
+use Rattle.mendel.specs.Mendel.{ordered, among, childPairs, mendelTerm}
 use Rattle.lists.specs.Lists.{numbers}
 use Rattle.samples.specs.Samples.{columnTotal, sampleScore}
 use Rattle.triples.specs.Score.{tripleScore, scoreOf}

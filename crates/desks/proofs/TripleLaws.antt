@@ -9,9 +9,8 @@ use lib.ListN.{length, getD, length-append, length-map, List·getD-append}
 use lib.Seq.{getD-append-add}
 use Rattle.family.specs.declared.pair.Pair.{Pair}
 use Rattle.family.specs.declared.pair.Triple.{Triple}
-use Rattle.family.specs.Genotypes.{genotypes, genotypeCount}
+use Rattle.family.specs.Genotypes.{genotypes, genotypeCount, pair}
 use Rattle.triples.specs.Genotypes.{genotypeAt, rowWidth, tripleAt, each, triples}
-use Rattle.family.specs.Mendel.{pair}
 use Rattle.family.proofs.GenotypesLaws.{genotype-count}
 
 -- ---- lists put one after the other, all of one length

@@ -2,7 +2,7 @@
 use mathlib.Core.Bool.{Bool, true, not, _&&_}
 use mathlib.Core.List.{List, [], _∷_}
 use Rattle.family.specs.declared.pair.Pair.{Pair}
-use Rattle.family.specs.Mendel.{among}
+use Rattle.mendel.specs.Mendel.{among}
 
 abbrev pub noRepeat : List Pair → Bool
 noRepeat [] = true

@@ -7,9 +7,8 @@ use Rattle.refusals.specs.declared.Refusal.the-variants.{Done}
 use Rattle.closings.specs.declared.closing.Closed.{Closed}
 use Rattle.family.specs.declared.ground.Ground.the-variants.{Unread}
 use Rattle.family.specs.declared.pair.Triple.{Triple}
-use Rattle.family.specs.Genotypes.{genotypeCount}
+use Rattle.family.specs.Genotypes.{genotypeCount, pair}
 use Rattle.triples.specs.Genotypes.{rowWidth}
-use Rattle.family.specs.Mendel.{pair}
 
 -- every animal with the last genotype: both alleles name the last cluster
 abbrev pub lastTriple : ℕ → Triple

@@ -35,8 +35,8 @@ use Rattle.search.proofs.marks.row_marked.Reads as row-marked
 use Rattle.search.proofs.marks.all_marked.Reads as all-marked
 use Rattle.search.proofs.shape.work_right.Reads as work-right
 use Rattle.family.proofs.genotypes.genotype_count.Reads as genotype-count
-use Rattle.family.proofs.mendel.distinct_pairs.Reads as distinct-pairs
-use Rattle.family.proofs.mendel.mendelian_prior.Reads as mendelian-prior
+use Rattle.mendel.proofs.mendel.distinct_pairs.Reads as distinct-pairs
+use Rattle.mendel.proofs.mendel.mendelian_prior.Reads as mendelian-prior
 use Rattle.family.proofs.sample.sample_number.Reads as sample-number
 use Rattle.samples.proofs.samples.column_total.Reads as column-total
 use Rattle.samples.proofs.samples.compute_log_likelihood.Reads as compute-log-likelihood

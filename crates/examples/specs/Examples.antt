@@ -14,9 +14,9 @@ use Rattle.refusals.specs.Refusals.{numberOf}
 use Rattle.closings.specs.declared.closing.Closed.{Closed}
 use Rattle.family.specs.declared.ground.Ground.the-variants.{Unread}
 use Rattle.family.specs.declared.sample.Sample.the-variants.{Mother}
-use Rattle.family.specs.Genotypes.{genotypeCount}
+use Rattle.family.specs.Genotypes.{genotypeCount, pair}
 use Rattle.triples.specs.Genotypes.{triples}
-use Rattle.family.specs.Mendel.{pair, childPairs}
+use Rattle.mendel.specs.Mendel.{childPairs}
 use Rattle.samples.specs.Samples.{columnTotal}
 use Rattle.opening.specs.Opening.{openStep}
 use Rattle.desks.specs.Call.{callOf}

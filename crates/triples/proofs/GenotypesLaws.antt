@@ -9,8 +9,7 @@ use borrow.Author.Tests.{le-leb}
 use lib.ListN.{length, getD, List·getD-append}
 use lib.Seq.{getD-append-add}
 use Rattle.family.specs.declared.pair.Pair.{Pair}
-use Rattle.family.specs.Genotypes.{pairsWith, pairsFrom}
-use Rattle.family.specs.Mendel.{pair}
+use Rattle.family.specs.Genotypes.{pair, pairsWith, pairsFrom}
 use Rattle.family.proofs.GenotypesLaws.{with-length}
 use Rattle.triples.specs.Genotypes.{tripleAt, tripleOf}
 

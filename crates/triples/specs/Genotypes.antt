@@ -6,8 +6,7 @@ use lib.Dec.{leb}
 use lib.ListN.{getD}
 use Rattle.family.specs.declared.pair.Pair.{Pair}
 use Rattle.family.specs.declared.pair.Triple.{Triple}
-use Rattle.family.specs.Genotypes.{genotypes, genotypeCount}
-use Rattle.family.specs.Mendel.{pair}
+use Rattle.family.specs.Genotypes.{pair, genotypes, genotypeCount}
 
 -- genotype k; past the last, zeros
 unfoldable pub genotypeAt : ℕ → ℕ → Pair

@@ -6,7 +6,7 @@ use Rattle.floats.specs.F64.{_⊕_}
 use Rattle.family.specs.declared.pair.Triple.{Triple}
 use Rattle.family.specs.declared.sample.Sample.the-variants.{Child, Father, Mother}
 use Rattle.triples.specs.Genotypes.{tripleOf}
-use Rattle.family.specs.Mendel.{mendelTerm}
+use Rattle.mendel.specs.Mendel.{mendelTerm}
 use Rattle.samples.specs.Samples.{sampleScore}
 
 -- ((father + mother) + child) + term

@@ -2,8 +2,8 @@
 ghost use mathlib.Core.Path.{_≡_};
 ghost use Rattle.triples.specs.Score.{scoreOf};
 use crate::genotypes::triple_of;
-use family::mendel::mendelian_prior;
 use family::sample::Sample;
+use mendel::mendel::mendelian_prior;
 use samples::samples::compute_log_likelihood;
 
 // The score of the triple at a position of a search over n clusters.

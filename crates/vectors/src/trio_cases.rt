@@ -9,9 +9,10 @@ use crate::write::Text;
 use closings::animal;
 use closings::closing::Closed;
 use family::ground;
-use family::mendel;
 use family::pair::Pair;
 use family::sample::Sample;
+use mendel::mendel::distinct_pairs;
+use mendel::mendel::mendelian_prior;
 use opening::opening::open_part;
 use parts::part::Stepped;
 
@@ -93,8 +94,8 @@ pub fn mendel(line: &[u8], at: usize, text: &mut Text, out: Out) -> Out {
     let c = child.pair;
     let f = father.pair;
     let m = mother.pair;
-    let term = write::float(text, out, mendel::mendelian_prior(c, f, m));
-    write::then_whole(text, term, mendel::distinct_pairs(f, m))
+    let term = write::float(text, out, mendelian_prior(c, f, m));
+    write::then_whole(text, term, distinct_pairs(f, m))
 }
 
 // The score of an animal of a part. What opening would refuse is not read.

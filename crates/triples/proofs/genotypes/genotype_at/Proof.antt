@@ -5,9 +5,8 @@ use mathlib.Core.Path.{_≡_, sym, ap, _∙_}
 use native.Mathlib.Nat.{sub-zero}
 use native.Mathlib.Omega.{arith}
 use lib.ListN.{getD}
-use Rattle.family.specs.Genotypes.{pairsFrom}
+use Rattle.family.specs.Genotypes.{pairsFrom, pair}
 use Rattle.triples.specs.Genotypes.{genotypeAt}
-use Rattle.family.specs.Mendel.{pair}
 use Rattle.triples.proofs.GenotypesLaws.{at-first, at-later}
 use Rattle.triples.proofs.genotypes.genotype_at.Statement.{statement}
 use Rattle.triples.proofs.genotypes.genotype_at.Tie as tie
