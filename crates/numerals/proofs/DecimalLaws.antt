@@ -1,7 +1,7 @@
 -- The quotient of two whole numbers that an f64 holds is the f64 nearest to their fraction; and what the digits on both sides of a point write.
 -- Assumes nothing.
-use mathlib.Core.Path.{_≡_, refl, sym, ap, _∙_, subst}
-use mathlib.Core.Bool.{Bool, true, false, _&&_, true≢false}
+use mathlib.Core.Path.{_≡_, sym, ap, _∙_, subst}
+use mathlib.Core.Bool.{true, false, true≢false, and-false}
 use mathlib.Core.List.{List, _++_}
 use Prim.Native.Nat.{ℕ, suc, _+_, _-_, _*_, _^_, _≤_, _<_, zero-le}
 use native.Mathlib.Nat.{le-trans, lt-of-lt-of-le, lt-of-le-of-lt, le-of-lt, le-of-eq, zero-lt-suc, zero-add, mul-one, mul-comm, mul-assoc, mul-left-comm, mul-pos, mul-le-mul-right, suc-mul, one-le-pow, pow-suc, pow-le-pow-right}
@@ -85,14 +85,10 @@ ten-next i = rw (add-one i) (sym (pow-suc 10 i))
 all-digits : (l : List ℕ) → digits l ≡ true → T (every isDigit l)
 all-digits l e = and-r (ltb 0 (length l)) (every isDigit l) (subst T (sym e) tt)
 
-no-good : (s : Bool) → (s && false) ≡ false
-no-good true = refl
-no-good false = refl
-
 module _ (w : List ℕ) where
   pub plain-long : 15 < length w → Unread ≡ plainDecimal w
   unfolding plainDecimal
-  plain-long h = rw (lt-leb (length w) 15 h, no-good (digits w))
+  plain-long h = rw (lt-leb (length w) 15 h, and-false (digits w))
 
   pub plain-unread : length w ≤ 15 → wholeOf w ≡ whole.Unread → Unread ≡ plainDecimal w
   unfolding plainDecimal
@@ -120,7 +116,7 @@ pub record Divided (w p : List ℕ) (n m : ℕ) : Type 0 where
 module _ (w p : List ℕ) where
   pub point-long : 15 < length w + length p → Unread ≡ pointDecimal w p
   unfolding pointDecimal
-  point-long h = rw (lt-leb (length w + length p) 15 h, no-good (digits p), no-good (digits w))
+  point-long h = rw (lt-leb (length w + length p) 15 h, and-false (digits p), and-false (digits w))
 
   pub point-left : length w + length p ≤ 15 → wholeOf w ≡ whole.Unread → Unread ≡ pointDecimal w p
   unfolding pointDecimal
@@ -128,7 +124,7 @@ module _ (w p : List ℕ) where
 
   pub point-right : length w + length p ≤ 15 → wholeOf p ≡ whole.Unread → Unread ≡ pointDecimal w p
   unfolding pointDecimal
-  point-right h e = rw (whole-unread p (omega arith) e, no-good (digits w))
+  point-right h e = rw (whole-unread p (omega arith) e, and-false (digits w))
 
   pub divided : (n m : ℕ) → length w + length p ≤ 15 → wholeOf w ≡ whole.Is n → wholeOf p ≡ whole.Is m → Divided w p n m
   unfolding pointDecimal
