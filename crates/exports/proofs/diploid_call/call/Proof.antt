@@ -3,6 +3,7 @@ use mathlib.Core.Path.{_≡_, refl, sym, _∙_}
 use Prim.Native.Nat.{ℕ}
 use mathlib.Core.Bool.{Bool, true, false, _&&_}
 use mathlib.Core.List.{List}
+use mathlib.Mathlib.Data.Bool.Basic.{and-elim-left, and-elim-right}
 use lib.Dec.{leb, eqb}
 use lib.ListN.{length}
 use lib.Ieee.{Float, ofBits, ofInt, round}
@@ -12,24 +13,16 @@ use Rattle.exports.specs.Diploid.{makesModel, diploidOf}
 use Rattle.exports.proofs.diploid_call.call.Statement.{statement}
 use Rattle.exports.proofs.diploid_call.call.Tie as tie
 
-left : (a b : Bool) → (a && b) ≡ true → a ≡ true
-left true b h = refl
-left false b h = h
-
-right : (a b : Bool) → (a && b) ≡ true → b ≡ true
-right true b h = h
-right false b h = cc
-
 three-each :
     (mode : ℕ) (f m p : List Float) →
     makesModel mode f m p ≡ true →
     (length f ≡ 3) × (length m ≡ 3) × (length p ≡ 3)
 three-each mode f m p h =
-    let all = right (leb mode 2) (eqb (length f) 3 && (eqb (length m) 3 && eqb (length p) 3)) h in
-    let later = right (eqb (length f) 3) (eqb (length m) 3 && eqb (length p) 3) all in (
-      eqb-true (length f) 3 (left (eqb (length f) 3) (eqb (length m) 3 && eqb (length p) 3) all),
-      eqb-true (length m) 3 (left (eqb (length m) 3) (eqb (length p) 3) later),
-      eqb-true (length p) 3 (right (eqb (length m) 3) (eqb (length p) 3) later),
+    let all = and-elim-right (leb mode 2) (eqb (length f) 3 && (eqb (length m) 3 && eqb (length p) 3)) h in
+    let later = and-elim-right (eqb (length f) 3) (eqb (length m) 3 && eqb (length p) 3) all in (
+      eqb-true (length f) 3 (and-elim-left (eqb (length f) 3) (eqb (length m) 3 && eqb (length p) 3) all),
+      eqb-true (length m) 3 (and-elim-left (eqb (length m) 3) (eqb (length p) 3) later),
+      eqb-true (length p) 3 (and-elim-right (eqb (length m) 3) (eqb (length p) 3) later),
     )
 
 abbrev entry : tie.After-makes-model → tie.Start
