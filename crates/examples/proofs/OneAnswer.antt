@@ -56,6 +56,12 @@ use Rattle.stirlings.proofs.stirling.stirling.Reads as stirling
 use Rattle.stirlings.proofs.stirling.ln_factorial.Reads as ln-factorial
 use Rattle.probabilities.proofs.quality.all_probabilities.Reads as all-probabilities
 use Rattle.probabilities.proofs.quality.quality.Reads as mosaic-quality
+use Rattle.probabilities.proofs.winner.best_place.Reads as best-place
+use Rattle.alleles.proofs.counts.count.Reads as allele-count
+use Rattle.alleles.proofs.counts.somatic.Reads as somatic
+use Rattle.alleles.proofs.counts.total.Reads as total
+use Rattle.sites.proofs.site.site_of.Reads as site-of
+use Rattle.hypotheses.proofs.choice.choose.Reads as choose
 use Rattle.models.proofs.params.Params.default.Reads as params-default
 use Rattle.mosaic.proofs.genotype.genotype.Reads as mosaic-genotype
 use Rattle.kernel_exports.proofs.admulfas_ln.Reads as c-ln
@@ -274,7 +280,7 @@ close-once κ a v w e f = only
 pub call-once : OneAnswer call.Post
 call-once κ a v w e f = only
 
--- ---- stirlings, probabilities, mosaic
+-- ---- stirlings, probabilities, alleles, sites, hypotheses, mosaic
 
 pub stirling-once : OneAnswer stirling.Post
 stirling-once κ a v w e f = only
@@ -287,6 +293,24 @@ all-probabilities-once κ a v w e f = only
 
 pub mosaic-quality-once : OneAnswer mosaic-quality.Post
 mosaic-quality-once κ a v w e f = only
+
+pub best-place-once : OneAnswer best-place.Post
+best-place-once κ a v w e f = only
+
+pub allele-count-once : OneAnswer allele-count.Post
+allele-count-once κ a v w e f = only
+
+pub somatic-once : OneAnswer somatic.Post
+somatic-once κ a v w e f = only
+
+pub total-once : OneAnswer total.Post
+total-once κ a v w e f = only
+
+pub site-of-once : OneAnswer site-of.Post
+site-of-once κ a v w e f = only
+
+pub choose-once : OneAnswer choose.Post
+choose-once κ a v w e f = only
 
 pub params-default-once : OneAnswer params-default.Post
 params-default-once κ a v w e f = only

@@ -4,7 +4,7 @@ use mathlib.Core.List.{List}
 use Prim.Native.Nat.{ℕ, zero, suc, _+_, _≤_}
 use native.Mathlib.Omega.{arith}
 use lib.ListN.{set}
-use Rattle.mosaic.specs.Hypotheses.{seenIn}
+use Rattle.alleles.specs.Alleles.{seenIn}
 use Rattle.mosaic.specs.Inner.{listStep, listOver}
 use Rattle.mosaic.specs.declared.genotype.Alleles.{Alleles}
 

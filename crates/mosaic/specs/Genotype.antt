@@ -3,21 +3,22 @@ use Prim.Native.Nat.{ℕ}
 use mathlib.Core.Bool.{Bool, false, cond, _||_}
 use mathlib.Core.List.{List, [], _∷_}
 use lib.Dec.{leb, ltb, eqb}
-use lib.ListN.{length, getD, replicate}
+use lib.ListN.{length, replicate}
 use Rattle.floats.specs.F64.{nat}
 use Rattle.refusals.specs.declared.Refusal.{Refusal}
 use Rattle.refusals.specs.declared.Refusal.the-variants.{Done, TooMany, Count, Model, NoCall}
+use Rattle.limits.specs.Limits.{countsAllowed}
+use Rattle.models.specs.declared.params.Params.{Params}
 use Rattle.probabilities.specs.Over.{placed}
 use Rattle.probabilities.specs.Quality.{probabilities, qualityOf}
-use Rattle.mosaic.specs.Lists.{padded}
-use Rattle.mosaic.specs.Edition.{Edition, first}
-use Rattle.limits.specs.Limits.{countsAllowed}
+use Rattle.alleles.specs.Alleles.{totalOf, alone, somaticIn}
+use Rattle.alleles.specs.declared.pair.Pair.{Pair}
+use Rattle.hypotheses.specs.Lists.{padded}
+use Rattle.hypotheses.specs.Edition.{Edition, first}
+use Rattle.hypotheses.specs.Hypotheses.{seenAlleles}
+use Rattle.hypotheses.specs.Choice.{chosen}
+use Rattle.hypotheses.specs.declared.choice.Choice.{Choice}
 use Rattle.mosaic.specs.Allowed.{paramsAllowed}
-use Rattle.mosaic.specs.Hypotheses.{totalOf, seenAlleles, somaticIn, pair, alone, hypotheses}
-use Rattle.mosaic.specs.Search.{foundOf}
-use Rattle.mosaic.specs.Choice.{posteriors, winner}
-use Rattle.models.specs.declared.params.Params.{Params}
-use Rattle.mosaic.specs.declared.hypotheses.Pair.{Pair}
 use Rattle.mosaic.specs.declared.genotype.MosaicResult.{MosaicResult}
 
 -- a refusal carries zeros
@@ -50,37 +51,38 @@ flagsOver counts g = placed (replicate 8 false) (somaticIn counts g)
 unfoldable pub flagsOf : List ℕ → Pair → List Bool
 flagsOf counts g = flagsOver counts g (length counts)
 
--- what the hypotheses make
-unfoldable pub calledOf : Edition → Params → List ℕ → MosaicResult
-calledOf e p counts =
-    let n = length (hypotheses counts) in
-    let posts = posteriors e p counts in
-    let best = winner posts n in
-    let g = getD (hypotheses counts) best (pair 0 0) in
-    let found = foundOf e p counts g in
-    let probs = probabilities posts n in
+-- what is read off the hypothesis that wins
+abbrev pub answerOf : List ℕ → Choice → MosaicResult
+answerOf counts choice =
+    let probs = probabilities (choice .posteriors) (choice .count) in
     record {
       refusal = Done;
-      ploidy = ploidyOf g;
-      germline = germlineOf g;
-      somatic = flagsOf counts g;
-      vafs = found .vafs;
+      ploidy = ploidyOf (choice .pair);
+      germline = germlineOf (choice .pair);
+      somatic = flagsOf counts (choice .pair);
+      vafs = choice .vafs;
       seen = length (seenAlleles counts);
       observed = padded 8 0 (seenAlleles counts);
-      posterior = found .posterior;
-      quality = qualityOf probs n best;
-      hypotheses = n;
+      posterior = choice .posterior;
+      quality = qualityOf probs (choice .count) (choice .best);
+      hypotheses = choice .count;
       probabilities = probs;
     }
 
--- O1: too many alleles, then the parameters, then the counts, then R11: a total below the least depth, or no allele seen, which is a total of 0
--- (`none-seen`, mosaic_laws/proofs/Answers.antt)
+unfoldable pub calledOf : Edition → Params → List ℕ → MosaicResult
+calledOf e p counts = answerOf counts (chosen e p counts)
+
+-- R11: no call of a total below the least depth, or where no allele is seen, which is a total of 0 (`none-seen`, mosaic_laws/proofs/Answers.antt)
+abbrev pub callOf : Edition → Params → List ℕ → MosaicResult
+callOf e p counts = cond (ltb (totalOf counts) (p .depth) || eqb (totalOf counts) 0) (blank NoCall) (calledOf e p counts)
+
+-- O1: too many alleles, then the parameters, then the counts, then R11
 unfoldable pub genotypeBy : Edition → Params → List ℕ → MosaicResult
 genotypeBy e p counts =
     cond (leb (length counts) 8)
     (cond (paramsAllowed p)
     (cond (countsAllowed counts)
-    (cond (ltb (totalOf counts) (p .depth) || eqb (totalOf counts) 0) (blank NoCall) (calledOf e p counts))
+    (callOf e p counts)
     (blank Count))
     (blank Model))
     (blank TooMany)

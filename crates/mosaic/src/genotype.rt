@@ -1,20 +1,19 @@
 // The mosaic genotype at every input.
 ghost use mathlib.Core.Path.{_≡_};
+ghost use mathlib.Core.Bool.{true};
 ghost use Prim.Native.Nat.{_≤_, _<_};
 ghost use lib.ListN.{length};
-ghost use Rattle.mosaic.specs.Hypotheses.{totalOf};
-ghost use Rattle.mosaic.specs.Edition.{first};
-ghost use Rattle.mosaic.specs.Genotype.{blank, ploidyOf, germlineOf, flagsOf, calledOf, genotypeOf};
+ghost use Rattle.limits.specs.Limits.{countsAllowed};
+ghost use Rattle.hypotheses.specs.Edition.{first};
+ghost use Rattle.mosaic.specs.Genotype.{blank, ploidyOf, germlineOf, flagsOf, answerOf, callOf, genotypeOf};
 ghost use Rattle.mosaic.specs.Inner.{listStep, listedBy};
 use crate::allowed::params_allowed;
-use crate::counts::seen;
-use crate::counts::somatic;
-use crate::counts::total;
-use crate::hypotheses::Pair;
-use crate::scan::best_place;
-use crate::scan::scan_all;
-use crate::search::find;
-use crate::site::site_of;
+use alleles::counts::count;
+use alleles::counts::somatic;
+use alleles::counts::total;
+use alleles::pair::Pair;
+use hypotheses::choice::Choice;
+use hypotheses::choice::choose;
 use limits::counts::counts_allowed;
 use models::params::Params;
 use probabilities::quality::all_probabilities;
@@ -98,14 +97,14 @@ fn list_allele(counts: &[u32], list: Alleles, i: usize) -> Alleles
     requires { ⌜ (i < 8) × (list .count ≤ i) ⌝ }
     ensures { λ r. ⌜ r ≡ listStep (now (counts .entry)) i list ⌝ }
 {
-    if !seen(counts, i) {
+    if count(counts, i) == 0 {
         return list;
     }
-    let count = list.count;
+    let place = list.count;
     let mut alleles = list.alleles;
-    alleles[count] = i;
+    alleles[place] = i;
     Alleles {
-        count: count + 1,
+        count: place + 1,
         alleles,
     }
 }
@@ -125,20 +124,15 @@ fn list_alleles(counts: &[u32]) -> Alleles
     list
 }
 
-// What the hypotheses make. The search of the winner is made once more, for its VAFs.
-fn answer(params: Params, counts: &[u32], total: u32) -> MosaicResult
-    requires { ⌜ (length (now counts) ≤ 8) × (total ≡ totalOf (now counts)) ⌝ }
-    ensures { λ r. ⌜ r ≡ calledOf first params (now (counts .entry)) ⌝ }
+// What is read off the hypothesis that wins.
+fn answer(counts: &[u32], choice: Choice) -> MosaicResult
+    requires { ⌜ length (now counts) ≤ 8 ⌝ }
+    ensures { λ r. ⌜ r ≡ answerOf (now (counts .entry)) choice ⌝ }
 {
-    let site = site_of(params, counts, total);
-    let scan = scan_all(counts, site);
-    let n = scan.count;
-    let pairs = scan.pairs;
-    let posteriors = scan.posteriors;
-    let best = best_place(posteriors, n);
-    let g = pairs[best];
-    let found = find(counts, g, site);
-    let vafs = found.vafs;
+    let n = choice.count;
+    let posteriors = choice.posteriors;
+    let g = choice.pair;
+    let vafs = choice.vafs;
     let list = list_alleles(counts);
     let observed = list.alleles;
     let germline = germline_alleles(g);
@@ -152,11 +146,25 @@ fn answer(params: Params, counts: &[u32], total: u32) -> MosaicResult
         vafs,
         seen: list.count,
         observed,
-        posterior: found.posterior,
-        quality: quality(probabilities, n, best),
+        posterior: choice.posterior,
+        quality: quality(probabilities, n, choice.best),
         hypotheses: n,
         probabilities,
     }
+}
+
+fn call(params: Params, counts: &[u32]) -> MosaicResult
+    requires { ⌜ (length (now counts) ≤ 8) × (countsAllowed (now counts) ≡ true) ⌝ }
+    ensures { λ r. ⌜ r ≡ callOf first params (now (counts .entry)) ⌝ }
+{
+    let depth = total(counts);
+    if depth < params.depth {
+        return blank_answer(Refusal::NoCall);
+    }
+    if depth == 0 {
+        return blank_answer(Refusal::NoCall);
+    }
+    answer(counts, choose(params, counts))
 }
 
 // The germline alleles, somatic VAFs and quality of up to eight counts, or the first refusal that holds.
@@ -172,12 +180,5 @@ pub fn genotype(params: Params, counts: &[u32]) -> MosaicResult
     if !counts_allowed(counts) {
         return blank_answer(Refusal::Count);
     }
-    let depth = total(counts);
-    if depth < params.depth {
-        return blank_answer(Refusal::NoCall);
-    }
-    if depth == 0 {
-        return blank_answer(Refusal::NoCall);
-    }
-    answer(params, counts, depth)
+    call(params, counts)
 }

@@ -19,20 +19,22 @@ use Rattle.refusals.specs.declared.Refusal.the-variants.{TooMany, Count, Model,
 use Rattle.limits.specs.Limits.{countsAllowed}
 use Rattle.probabilities.specs.Quality.{wholeOf, probabilityOf, probabilities}
 use Rattle.probabilities.proofs.InUse.{in-use-all}
-use Rattle.mosaic.specs.Lists.{numbers, passing}
-use Rattle.mosaic.specs.Edition.{first}
+use Rattle.hypotheses.specs.Lists.{numbers, passing}
+use Rattle.hypotheses.specs.Edition.{first}
 use Rattle.mosaic.specs.Allowed.{paramsAllowed}
-use Rattle.mosaic.specs.Hypotheses.{countAt, seenIn, seenAlleles, germlineIn, somaticIn, totalOver, totalOf, pair, singles, pairs, hypotheses, allPairs, bothSeen}
-use Rattle.mosaic.specs.Likelihood.{vafAt}
-use Rattle.mosaic.specs.Search.{foundOf}
-use Rattle.mosaic.specs.Choice.{posteriors, winner}
+use Rattle.alleles.specs.Alleles.{countAt, seenIn, germlineIn, somaticIn, totalOver, totalOf, pair}
+use Rattle.hypotheses.specs.Hypotheses.{seenAlleles, singles, pairs, hypotheses, allPairs, bothSeen}
+use Rattle.hypotheses.specs.Likelihood.{vafAt}
+use Rattle.hypotheses.specs.Search.{foundOf}
+use Rattle.probabilities.specs.Winner.{winner}
+use Rattle.hypotheses.specs.Choice.{posteriors}
 use Rattle.mosaic.specs.Genotype.{blank, flagsOf, calledOf, genotypeBy, genotypeOf}
 use Rattle.models.specs.declared.params.Params.{Params}
-use Rattle.mosaic.specs.declared.hypotheses.Pair.{Pair}
+use Rattle.alleles.specs.declared.pair.Pair.{Pair}
 use Rattle.mosaic.specs.declared.genotype.MosaicResult.{MosaicResult}
-use Rattle.mosaic.proofs.OverLaws.{placed-at, placed-beyond}
-use Rattle.mosaic.proofs.WinnerLaws.{winner-low}
-use Rattle.mosaic.proofs.Scanned.{all-seen, at-most-36, number-at}
+use Rattle.probabilities.proofs.OverLaws.{placed-at, placed-beyond}
+use Rattle.probabilities.proofs.WinnerLaws.{winner-low}
+use Rattle.hypotheses.proofs.Scanned.{all-seen, at-most-36, number-at}
 use Rattle.mosaic_laws.specs.Accepted.{Accepted}
 use Rattle.mosaic_laws.proofs.Seen.{seen-some, seen-in, count-in}
 use Rattle.mosaic_laws.proofs.Places.{flag-at, found-rest}

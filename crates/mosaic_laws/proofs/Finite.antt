@@ -25,15 +25,17 @@ use Rattle.floats.proofs.Fractions.{above-by-test}
 use Rattle.kernels.specs.Ln.{lnOf}
 use Rattle.stirlings.specs.Stirling.{stirlingOf, lnFactorial}
 use Rattle.probabilities.specs.Over.{over}
-use Rattle.mosaic.specs.Edition.{first}
-use Rattle.mosaic.specs.Hypotheses.{countAt, seenIn, germlineIn, somaticIn, anyOver, anySomatic, alone, totalOf, bothSeen}
-use Rattle.mosaic.specs.Likelihood.{vafAt, massOf, germlineShare, shareOf, likelihoodOf}
-use Rattle.mosaic.specs.Prior.{densityOf, gainOf, forOne, forTwo, priorOf}
-use Rattle.mosaic.specs.Search.{Best, startVafs, valueOf, tried, triedStep, stepOf, observedShare, searchedAllele, searchedAll, foundOf}
+use Rattle.hypotheses.specs.Edition.{first}
+use Rattle.alleles.specs.Alleles.{countAt, seenIn, germlineIn, somaticIn, alone, totalOf}
+use Rattle.hypotheses.specs.Hypotheses.{anyOver, anySomatic, bothSeen}
+use Rattle.hypotheses.specs.Likelihood.{vafAt, massOf, germlineShare, shareOf, likelihoodOf}
+use Rattle.sites.specs.Site.{densityOf, forOne, forTwo}
+use Rattle.hypotheses.specs.Prior.{gainOf, priorOf}
+use Rattle.hypotheses.specs.Search.{Best, startVafs, valueOf, tried, triedStep, stepOf, observedShare, searchedAllele, searchedAll, foundOf}
 use Rattle.models.specs.declared.params.Params.{Params}
-use Rattle.mosaic.specs.declared.hypotheses.Pair.{Pair}
-use Rattle.mosaic.proofs.CountLaws.{count-bound, total-bound}
-use Rattle.mosaic.proofs.OverLaws.{length-placed, at-set, placed-at}
+use Rattle.alleles.specs.declared.pair.Pair.{Pair}
+use Rattle.alleles.proofs.CountLaws.{count-bound, total-bound}
+use Rattle.probabilities.proofs.OverLaws.{length-placed, at-set, placed-at}
 use Rattle.mosaic_laws.specs.Accepted.{Accepted}
 use Rattle.mosaic_laws.proofs.Quotients.{observed-share}
 use Rattle.mosaic_laws.proofs.Terms.{either, within-factorial, highest-within, Dense, dense, Vaf, ln-within, one-at, gain-within, gain-least, above-finite, share-ln-within, one-within, two-within}
@@ -106,7 +108,7 @@ module _ (p : Params) (counts : List ℕ) (ok : Accepted p counts) (g : Pair) (b
 
   -- ---- the prior
 
-  density : Dense (densityOf first p)
+  density : Dense (densityOf stirlingOf p)
   density = dense p (ok .params-are) (ok .alpha-is-f64) (ok .beta-is-f64)
 
   germline-within : Within (2 ^ 12) (cond (alone g) (forOne n) (forTwo n))
@@ -123,10 +125,10 @@ module _ (p : Params) (counts : List ℕ) (ok : Accepted p counts) (g : Pair) (b
   prior-within l h k =
       within-more
       (within-add
-      (grows Within 0 (2 ^ 41) (λ i s. cond (somaticIn counts g i) (s ⊕ gainOf (densityOf first p) (vafAt l i)) s) (nat 0) n
+      (grows Within 0 (2 ^ 41) (λ i s. cond (somaticIn counts g i) (s ⊕ gainOf (densityOf stirlingOf p) (vafAt l i)) s) (nat 0) n
       (λ i m x w.
-      either (Within (0 + i * 2 ^ 41 + 2 ^ 41)) (somaticIn counts g i) (x ⊕ gainOf (densityOf first p) (vafAt l i)) x
-      (λ e. within-add w (gain-within (densityOf first p) density (vafAt l i) (h i m e) (k i m e)) (omega (arith, steps i (2 ^ 41) m)))
+      either (Within (0 + i * 2 ^ 41 + 2 ^ 41)) (somaticIn counts g i) (x ⊕ gainOf (densityOf stirlingOf p) (vafAt l i)) x
+      (λ e. within-add w (gain-within (densityOf stirlingOf p) density (vafAt l i) (h i m e) (k i m e)) (omega (arith, steps i (2 ^ 41) m)))
       (λ e. within-more w (omega arith)))
       (within-whole (pos 0) 0 (lit≤ tt) (lit≤ tt)))
       germline-within (omega (arith, eight (2 ^ 41))))
@@ -134,21 +136,21 @@ module _ (p : Params) (counts : List ℕ) (ok : Accepted p counts) (g : Pair) (b
 
   -- ---- a VAF of 1 or more
 
-  gain-low : (v : Float) → Vaf v → Low (2 ^ 41) (gainOf (densityOf first p) v)
+  gain-low : (v : Float) → Vaf v → Low (2 ^ 41) (gainOf (densityOf stirlingOf p) v)
   gain-low v h = go (le (nat 1) v) refl
     where
-      go : (b : Bool) → le (nat 1) v ≡ b → Low (2 ^ 41) (gainOf (densityOf first p) v)
-      go true e = subst (Low (2 ^ 41)) (sym (gain-least (densityOf first p) v e)) least
-      go false e = finite-low (gain-within (densityOf first p) density v h (above-by-test (nat 1) v one-at (positive-not-below v (h .above-zero)) e))
+      go : (b : Bool) → le (nat 1) v ≡ b → Low (2 ^ 41) (gainOf (densityOf stirlingOf p) v)
+      go true e = subst (Low (2 ^ 41)) (sym (gain-least (densityOf stirlingOf p) v e)) least
+      go false e = finite-low (gain-within (densityOf stirlingOf p) density v h (above-by-test (nat 1) v one-at (positive-not-below v (h .above-zero)) e))
 
   abbrev gainStep : List Float → ℕ → Float → Float
-  gainStep l i s = cond (somaticIn counts g i) (s ⊕ gainOf (densityOf first p) (vafAt l i)) s
+  gainStep l i s = cond (somaticIn counts g i) (s ⊕ gainOf (densityOf stirlingOf p) (vafAt l i)) s
 
   gains-low : (l : List Float) → Tryable l → (k : ℕ) → k ≤ n → Low (0 + k * 2 ^ 41) (over (gainStep l) (nat 0) k)
   gains-low l h k q =
       grows Low 0 (2 ^ 41) (gainStep l) (nat 0) k
       (λ i m x w.
-      either (Low (0 + i * 2 ^ 41 + 2 ^ 41)) (somaticIn counts g i) (x ⊕ gainOf (densityOf first p) (vafAt l i)) x
+      either (Low (0 + i * 2 ^ 41 + 2 ^ 41)) (somaticIn counts g i) (x ⊕ gainOf (densityOf stirlingOf p) (vafAt l i)) x
       (λ e. low-add w (gain-low (vafAt l i) (h i (omega arith) e)) (omega (arith, steps i (2 ^ 41) (omega arith))))
       (λ e. low-more w (omega arith)))
       (finite-low (within-whole (pos 0) 0 (lit≤ tt) (lit≤ tt)))
@@ -165,7 +167,7 @@ module _ (p : Params) (counts : List ℕ) (ok : Accepted p counts) (g : Pair) (b
       less : (k n : ℕ) → suc k ≤ n → k ≤ n
       less k n q = omega arith
 
-      stays : (b : Bool) → somaticIn counts g k ≡ b → cond b (inf true ⊕ gainOf (densityOf first p) (vafAt l k)) (inf true) ≡ inf true
+      stays : (b : Bool) → somaticIn counts g k ≡ b → cond b (inf true ⊕ gainOf (densityOf stirlingOf p) (vafAt l k)) (inf true) ≡ inf true
       stays true t = least-low (gain-low (vafAt l k) (h k q t))
       stays false t = refl
 
@@ -174,7 +176,7 @@ module _ (p : Params) (counts : List ℕ) (ok : Accepted p counts) (g : Pair) (b
           let d = eqb-true j k t in
           let s' : somaticIn counts g k ≡ true = subst (λ (i : ℕ). somaticIn counts g i ≡ true) d s in
           let e' : le (nat 1) (vafAt l k) ≡ true = subst (λ (i : ℕ). le (nat 1) (vafAt l i) ≡ true) d e in
-          rw (s', gain-least (densityOf first p) (vafAt l k) e') (low-least (gains-low l h k (less k n q)))
+          rw (s', gain-least (densityOf stirlingOf p) (vafAt l k) e') (low-least (gains-low l h k (less k n q)))
       go false t r = let d = eqb-false j k t in rw (r (omega arith)) (stays (somaticIn counts g k) refl)
 
   prior-least : (l : List Float) → Tryable l → (j : ℕ) → j < n → somaticIn counts g j ≡ true → le (nat 1) (vafAt l j) ≡ true → priorOf first p counts g l ≡ inf true

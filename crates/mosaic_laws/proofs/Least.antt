@@ -11,10 +11,10 @@ use lib.Ieee.Scale.{finite}
 use Rattle.floats.specs.F64.{nat, decimal}
 use Rattle.floats.proofs.KeyOrder.{key-order}
 use Rattle.models.specs.declared.params.Params.{Params}
-use Rattle.mosaic.specs.Edition.{Edition}
-use Rattle.mosaic.specs.Hypotheses.{countAt, somaticIn, totalOf}
-use Rattle.mosaic.specs.Search.{Best, startVafs, valueOf, tried, triedStep, stepOf, observedShare, searchedAllele, searchedAll}
-use Rattle.mosaic.specs.declared.hypotheses.Pair.{Pair}
+use Rattle.hypotheses.specs.Edition.{Edition}
+use Rattle.alleles.specs.Alleles.{countAt, somaticIn, totalOf}
+use Rattle.hypotheses.specs.Search.{Best, startVafs, valueOf, tried, triedStep, stepOf, observedShare, searchedAllele, searchedAll}
+use Rattle.alleles.specs.declared.pair.Pair.{Pair}
 use Rattle.mosaic_laws.proofs.Sums.{over-keeps}
 
 -- nothing is below minus infinity

@@ -11,14 +11,15 @@ use lib.Signed.{ltZ}
 use lib.Ieee.{Float, nan, inf, lt}
 use Rattle.floats.specs.F64.{nat, decimal}
 use Rattle.floats.specs.Key.{keyOf}
-use Rattle.mosaic.specs.Edition.{Edition}
-use Rattle.mosaic.specs.Hypotheses.{countAt, germlineIn, somaticIn, anySomatic, totalOf}
-use Rattle.mosaic.specs.Likelihood.{vafAt, likelihoodOf}
-use Rattle.mosaic.specs.Search.{Best, startVafs, valueOf, tried, triedStep, stepOf, observedShare, searchedAllele, searchedAll, foundOf}
+use Rattle.hypotheses.specs.Edition.{Edition}
+use Rattle.alleles.specs.Alleles.{countAt, germlineIn, somaticIn, totalOf}
+use Rattle.hypotheses.specs.Hypotheses.{anySomatic}
+use Rattle.hypotheses.specs.Likelihood.{vafAt, likelihoodOf}
+use Rattle.hypotheses.specs.Search.{Best, startVafs, valueOf, tried, triedStep, stepOf, observedShare, searchedAllele, searchedAll, foundOf}
 use Rattle.mosaic.specs.Genotype.{flagsOf}
 use Rattle.models.specs.declared.params.Params.{Params}
-use Rattle.mosaic.specs.declared.hypotheses.Pair.{Pair}
-use Rattle.mosaic.proofs.OverLaws.{placed-at, placed-beyond}
+use Rattle.alleles.specs.declared.pair.Pair.{Pair}
+use Rattle.probabilities.proofs.OverLaws.{placed-at, placed-beyond}
 use Rattle.mosaic_laws.proofs.Terms.{either}
 use Rattle.mosaic_laws.proofs.Sums.{over-keeps}
 use Rattle.mosaic_laws.proofs.Seen.{unseen}

@@ -21,16 +21,16 @@ use Rattle.floats.proofs.Whole.{zero-below}
 use Rattle.kernels.specs.Ln.{lnOf}
 use Rattle.bounds.proofs.LnBounds.{within-ln}
 use Rattle.stirlings.specs.Stirling.{pi, stirlingFromOne, stirlingOf, lnFactorial}
-use Rattle.mosaic.specs.Edition.{first}
 use Rattle.mosaic.specs.Allowed.{paramsAllowed}
 use Rattle.limits.specs.Limits.{inRange}
-use Rattle.mosaic.specs.Hypotheses.{alone}
+use Rattle.alleles.specs.Alleles.{alone}
 use Rattle.qualities.specs.Order.{larger}
-use Rattle.mosaic.specs.Likelihood.{germlineShare}
-use Rattle.mosaic.specs.Prior.{densityOf, gainOf, forOne, forTwo}
+use Rattle.hypotheses.specs.Likelihood.{germlineShare}
+use Rattle.sites.specs.Site.{densityOf, forOne, forTwo}
+use Rattle.hypotheses.specs.Prior.{gainOf}
 use Rattle.models.specs.declared.params.Params.{Params}
-use Rattle.mosaic.specs.declared.hypotheses.Pair.{Pair}
-use Rattle.mosaic.specs.declared.prior.Density.{Density}
+use Rattle.alleles.specs.declared.pair.Pair.{Pair}
+use Rattle.sites.specs.declared.priors.Density.{Density}
 use Rattle.mosaic_laws.proofs.Quotients.{above-div}
 
 -- ---- the short log gamma of a number above zero and at most 2 ^ 23
@@ -128,7 +128,7 @@ pub record Dense (d : Density) : Type 0 where
   pub beta-within : Within (2 ^ 38) (d .«gamma_beta»)
   pub sum-within : Within (2 ^ 38) (d .«gamma_sum»)
 
-pub dense : (p : Params) → paramsAllowed p ≡ true → T (fits binary64 (p .alpha)) → T (fits binary64 (p .beta)) → Dense (densityOf first p)
+pub dense : (p : Params) → paramsAllowed p ≡ true → T (fits binary64 (p .alpha)) → T (fits binary64 (p .beta)) → Dense (densityOf stirlingOf p)
 unfolding densityOf
 dense p allowed f g =
     let a = alpha-prior p allowed in

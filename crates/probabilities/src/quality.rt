@@ -8,7 +8,7 @@ use kernels::log10::pow10;
 use qualities::order::max;
 use qualities::order::min;
 
-fn in_use(n: usize) -> usize
+pub(crate) fn in_use(n: usize) -> usize
     ensures { λ r. ⌜ r ≡ inUse n ⌝ }
 {
     if n <= 36 { n } else { 36 }

@@ -1,0 +1,19 @@
+-- `hypotheses::search::start` meets its contract. Assumes nothing.
+use lib.Ieee.{neg, div, round, ofInt, ofBits}
+use Rattle.hypotheses.specs.Inner.{started}
+use borrow.Author.Needs.{needs}
+use Rattle.hypotheses.proofs.search.start.Statement.{statement}
+use Rattle.hypotheses.proofs.search.start.Tie as tie
+
+start-vafs-requires : tie.Need-start-vafs-requires
+start-vafs-requires c κs = search needs
+
+gain-requires : tie.Need-gain-requires
+gain-requires c κs = search needs
+
+returns : tie.Need-returns
+unfolding started neg div round ofInt ofBits
+returns c = rw (c .gain .ensures, c .before .before .start-vafs .ensures)
+
+pub start-spec : {M : Type 1} → statement M
+start-spec = tie.close (tie.spec start-vafs-requires gain-requires returns)

@@ -1,0 +1,43 @@
+-- The hypotheses: which of the alleles that are seen are germline. Definitions only (RULES.md, M1).
+use Prim.Native.Nat.{ℕ}
+use mathlib.Core.Bool.{Bool, false, _&&_, _||_}
+use mathlib.Core.List.{List, [], _∷_, _++_, map}
+use lib.ListN.{length}
+use Rattle.probabilities.specs.Over.{over}
+use Rattle.alleles.specs.Alleles.{seenIn, pair, somaticIn}
+use Rattle.alleles.specs.declared.pair.Pair.{Pair}
+use Rattle.hypotheses.specs.Lists.{numbers, passing}
+
+-- the alleles that are seen, of eight at most
+abbrev pub seenAlleles : List ℕ → List ℕ
+seenAlleles counts = passing (seenIn counts) (numbers 0 8)
+
+-- a hypothesis has germline alleles that are seen
+abbrev pub bothSeen : List ℕ → Pair → Bool
+bothSeen counts g = seenIn counts (g .first) && seenIn counts (g .second)
+
+-- whether one of the first k alleles is somatic, and whether any is
+abbrev pub anyOver : List ℕ → Pair → ℕ → Bool
+anyOver counts g = over (λ i b. b || somaticIn counts g i) false
+
+abbrev pub anySomatic : List ℕ → Pair → Bool
+anySomatic counts g = anyOver counts g (length counts)
+
+-- each allele of a list alone, then each pair of them, an earlier with a later
+abbrev pub singles : List ℕ → List Pair
+singles l = map (λ i. pair i i) l
+
+abbrev pub pairs : List ℕ → List Pair
+pairs [] = []
+pairs (i ∷ l) = map (pair i) l ++ pairs l
+
+abbrev pub pairsOf : List ℕ → List Pair
+pairsOf l = singles l ++ pairs l
+
+-- the hypotheses are those of the alleles that are seen
+unfoldable pub hypotheses : List ℕ → List Pair
+hypotheses counts = pairsOf (seenAlleles counts)
+
+-- those of eight alleles that are all seen: 36
+abbrev pub allPairs : List Pair
+allPairs = pairsOf (numbers 0 8)

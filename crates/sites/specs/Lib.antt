@@ -1,0 +1,2 @@
+-- The definitions that the contract of `sites` cites.
+pub mod Site

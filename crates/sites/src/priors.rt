@@ -1,0 +1,42 @@
+// The numbers of the prior that no VAF changes (docs/RULES.md, M4).
+ghost use mathlib.Core.Path.{_≡_};
+ghost use Rattle.stirlings.specs.Stirling.{stirlingOf};
+ghost use Rattle.sites.specs.Site.{densityOf, forOne, forTwo};
+use kernels::ln::ln;
+use models::params::Params;
+use stirlings::stirling::stirling;
+
+// The numbers of a log beta density: alpha − 1, beta − 1, and the log gammas of alpha, beta and their sum.
+pub struct Density {
+    pub a: f64,
+    pub b: f64,
+    pub gamma_alpha: f64,
+    pub gamma_beta: f64,
+    pub gamma_sum: f64,
+}
+
+pub(crate) fn density_of(params: Params) -> Density
+    ensures { λ r. ⌜ r ≡ densityOf stirlingOf params ⌝ }
+{
+    Density {
+        a: params.alpha - 1.0,
+        b: params.beta - 1.0,
+        gamma_alpha: stirling(params.alpha),
+        gamma_beta: stirling(params.beta),
+        gamma_sum: stirling(params.alpha + params.beta),
+    }
+}
+
+// What one germline allele adds, and what two add.
+pub(crate) fn for_one(n: u8) -> f64
+    ensures { λ r. ⌜ r ≡ forOne n ⌝ }
+{
+    -ln(n as f64)
+}
+
+pub(crate) fn for_two(n: u8) -> f64
+    ensures { λ r. ⌜ r ≡ forTwo n ⌝ }
+{
+    let wide = n as u32;
+    -ln(((wide * wide - wide) / 2) as f64)
+}
