@@ -20,7 +20,8 @@ use Rattle.hypotheses.specs.Search.{foundOf}
 use Rattle.hypotheses.specs.Choice.{posteriors, chosen}
 use Rattle.hypotheses.specs.Inner.{foundBy, chosenBy}
 use Rattle.hypotheses.proofs.Terms.{found-by}
-use Rattle.hypotheses.proofs.Scanned.{scanned, padded-at, at-most-36}
+use Rattle.lists.proofs.PaddedLaws.{padded-at}
+use Rattle.hypotheses.proofs.Scanned.{scanned, at-most-36}
 
 -- what a total that is not 0 tells of the counts
 pub record Counted (counts : List ℕ) : Type 0 where

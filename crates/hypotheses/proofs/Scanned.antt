@@ -1,68 +1,22 @@
 -- The scan of all pairs gives the hypotheses and their posteriors: `scanned`. Assumes nothing.
 use mathlib.Core.Path.{_≡_, refl, sym, ap, _∙_, subst}
 use mathlib.Core.Bool.{Bool, true, false, _&&_, cond}
-use mathlib.Core.List.{List, [], _∷_, _++_, map, map-append, append-nil, append-assoc}
-use Prim.Native.Nat.{ℕ, zero, suc, _+_, _-_, min, _≤_, _<_}
-use native.Mathlib.Numerals.{add-one}
+use mathlib.Core.List.{List, [], _∷_, _++_, map, map-append, append-nil}
+use Prim.Native.Nat.{ℕ, zero, suc, _≤_, _<_}
 use native.Mathlib.Omega.{arith}
 use lib.Dec.{lit≤}
-use lib.ListN.{length, getD, take, set, replicate, length-append, length-take, length-map}
-use lib.Seq.{take-suc, set-append-seam}
+use lib.ListN.{length, getD, take, set, length-map}
 use lib.Ieee.{Float}
 use Rattle.floats.specs.F64.{nat}
-use Rattle.hypotheses.specs.Lists.{numbers, passing, padded}
+use Rattle.lists.specs.Lists.{numbers, passing, padded}
+use Rattle.lists.proofs.PassingLaws.{front, passing-append, passing-next, passing-few}
+use Rattle.lists.proofs.PaddedLaws.{longer, padded-next}
 use Rattle.alleles.specs.Alleles.{seenIn, pair}
 use Rattle.hypotheses.specs.Hypotheses.{singles, pairs, hypotheses, allPairs, bothSeen}
 use Rattle.hypotheses.specs.Inner.{foundBy, pushed, scanStep, scanOver, scannedBy}
 use Rattle.alleles.specs.declared.pair.Pair.{Pair}
 use Rattle.sites.specs.declared.site.Site.{Site}
 use Rattle.hypotheses.specs.declared.scan.Scan.{Scan}
-
--- ---- lists in places
-
-module _ {A : Type 0} where
-  -- a member in front of what passes, or not
-  abbrev pub front : Bool → A → List A → List A
-  front b x l = cond b (x ∷ l) l
-
-  front-append : (b : Bool) (x : A) (l m k : List A) → k ≡ l ++ m → front b x k ≡ front b x l ++ m
-  front-append true x l m k e = ap (λ (l : List A). x ∷ l) e
-  front-append false x l m k e = e
-
-  pub passing-append : (t : A → Bool) (l m : List A) → passing t (l ++ m) ≡ passing t l ++ passing t m
-  passing-append t [] m = refl
-  passing-append t (x ∷ l) m = front-append (t x) x (passing t l) (passing t m) (passing t (l ++ m)) (passing-append t l m)
-
-  front-length : (b : Bool) (x : A) (l : List A) (n : ℕ) → length l ≤ n → length (front b x l) ≤ suc n
-  front-length true x l n h = omega arith
-  front-length false x l n h = omega arith
-
-  passing-length : (t : A → Bool) (l : List A) → length (passing t l) ≤ length l
-  passing-length t [] = omega arith
-  passing-length t (x ∷ l) = front-length (t x) x (passing t l) (length l) (passing-length t l)
-
-  pub longer : (l : List A) (x : A) → length (l ++ (x ∷ [])) ≡ length l + 1
-  longer l x = length-append l (x ∷ [])
-
-  -- the first k + 1 of a list that pass
-  pub passing-next : (t : A → Bool) (l : List A) (k : ℕ) (d : A) → k < length l → passing t (take (suc k) l) ≡ passing t (take k l) ++ front (t (getD l k d)) (getD l k d) []
-  passing-next t l k d h = rw (take-suc l k d h, passing-append t (take k l) (getD l k d ∷ []))
-
-  pub passing-few : (t : A → Bool) (l : List A) (k : ℕ) → length (passing t (take k l)) ≤ k
-  passing-few t l k = few k (length l) (length (passing t (take k l))) (rw length-take at (passing-length t (take k l)))
-    where
-      few : (k n m : ℕ) → m ≤ min k n → m ≤ k
-      few k n m h = omega arith
-
-  -- the next place of a padded list
-  pub padded-next : (n : ℕ) (d : A) (l : List A) (x : A) → length l < n → set (padded n d l) (length l) x ≡ padded n d (l ++ (x ∷ []))
-  padded-next n d l x h =
-      ap (λ (m : ℕ). set (l ++ replicate m d) (length l) x) (less n (length l) h)
-      ∙ set-append-seam l d (replicate (n - suc (length l)) d) x
-      ∙ sym (append-assoc l (x ∷ []) (replicate (n - length (l ++ (x ∷ []))) d) ∙ ap (λ (m : ℕ). l ++ x ∷ replicate (n - m) d) (longer l x ∙ add-one (length l)))
-    where
-      less : (n k : ℕ) → k < n → n - k ≡ suc (n - suc k)
-      less n k h = omega arith
 
 -- ---- the scan
 
@@ -143,25 +97,3 @@ module _ (counts : List ℕ) where
 pub scanned : (counts : List ℕ) (site : Site) → scannedBy counts site ≡ scanOf counts site (hypotheses counts)
 unfolding scannedBy
 scanned counts site = scan-so-far counts site 36 (lit≤ tt) ∙ ap (scanOf counts site) (all-seen counts)
-
-pub number-at : (i n k : ℕ) → k < n → getD (numbers i n) k 0 ≡ i + k
-number-at i zero k h = absurd (none k h)
-  where
-    none : (k : ℕ) → k < 0 → ⊥
-    none k h = omega arith
-number-at i (suc n) zero h = omega arith
-number-at i (suc n) (suc k) h = number-at (suc i) n k (omega arith) ∙ omega arith
-
--- a place of a padded list, beyond its end too
-replicated-at : {A : Type 0} (m i : ℕ) (d : A) → getD (replicate m d) i d ≡ d
-replicated-at zero i d = refl
-replicated-at (suc m) zero d = refl
-replicated-at (suc m) (suc i) d = replicated-at m i d
-
-filled-at : {A : Type 0} (l : List A) (m : ℕ) (d : A) (i : ℕ) → getD (l ++ replicate m d) i d ≡ getD l i d
-filled-at [] m d i = replicated-at m i d
-filled-at (x ∷ l) m d zero = refl
-filled-at (x ∷ l) m d (suc i) = filled-at l m d i
-
-pub padded-at : {A : Type 0} (n : ℕ) (d : A) (l : List A) (i : ℕ) → getD (padded n d l) i d ≡ getD l i d
-padded-at n d l i = filled-at l (n - length l) d i

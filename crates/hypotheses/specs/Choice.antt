@@ -9,7 +9,7 @@ use Rattle.floats.specs.F64.{nat}
 use Rattle.probabilities.specs.Winner.{winner}
 use Rattle.models.specs.declared.params.Params.{Params}
 use Rattle.alleles.specs.Alleles.{totalAllowed, pair}
-use Rattle.hypotheses.specs.Lists.{padded}
+use Rattle.lists.specs.Lists.{padded}
 use Rattle.hypotheses.specs.Edition.{Edition, first}
 use Rattle.hypotheses.specs.Hypotheses.{hypotheses}
 use Rattle.hypotheses.specs.Search.{foundOf}

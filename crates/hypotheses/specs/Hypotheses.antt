@@ -6,7 +6,7 @@ use lib.ListN.{length}
 use Rattle.probabilities.specs.Over.{over}
 use Rattle.alleles.specs.Alleles.{seenIn, pair, somaticIn}
 use Rattle.alleles.specs.declared.pair.Pair.{Pair}
-use Rattle.hypotheses.specs.Lists.{numbers, passing}
+use Rattle.lists.specs.Lists.{numbers, passing}
 
 -- the alleles that are seen, of eight at most
 abbrev pub seenAlleles : List ℕ → List ℕ

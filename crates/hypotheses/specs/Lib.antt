@@ -1,5 +1,4 @@
 -- The definitions that the contract of `hypotheses` cites. `Inner` is for private functions alone.
-pub mod Lists
 pub mod Edition
 pub mod Hypotheses
 pub mod Likelihood

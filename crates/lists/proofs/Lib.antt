@@ -1,3 +1,4 @@
 -- The laws of `lists`.
+pub mod NumbersLaws
 pub mod PassingLaws
 pub mod PaddedLaws

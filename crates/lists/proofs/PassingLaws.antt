@@ -2,9 +2,10 @@
 use mathlib.Core.Path.{_≡_, refl, ap}
 use mathlib.Core.Bool.{Bool, true, false, cond}
 use mathlib.Core.List.{List, [], _∷_, _++_}
-use Prim.Native.Nat.{ℕ, suc, _≤_}
+use Prim.Native.Nat.{ℕ, suc, min, _≤_, _<_}
 use native.Mathlib.Omega.{arith}
-use lib.ListN.{length}
+use lib.ListN.{length, getD, take, length-take}
+use lib.Seq.{take-suc}
 use Rattle.lists.specs.Lists.{passing}
 
 module _ {A : Type 0} where
@@ -27,3 +28,13 @@ module _ {A : Type 0} where
   pub passing-length : (t : A → Bool) (l : List A) → length (passing t l) ≤ length l
   passing-length t [] = omega arith
   passing-length t (x ∷ l) = front-length (t x) x (passing t l) (length l) (passing-length t l)
+
+  -- the first k + 1 of a list that pass
+  pub passing-next : (t : A → Bool) (l : List A) (k : ℕ) (d : A) → k < length l → passing t (take (suc k) l) ≡ passing t (take k l) ++ front (t (getD l k d)) (getD l k d) []
+  passing-next t l k d h = rw (take-suc l k d h, passing-append t (take k l) (getD l k d ∷ []))
+
+  pub passing-few : (t : A → Bool) (l : List A) (k : ℕ) → length (passing t (take k l)) ≤ k
+  passing-few t l k = few k (length l) (length (passing t (take k l))) (rw length-take at (passing-length t (take k l)))
+    where
+      few : (k n m : ℕ) → m ≤ min k n → m ≤ k
+      few k n m h = omega arith

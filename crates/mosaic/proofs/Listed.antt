@@ -7,9 +7,11 @@ use native.Mathlib.Omega.{arith}
 use lib.Dec.{lit≤}
 use lib.ListN.{length, getD, take, set}
 use Rattle.alleles.specs.Alleles.{seenIn}
-use Rattle.hypotheses.specs.Lists.{numbers, passing, padded}
+use Rattle.lists.specs.Lists.{numbers, passing, padded}
+use Rattle.lists.proofs.NumbersLaws.{number-at}
+use Rattle.lists.proofs.PassingLaws.{front, passing-next, passing-few}
+use Rattle.lists.proofs.PaddedLaws.{longer, padded-next}
 use Rattle.hypotheses.specs.Hypotheses.{seenAlleles}
-use Rattle.hypotheses.proofs.Scanned.{front, longer, passing-next, passing-few, padded-next, number-at}
 use Rattle.mosaic.specs.Inner.{listStep, listOver, listedBy}
 use Rattle.mosaic.specs.declared.genotype.Alleles.{Alleles}
 

@@ -13,7 +13,7 @@ use Rattle.probabilities.specs.Over.{placed}
 use Rattle.probabilities.specs.Quality.{probabilities, qualityOf}
 use Rattle.alleles.specs.Alleles.{totalOf, alone, somaticIn}
 use Rattle.alleles.specs.declared.pair.Pair.{Pair}
-use Rattle.hypotheses.specs.Lists.{padded}
+use Rattle.lists.specs.Lists.{padded}
 use Rattle.hypotheses.specs.Edition.{Edition, first}
 use Rattle.hypotheses.specs.Hypotheses.{seenAlleles}
 use Rattle.hypotheses.specs.Choice.{chosen}

@@ -19,7 +19,8 @@ use Rattle.refusals.specs.declared.Refusal.the-variants.{TooMany, Count, Model,
 use Rattle.limits.specs.Limits.{countsAllowed}
 use Rattle.probabilities.specs.Quality.{wholeOf, probabilityOf, probabilities}
 use Rattle.probabilities.proofs.InUse.{in-use-all}
-use Rattle.hypotheses.specs.Lists.{numbers, passing}
+use Rattle.lists.specs.Lists.{numbers, passing}
+use Rattle.lists.proofs.NumbersLaws.{number-at}
 use Rattle.hypotheses.specs.Edition.{first}
 use Rattle.mosaic.specs.Allowed.{paramsAllowed}
 use Rattle.alleles.specs.Alleles.{countAt, seenIn, germlineIn, somaticIn, totalOver, totalOf, pair}
@@ -34,7 +35,7 @@ use Rattle.alleles.specs.declared.pair.Pair.{Pair}
 use Rattle.mosaic.specs.declared.genotype.MosaicResult.{MosaicResult}
 use Rattle.probabilities.proofs.OverLaws.{placed-at, placed-beyond}
 use Rattle.probabilities.proofs.WinnerLaws.{winner-low}
-use Rattle.hypotheses.proofs.Scanned.{all-seen, at-most-36, number-at}
+use Rattle.hypotheses.proofs.Scanned.{all-seen, at-most-36}
 use Rattle.mosaic_laws.specs.Accepted.{Accepted}
 use Rattle.mosaic_laws.proofs.Seen.{seen-some, seen-in, count-in}
 use Rattle.mosaic_laws.proofs.Places.{flag-at, found-rest}
