@@ -4,13 +4,11 @@ use mathlib.Core.Bool.{Bool, true, false, not, cond, or-false}
 use mathlib.Core.List.{List, [], _∷_}
 use mathlib.Core.Logic.{_≢_}
 use mathlib.Core.Path.{_≡_, refl, sym, ap, _∙_}
-use lib.Dec.{eqb, ltb}
-use lib.Signed.{ltZ}
+use lib.Dec.{eqb}
 use Rattle.entries.specs.declared.entry.Entry.{Entry}
 use Rattle.entries.specs.declared.held.Held.{Held}
 use Rattle.entries.specs.Best.{offered, allOffered}
 use Rattle.entries.specs.Held.{heldOf, heldList, holdsAt, inUse, mergedHeld}
-use Rattle.floats.specs.Key.{keyOf}
 use Rattle.entries.specs.Rank.{beatsOf}
 
 module _ (f s e : Entry) where
@@ -47,19 +45,6 @@ module _ (f s : Entry) (p : ℕ) where
   holds-second zero h k t = absurd (h refl)
   holds-second (suc zero) h k t = absurd (k refl)
   holds-second (suc (suc n)) h k t = rw t (sym (or-false (eqb (s .position) p)))
-
-module _ (a b : Entry) where
-  pub beats-larger : ltZ (keyOf (b .score)) (keyOf (a .score)) ≡ true → true ≡ beatsOf a b
-  unfolding beatsOf
-  beats-larger t = rw t
-
-  pub beats-smaller : ltZ (keyOf (b .score)) (keyOf (a .score)) ≡ false → ltZ (keyOf (a .score)) (keyOf (b .score)) ≡ true → false ≡ beatsOf a b
-  unfolding beatsOf
-  beats-smaller t u = rw (t, u)
-
-  pub beats-equal : ltZ (keyOf (b .score)) (keyOf (a .score)) ≡ false → ltZ (keyOf (a .score)) (keyOf (b .score)) ≡ false → ltb (b .position) (a .position) ≡ beatsOf a b
-  unfolding beatsOf
-  beats-equal t u = rw (t, u)
 
 -- the list of a `Held` fits one
 pub in-use-back : (n : ℕ) (f s : Entry) → heldList (heldOf (inUse n f s)) ≡ inUse n f s

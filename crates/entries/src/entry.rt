@@ -1,5 +1,6 @@
 // A scored position, and which of two is better (docs/RULES.md, T7).
 ghost use mathlib.Core.Path.{_≡_};
+ghost use mathlib.Core.Bool.{not, _&&_, _||_};
 ghost use lib.Signed.{ltZ};
 ghost use Rattle.entries.specs.Rank.{beatsOf};
 use floats::key::key;
@@ -10,23 +11,22 @@ pub struct Entry {
     pub score: f64,
 }
 
-fn below(a: i64, b: i64) -> bool
-    ensures { λ r. ⌜ r ≡ ltZ a b ⌝ }
+// The larger key is better, and of equal keys what is later.
+fn ahead(ka: i64, kb: i64, later: bool) -> bool
+    ensures { λ r. ⌜ r ≡ (ltZ kb ka || (not (ltZ ka kb) && later)) ⌝ }
 {
-    a < b
+    if kb < ka {
+        return true;
+    }
+    if ka < kb {
+        return false;
+    }
+    later
 }
 
-// The larger key is better, and of equal keys the later position.
+// Is a better than b?
 pub fn beats(a: Entry, b: Entry) -> bool
     ensures { λ r. ⌜ r ≡ beatsOf a b ⌝ }
 {
-    let ka = key(a.score);
-    let kb = key(b.score);
-    if below(kb, ka) {
-        return true;
-    }
-    if below(ka, kb) {
-        return false;
-    }
-    b.position < a.position
+    ahead(key(a.score), key(b.score), b.position < a.position)
 }
