@@ -7,9 +7,9 @@ use native.Mathlib.Decide.{ℕ-discrete}
 use native.Mathlib.Nat.{mul-le-mul, zero-mul, not-suc-le-zero}
 use native.Mathlib.Omega.{arith}
 use borrow.Author.Tests.{le-leb}
-use Rattle.search.specs.Marks.{isMarked, markCount}
+use Rattle.marks.specs.Marks.{isMarked, markCount}
 use Rattle.search.specs.Shape.{markedPositions, heldCount}
-use Rattle.search.proofs.MarksLaws.{marked-none, some-marked, unmarked-above}
+use Rattle.marks.proofs.MarksLaws.{marked-none, some-marked, unmarked-above}
 
 count-none : (n : ℕ) → markCount n 0 ≡ 0
 unfolding markCount

@@ -8,10 +8,10 @@ use lib.Dec.{eqb}
 use Rattle.entries.specs.declared.entry.Entry.{Entry}
 use Rattle.entries.specs.declared.held.Held.{Held}
 use Rattle.entries.specs.Held.{inUse, heldList}
-use Rattle.search.specs.Marks.{isMarked}
+use Rattle.marks.specs.Marks.{isMarked}
 use Rattle.entries.specs.Rank.{beatsOf}
 use Rattle.search.specs.Shape.{unusedZero, scoredInMarked, listRight}
-use Rattle.search.proofs.MarksLaws.{unmarked-above}
+use Rattle.marks.proofs.MarksLaws.{unmarked-above}
 
 pub unused-two : (n : ℕ) (f s : Entry) → n ≢ 0 → n ≢ 1 → true ≡ unusedZero n f s
 unused-two zero f s h k = absurd (h refl)

@@ -1,4 +1,3 @@
--- The definitions of `search`: row marks, the right shape of marks and held entries, and one pass over all positions. All over any score.
-pub mod Marks
+-- The definitions of `search`: the right shape of marks and held entries, and one pass over all positions. All over any score.
 pub mod Shape
 pub mod Work

@@ -7,7 +7,7 @@ use lib.Ieee.{binary64, toBits, isNan}
 use Rattle.entries.specs.declared.entry.Entry.{Entry}
 use Rattle.entries.specs.declared.held.Held.{Held}
 use Rattle.entries.specs.Held.{heldList}
-use Rattle.search.specs.Marks.{isMarked, markCount}
+use Rattle.marks.specs.Marks.{isMarked, markCount}
 use Rattle.entries.specs.Rank.{beatsOf}
 
 -- an unused place: all bits zero

@@ -10,7 +10,7 @@ use lib.Signed.{ltZ}
 use Rattle.lists.specs.Lists.{passing}
 use Rattle.entries.specs.declared.entry.Entry.{Entry}
 use Rattle.entries.specs.Held.{mergedHeld}
-use Rattle.search.specs.Marks.{fullMarks}
+use Rattle.marks.specs.Marks.{fullMarks}
 use Rattle.floats.specs.Key.{keyOf}
 
 -- ---- one pass

@@ -1,2 +1,1 @@
-pub mod marks;
 pub mod shape;

@@ -5,8 +5,8 @@ ghost use Prim.Native.Nat.{_≤_, _<_, _^_};
 ghost use lib.Dec.{eqb};
 ghost use Rattle.entries.specs.Rank.{beatsOf};
 ghost use Rattle.entries.specs.Held.{heldList};
+ghost use Rattle.marks.specs.Marks.{isMarked};
 ghost use Rattle.search.specs.Shape.{isNoEntry, unusedZero, heldCount, inMarked, scoredInMarked, listRight, heldRight, workRight};
-use crate::marks::is_marked;
 use entries::entry::Entry;
 use entries::entry::beats;
 use entries::held::Held;
@@ -32,6 +32,14 @@ fn scored_in_marked(rows: u64, marks: u64, e: Entry) -> bool
         return false;
     }
     in_marked(rows, marks, e)
+}
+
+// Is row r marked?
+fn is_marked(marks: u64, r: u64) -> bool
+    requires { ⌜ r < 64 ⌝ }
+    ensures { λ b. ⌜ b ≡ isMarked marks r ⌝ }
+{
+    (marks >> r) % 2 == 1
 }
 
 // Does an entry lie in a marked row?

@@ -13,7 +13,7 @@ use Rattle.entries.specs.declared.entry.Entry.{Entry}
 use Rattle.entries.specs.declared.held.Held.{Held}
 use Rattle.entries.specs.Best.{In}
 use Rattle.entries.specs.Held.{inUse, heldOf, heldList, holdsAt, mergedHeld}
-use Rattle.search.specs.Marks.{isMarked}
+use Rattle.marks.specs.Marks.{isMarked}
 use Rattle.search.specs.Shape.{heldCount, inMarked, scoredInMarked, workRight}
 use Rattle.search.proofs.CountLaws.{held-none, held-two}
 use Rattle.search_laws.specs.Both.{Both, Ordered}

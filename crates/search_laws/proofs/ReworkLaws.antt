@@ -17,11 +17,11 @@ use Rattle.entries.specs.declared.entry.Entry.{Entry}
 use Rattle.entries.specs.declared.held.Held.{Held}
 use Rattle.entries.specs.Best.{In, Or, Best}
 use Rattle.entries.specs.Held.{heldList}
-use Rattle.search.specs.Marks.{isMarked, fullMarks}
+use Rattle.marks.specs.Marks.{isMarked, fullMarks}
 use Rattle.entries.specs.Rank.{beatsOf}
 use Rattle.search.specs.Shape.{inMarked, workRight}
 use Rattle.search.specs.Work.{onePass, IsEntry, Work, joined, rowWork, allEntries, wholeWork, Within}
-use Rattle.search.proofs.MarksLaws.{unmarked-above}
+use Rattle.marks.proofs.MarksLaws.{unmarked-above}
 use Rattle.entries.proofs.BestLaws.{best-ext}
 use Rattle.lists.specs.Lists.{numbers}
 use Rattle.search_laws.specs.Sound.{workedAll, Covers}

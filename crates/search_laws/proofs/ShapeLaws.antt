@@ -18,12 +18,12 @@ use Rattle.entries.specs.declared.entry.Entry.{Entry}
 use Rattle.entries.specs.declared.held.Held.{Held}
 use Rattle.entries.specs.Best.{In, Best}
 use Rattle.entries.specs.Held.{inUse, heldOf, heldList}
-use Rattle.search.specs.Marks.{isMarked, fullMarks}
+use Rattle.marks.specs.Marks.{isMarked, fullMarks}
 use Rattle.entries.specs.Rank.{beatsOf}
 use Rattle.search.specs.Shape.{isNoEntry, unusedZero, heldCount, inMarked, scoredInMarked, listRight, workRight}
 use Rattle.search.specs.Work.{entryAt, Work, Within}
 use Rattle.search.proofs.CountLaws.{held-none, held-one, held-two}
-use Rattle.search.proofs.MarksLaws.{marked-none, some-marked, unmarked-above}
+use Rattle.marks.proofs.MarksLaws.{marked-none, some-marked, unmarked-above}
 use Rattle.search_laws.specs.Both.{Ordered}
 use Rattle.search_laws.specs.Sound.{Sound}
 

@@ -9,8 +9,8 @@ use lib.Arith.{lt-one}
 use lib.Bits.{bitOr, or-shr, or-mod}
 use lib.Dec.{eqb, eqb·suc-suc, eqb·zero-suc, eqb·suc-zero, lit<}
 use lib.Pow.{pow-pos, ones-lt}
-use Rattle.search.specs.Marks.{isMarked, fullMarks}
-use Rattle.search.proofs.MarksLaws.{marked-first, marked-later, marked-none}
+use Rattle.marks.specs.Marks.{isMarked, fullMarks}
+use Rattle.marks.proofs.MarksLaws.{marked-first, marked-later, marked-none}
 
 -- ---- a word with one bit, and two words joined
 

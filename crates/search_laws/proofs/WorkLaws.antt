@@ -16,10 +16,10 @@ use Rattle.floats.proofs.Rounded.{or-split}
 use Rattle.entries.specs.declared.entry.Entry.{Entry}
 use Rattle.entries.specs.Best.{In, Or, Best}
 use Rattle.entries.specs.Held.{mergedHeld}
-use Rattle.search.specs.Marks.{isMarked, fullMarks}
+use Rattle.marks.specs.Marks.{isMarked, fullMarks}
 use Rattle.entries.specs.Rank.{beatsOf}
 use Rattle.search.specs.Work.{onePass, IsEntry, Work, joined, noWork, rowEntries, allEntries, rowWork, Within}
-use Rattle.search.proofs.MarksLaws.{marked-none, unmarked-above}
+use Rattle.marks.proofs.MarksLaws.{marked-none, unmarked-above}
 use Rattle.entries.proofs.BestLaws.{best-ext, best-unique}
 use Rattle.search.proofs.PassLaws.{entries-lie, lie-entries, entries-rise, one-pass-best, ranks}
 use Rattle.search_laws.specs.Sound.{Sound}

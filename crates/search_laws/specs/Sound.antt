@@ -5,7 +5,7 @@ use mathlib.Core.List.{List, [], _∷_}
 use mathlib.Core.Path.{_≡_}
 use lib.Ieee.{Float}
 use Rattle.entries.specs.Best.{In, Best}
-use Rattle.search.specs.Marks.{isMarked}
+use Rattle.marks.specs.Marks.{isMarked}
 use Rattle.entries.specs.Rank.{beatsOf}
 use Rattle.search.specs.Work.{Work, joined, rowWork, Within}
 

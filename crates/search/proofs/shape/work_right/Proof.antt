@@ -4,7 +4,7 @@ use native.Mathlib.Omega.{arith}
 use borrow.Author.Needs.{needs}
 use borrow.Author.Tests.{le-leb, lt-leb, lt-ltb, le-ltb}
 use Rattle.search.specs.Shape.{workRight}
-use Rattle.search.proofs.Words.{one-shifted}
+use Rattle.marks.proofs.Words.{one-shifted}
 use Rattle.search.proofs.shape.work_right.Statement.{statement}
 use Rattle.search.proofs.shape.work_right.Tie as tie
 

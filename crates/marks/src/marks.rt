@@ -1,8 +1,7 @@
 // Row marks: bit r of a word says whether row r has been worked (docs/RULES.md, F4).
 ghost use mathlib.Core.Path.{_≡_};
-ghost use Prim.Native.Nat.{_<_};
 ghost use lib.Dec.{eqb};
-ghost use Rattle.search.specs.Marks.{marked, fullMarks, isMarked};
+ghost use Rattle.marks.specs.Marks.{marked, fullMarks};
 
 // `marks` with row r marked besides; a word has no bit for a row past 63.
 pub fn row_marked(marks: u64, r: u64) -> u64
@@ -22,12 +21,4 @@ pub fn all_marked(rows: u64, marks: u64) -> bool
         return marks == (1 << rows) - 1;
     }
     rows == 64 && marks == 0xFFFF_FFFF_FFFF_FFFF
-}
-
-// Is row r marked?
-pub(crate) fn is_marked(marks: u64, r: u64) -> bool
-    requires { ⌜ r < 64 ⌝ }
-    ensures { λ b. ⌜ b ≡ isMarked marks r ⌝ }
-{
-    (marks >> r) % 2 == 1
 }

@@ -1,9 +1,9 @@
--- `search::marks::is_marked` meets its contract. The shift is the division that the definition names.
+-- `search::shape::is_marked` meets its contract. The shift is the division that the definition names.
 use mathlib.Core.Path.{refl}
 use borrow.Author.Needs.{needs}
-use Rattle.search.specs.Marks.{isMarked}
-use Rattle.search.proofs.marks.is_marked.Statement.{statement}
-use Rattle.search.proofs.marks.is_marked.Tie as tie
+use Rattle.marks.specs.Marks.{isMarked}
+use Rattle.search.proofs.shape.is_marked.Statement.{statement}
+use Rattle.search.proofs.shape.is_marked.Tie as tie
 
 shr-result : tie.Need-shr-result
 shr-result c = search needs

@@ -1,9 +1,9 @@
--- `search::marks::row_marked` meets its contract. `1 << r` is 2 ^ r.
+-- `marks::marks::row_marked` meets its contract. `1 << r` is 2 ^ r.
 use borrow.Author.Needs.{needs}
 use borrow.Author.Tests.{lt-ltb, le-ltb}
-use Rattle.search.proofs.Words.{one-shifted}
-use Rattle.search.proofs.marks.row_marked.Statement.{statement}
-use Rattle.search.proofs.marks.row_marked.Tie as tie
+use Rattle.marks.proofs.Words.{one-shifted}
+use Rattle.marks.proofs.marks.row_marked.Statement.{statement}
+use Rattle.marks.proofs.marks.row_marked.Tie as tie
 
 shl-result : tie.Need-shl-result
 shl-result c = search needs

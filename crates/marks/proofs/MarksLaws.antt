@@ -11,7 +11,7 @@ use borrow.Author.Tests.{eq-eqb}
 use lib.Arith.{lt-one, bin-ind}
 use lib.Dec.{eqb}
 use lib.Pow.{shr-shr}
-use Rattle.search.specs.Marks.{isMarked}
+use Rattle.marks.specs.Marks.{isMarked}
 
 -- ---- bit 0, and the others by halves
 

@@ -1,13 +1,13 @@
--- `search::marks::all_marked` meets its contract. `1 << rows` is 2 ^ rows; past 64 rows the full word is larger than any of 64 bits.
+-- `marks::marks::all_marked` meets its contract. `1 << rows` is 2 ^ rows; past 64 rows the full word is larger than any of 64 bits.
 use Prim.Native.Nat.{_≤_, _<_, _^_}
 use native.Mathlib.Omega.{arith}
 use borrow.Author.Needs.{needs}
 use borrow.Author.Tests.{ne-eqb}
 use lib.Pow.{pow-pos, pow-mono}
-use Rattle.search.specs.Marks.{fullMarks}
-use Rattle.search.proofs.Words.{one-shifted}
-use Rattle.search.proofs.marks.all_marked.Statement.{statement}
-use Rattle.search.proofs.marks.all_marked.Tie as tie
+use Rattle.marks.specs.Marks.{fullMarks}
+use Rattle.marks.proofs.Words.{one-shifted}
+use Rattle.marks.proofs.marks.all_marked.Statement.{statement}
+use Rattle.marks.proofs.marks.all_marked.Tie as tie
 
 shl-result : tie.Need-shl-result
 shl-result c = search needs

@@ -1,0 +1,3 @@
+-- What belongs to no one function of `marks`.
+pub mod Words
+pub mod MarksLaws

@@ -1,0 +1,2 @@
+-- The definitions of `marks`: which rows of a search have been worked.
+pub mod Marks
