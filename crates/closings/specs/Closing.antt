@@ -10,7 +10,7 @@ use Rattle.refusals.specs.declared.Refusal.{Refusal}
 use Rattle.refusals.specs.declared.Refusal.the-variants.{Done, NotComplete, BadPart}
 use Rattle.entries.specs.declared.held.Held.{Held}
 use Rattle.entries.specs.Held.{noEntry}
-use Rattle.search.specs.Marks.{fullMarks}
+use Rattle.marks.specs.Marks.{fullMarks}
 use Rattle.family.specs.declared.ground.Ground.{Ground}
 use Rattle.family.specs.declared.ground.Ground.the-variants.{NoGround, Won, Tied, Unread}
 use Rattle.family.specs.declared.sample.Sample.the-variants.{Child, Father, Mother}

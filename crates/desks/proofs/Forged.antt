@@ -20,12 +20,12 @@ use Rattle.refusals.specs.Refusals.{numberOf}
 use Rattle.entries.specs.declared.entry.Entry.{Entry}
 use Rattle.entries.specs.Best.{In}
 use Rattle.entries.specs.Held.{heldOf, heldList, fresh, mergedHeld}
-use Rattle.search.specs.Marks.{isMarked, markCount, fullMarks}
+use Rattle.marks.specs.Marks.{isMarked, markCount, fullMarks}
 use Rattle.entries.specs.Rank.{beatsOf}
 use Rattle.search.specs.Shape.{inMarked, workRight}
 use Rattle.search.specs.Work.{Work, IsEntry, joined, rowWork, wholeWork, Within}
 use Rattle.entries.proofs.HeldLaws.{in-use-back, all-kept-whole}
-use Rattle.search.proofs.MarksLaws.{unmarked-above}
+use Rattle.marks.proofs.MarksLaws.{unmarked-above}
 use Rattle.lists.specs.Lists.{numbers}
 use Rattle.search_laws.specs.Sound.{workedAll}
 use Rattle.search_laws.proofs.KeepLaws.{first-held, joined-right}

@@ -11,7 +11,7 @@ use lib.Ieee.{Float, binary64, isNan, toBits}
 use Rattle.refusals.specs.declared.Refusal.the-variants.{Done, Row, OtherTrio, NotComplete, BadPart}
 use Rattle.entries.specs.Best.{Best}
 use Rattle.entries.specs.Held.{heldList}
-use Rattle.search.specs.Marks.{isMarked, fullMarks}
+use Rattle.marks.specs.Marks.{isMarked, fullMarks}
 use Rattle.entries.specs.Rank.{beatsOf}
 use Rattle.search.specs.Shape.{workRight}
 use Rattle.search.specs.Work.{Work, joined, noWork, rowWork, Within, wholeWork}

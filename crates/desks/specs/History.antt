@@ -6,7 +6,7 @@ use lib.Dec.{T, eqb, ltb}
 use Rattle.refusals.specs.declared.Refusal.the-variants.{Done, Row, OtherTrio, NotComplete, BadPart}
 use Rattle.entries.specs.Best.{Best}
 use Rattle.entries.specs.Held.{heldList}
-use Rattle.search.specs.Marks.{isMarked}
+use Rattle.marks.specs.Marks.{isMarked}
 use Rattle.entries.specs.Rank.{beatsOf}
 use Rattle.search.specs.Work.{Within}
 use Rattle.parts.specs.declared.part.Part.{Part}

@@ -31,8 +31,8 @@ use Rattle.entries.proofs.entry.beats.Reads as beats
 use Rattle.entries.proofs.held.Held.nothing.Reads as held-nothing
 use Rattle.entries.proofs.held.offer.Reads as offer
 use Rattle.entries.proofs.held.merge_held.Reads as merge-held
-use Rattle.search.proofs.marks.row_marked.Reads as row-marked
-use Rattle.search.proofs.marks.all_marked.Reads as all-marked
+use Rattle.marks.proofs.marks.row_marked.Reads as row-marked
+use Rattle.marks.proofs.marks.all_marked.Reads as all-marked
 use Rattle.search.proofs.shape.work_right.Reads as work-right
 use Rattle.family.proofs.genotypes.genotype_count.Reads as genotype-count
 use Rattle.mendel.proofs.mendel.distinct_pairs.Reads as distinct-pairs

@@ -7,7 +7,7 @@ use native.Mathlib.Omega.{arith}
 use borrow.Author.Tests.{lt-ltb}
 use lib.Bits.{or-zero-l}
 use Rattle.refusals.specs.declared.Refusal.the-variants.{Done}
-use Rattle.search.specs.Marks.{marked}
+use Rattle.marks.specs.Marks.{marked}
 use Rattle.search.specs.Work.{Work, joined, rowWork}
 use Rattle.search_laws.proofs.BestCode.{pass-back}
 use Rattle.parts.specs.declared.part.Part.{Part}

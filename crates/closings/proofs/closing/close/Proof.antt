@@ -5,7 +5,7 @@ use mathlib.Core.Path.{_≡_, sym, ap, _∙_}
 use native.Mathlib.Omega.{arith}
 use borrow.Author.Needs.{needs}
 use lib.Dec.{eqb}
-use Rattle.search.specs.Marks.{fullMarks}
+use Rattle.marks.specs.Marks.{fullMarks}
 use Rattle.parts.specs.Part.{rowCount, rightPart}
 use Rattle.closings.specs.Closing.{closeStep}
 use Rattle.parts.proofs.RightLaws.{few-clusters}
