@@ -1,31 +1,32 @@
 -- The terms that are kept from candidate to candidate are the definition's, and so is what is made of them: `found-by`. Assumes nothing.
 use mathlib.Core.Path.{_≡_, refl, sym, ap, _∙_, subst}
-use mathlib.Core.Bool.{Bool, true, false, not, _&&_, cond}
+use mathlib.Core.Bool.{Bool, true, false, not, _&&_, _||_, cond, true≢false}
 use mathlib.Core.List.{List}
-use Prim.Native.Nat.{ℕ, _≤_, _<_}
+use Prim.Native.Nat.{ℕ, zero, suc, _≤_, _<_}
 use native.Mathlib.Omega.{arith}
 use lib.Dec.{eqb, lit≤}
 use lib.ListN.{length, getD, set, replicate, length-set, length-replicate, getD-replicate}
 use lib.Signed.{ltZ}
-use lib.Ieee.{Float, nan, lt}
+use lib.Ieee.{Float, nan, inf, lt}
 use Rattle.floats.specs.F64.{_⊕_, _⊖_, _⊗_, nat, decimal}
 use Rattle.floats.specs.Key.{keyOf}
 use Rattle.kernels.specs.Ln.{lnOf}
 use Rattle.stirlings.specs.Stirling.{stirlingOf, lnFactorial}
 use Rattle.hypotheses.specs.Edition.{first}
 use Rattle.alleles.specs.Alleles.{countAt, seenIn, germlineIn, somaticIn, totalOf}
-use Rattle.hypotheses.specs.Hypotheses.{anySomatic}
+use Rattle.hypotheses.specs.Hypotheses.{anyOver, anySomatic}
 use Rattle.hypotheses.specs.Likelihood.{vafAt, massOf, germlineShare, shareOf, likelihoodOf}
 use Rattle.sites.specs.Site.{densityOf}
 use Rattle.hypotheses.specs.Prior.{gainOf, priorOf}
 use Rattle.hypotheses.specs.Search.{Best, startVafs, valueOf, tried, triedStep, stepOf, observedShare, searchedAllele, searchedAll, foundOf}
 use Rattle.sites.specs.Site.{factorialsOf, startsOf, siteOf}
-use Rattle.hypotheses.specs.Inner.{termAt, likelihoodBy, priorBy, ofGermline, likelihoodHere, priorHere, started, changed, attempted, stepTried, alleleSearched, offered, searched, foundBy}
+use Rattle.hypotheses.specs.Inner.{termAt, likelihoodBy, priorBy, ofGermline, likelihoodHere, priorHere, startValue, started, changed, attempted, stepTried, alleleSearched, offered, searched, foundBy}
 use Rattle.models.specs.declared.params.Params.{Params}
 use Rattle.alleles.specs.declared.pair.Pair.{Pair}
 use Rattle.sites.specs.declared.site.Site.{Site}
 use Rattle.hypotheses.specs.declared.search.Kept.{Kept}
 use Rattle.hypotheses.specs.declared.search.Found.{Found}
+use Rattle.probabilities.specs.Over.{over}
 use Rattle.probabilities.proofs.OverLaws.{over-related, over-same, length-placed, at-set, placed-at}
 
 -- one step of the likelihood: for a somatic allele the term that was kept is the definition's
@@ -34,6 +35,10 @@ likelihood-step : (seen germ : Bool) (s f c g t v : Float) → ((seen && not ger
 likelihood-step true true s f c g t v h = refl
 likelihood-step true false s f c g t v h = rw (h refl)
 likelihood-step false germ s f c g t v h = refl
+
+or-false : (a b : Bool) → (a || b) ≡ false → (a ≡ false) × (b ≡ false)
+or-false true b h = absurd (true≢false h)
+or-false false b h = (refl, h)
 
 prior-step : (somatic : Bool) (s t v : Float) → (somatic ≡ true → t ≡ v) → cond somatic (s ⊕ t) s ≡ cond somatic (s ⊕ v) s
 prior-step true s t v h = rw (h refl)
@@ -96,7 +101,7 @@ module _ (p : Params) (counts : List ℕ) (few : length counts ≤ 8) (g : Pair)
   in-eight i h l e = omega arith
 
   changed-caches : (k : Kept) (i : ℕ) (x : Float) → i < length counts → Caches k → Caches (changed counts g site k i x)
-  unfolding siteOf
+  unfolding siteOf changed
   changed-caches k i x l h = record {
     eight-vafs = length-set (k .vafs) i x ∙ h .eight-vafs;
     eight-terms = length-set (k .terms) i (nat (countAt counts i) ⊗ lnOf x) ∙ h .eight-terms;
@@ -110,7 +115,7 @@ module _ (p : Params) (counts : List ℕ) (few : length counts ≤ 8) (g : Pair)
   follows-cond false k m b c h q = q
 
   attempt-follows : (i : ℕ) → i < length counts → (x : Float) (k : Kept) (b : Best) → Follows k b → Follows (attempted counts g site k i x) (tried first p counts g i x b)
-  unfolding attempted tried
+  unfolding attempted tried changed
   attempt-follows i l x k b h =
       let d = changed counts g site k i x in
       let cs = changed-caches k i x l (h .caches) in
@@ -153,30 +158,29 @@ module _ (p : Params) (counts : List ℕ) (few : length counts ≤ 8) (g : Pair)
     gain-is = λ i l s. rw (start-at i l s) (getD-replicate 8 i (gainOf (densityOf stirlingOf p) (decimal 5 2)) nan (omega arith));
   }
 
-  search-follows : Follows (searched counts g site (started counts g site)) (searchedAll first p counts g)
-  unfolding started searched searchedAll
-  search-follows =
-      over-related Follows (offered counts g site) (λ i b. cond (somaticIn counts g i) (searchedAllele first p counts g i b) b) (started counts g site) (best (started counts g site)) (length counts) offer-follows (record { same = refl; caches = start-caches })
+  search-follows : anySomatic counts g ≡ true → Follows (searched counts g site (started counts g site)) (searchedAll first p counts g)
+  unfolding started startValue searched searchedAll
+  search-follows h =
+      over-related Follows (offered counts g site) (λ i b. cond (somaticIn counts g i) (searchedAllele first p counts g i b) b) (started counts g site) (record { vafs = startVafs counts g; value = inf true }) (length counts) offer-follows (record { same = rw h; caches = start-caches })
+
+  -- without somatic alleles nothing is searched
+  none-offered : (n : ℕ) → anyOver counts g n ≡ false → (k : Kept) → over (offered counts g site) k n ≡ k
+  unfolding offered
+  none-offered zero h k = refl
+  none-offered (suc n) h k =
+      let e = or-false (anyOver counts g n) (somaticIn counts g n) h in
+      rw (e .1) (none-offered n (e .0) k)
 
   -- the VAFs that were found, and the posterior made of them, by the first edition
   abbrev made : Best → Found
   made b = record { vafs = b .vafs; posterior = b .value ⊕ priorOf first p counts g (b .vafs) }
 
-  either : (t : Bool) (a n : Found) (b c : Best) → a ≡ made b → n ≡ made c
-      → cond t a n ≡ record { vafs = cond t b c .vafs; posterior = cond (t && not true) (cond t b c .value) (cond t b c .value ⊕ priorOf first p counts g (cond t b c .vafs)) }
-  either true a n b c h q = h
-  either false a n b c h q = q
-
   pub found-by : foundBy counts g site ≡ foundOf first p counts g
   unfolding foundBy foundOf
-  found-by =
-      let k = searched counts g site (started counts g site) in
-      let s = started counts g site in
-      let alone = startVafs counts g in
-      either (anySomatic counts g)
-      (record { vafs = k .vafs; posterior = k .value ⊕ priorHere counts g site (k .gains) })
-      (record { vafs = alone; posterior = likelihoodHere counts g site alone (s .terms) ⊕ priorHere counts g site (s .gains) })
-      (searchedAll first p counts g)
-      (record { vafs = alone; value = likelihoodOf first counts g alone })
-      (rw (prior-same k (search-follows .caches)) (ap made (search-follows .same)))
-      (unfold started in (rw (likelihood-same s start-caches, prior-same s start-caches)))
+  found-by = go (anySomatic counts g) refl
+    where
+      go : (b : Bool) → anySomatic counts g ≡ b → foundBy counts g site ≡ foundOf first p counts g
+      go true h = let k = searched counts g site (started counts g site) in rw (h, prior-same k (search-follows h .caches)) (ap made (search-follows h .same))
+      go false h =
+          let s = started counts g site in
+          unfold searched started startValue in (rw (none-offered (length counts) h s, h, likelihood-same s start-caches, prior-same s start-caches))

@@ -53,11 +53,20 @@ module _ (counts : List ℕ) (g : Pair) (site : Site) where
   abbrev pub priorHere : List Float → Float
   priorHere gains = priorBy counts g gains (ofGermline site g)
 
+  -- the value before a search, or without one
+  unfoldable pub startValue : List Float → Float
+  startValue vafs = cond (anySomatic counts g) (inf true) (likelihoodHere vafs (site .starts))
+
   unfoldable pub started : Kept
-  started = record { vafs = startVafs counts g; terms = site .starts; gains = replicate 8 (gainOf (site .density) (decimal 5 2)); value = inf true }
+  started = record {
+    vafs = startVafs counts g;
+    terms = site .starts;
+    gains = replicate 8 (gainOf (site .density) (decimal 5 2));
+    value = startValue (startVafs counts g);
+  }
 
   -- what is kept with the candidate x of allele i in it, and whether it stays
-  abbrev pub changed : Kept → ℕ → Float → Kept
+  unfoldable pub changed : Kept → ℕ → Float → Kept
   changed kept i x =
       let vafs = set (kept .vafs) i x in
       let terms = set (kept .terms) i (nat (countAt counts i) ⊗ lnOf x) in
@@ -82,9 +91,7 @@ module _ (counts : List ℕ) (g : Pair) (site : Site) where
   unfoldable pub foundBy : Found
   foundBy =
       let best = searched started in
-      cond (anySomatic counts g)
-      (record { vafs = best .vafs; posterior = best .value ⊕ priorHere (best .gains) })
-      (record { vafs = startVafs counts g; posterior = likelihoodHere (startVafs counts g) (started .terms) ⊕ priorHere (started .gains) })
+      record { vafs = best .vafs; posterior = best .value ⊕ priorHere (best .gains) }
 
 -- the hypotheses so far, with one more
 unfoldable pub pushed : Scan → Pair → Float → Scan

@@ -5,7 +5,7 @@ ghost use Prim.Native.Nat.{_≤_, _<_};
 ghost use lib.ListN.{length};
 ghost use Rattle.hypotheses.specs.Hypotheses.{anySomatic};
 ghost use Rattle.hypotheses.specs.Search.{startVafs};
-ghost use Rattle.hypotheses.specs.Inner.{ofGermline, started, attempted, stepTried, alleleSearched, offered, searched, foundBy};
+ghost use Rattle.hypotheses.specs.Inner.{ofGermline, likelihoodHere, priorHere, startValue, started, changed, attempted, stepTried, alleleSearched, offered, searched, foundBy};
 use crate::likelihood::germline_share;
 use crate::likelihood::likelihood;
 use crate::likelihood::mass;
@@ -68,6 +68,35 @@ fn of_germline(site: Site, g: Pair) -> f64
     site.for_two
 }
 
+// The likelihood of VAFs whose terms are given, and the prior of gains.
+fn likelihood_here(counts: &[u32], g: Pair, site: Site, vafs: [f64; 8], terms: [f64; 8]) -> f64
+    requires { ⌜ length (now counts) ≤ 8 ⌝ }
+    ensures { λ r. ⌜ r ≡ likelihoodHere (now (counts .entry)) g site vafs terms ⌝ }
+{
+    let factorials = site.factorials;
+    let ln_share = ln(germline_share(g, mass(counts, g, vafs)));
+    likelihood(counts, g, site.of_total, factorials, terms, ln_share)
+}
+
+fn prior_here(counts: &[u32], g: Pair, site: Site, gains: [f64; 8]) -> f64
+    requires { ⌜ length (now counts) ≤ 8 ⌝ }
+    ensures { λ r. ⌜ r ≡ priorHere (now (counts .entry)) g site gains ⌝ }
+{
+    log_prior(counts, g, gains, of_germline(site, g))
+}
+
+// A search starts at minus infinity; where there is nothing to search the value is the likelihood.
+fn start_value(counts: &[u32], g: Pair, site: Site, vafs: [f64; 8]) -> f64
+    requires { ⌜ length (now counts) ≤ 8 ⌝ }
+    ensures { λ r. ⌜ r ≡ startValue (now (counts .entry)) g site vafs ⌝ }
+{
+    if any_somatic(counts, g) {
+        return -1.0 / 0.0;
+    }
+    let terms = site.starts;
+    likelihood_here(counts, g, site, vafs, terms)
+}
+
 fn start(counts: &[u32], g: Pair, site: Site) -> Kept
     requires { ⌜ length (now counts) ≤ 8 ⌝ }
     ensures { λ r. ⌜ r ≡ started (now (counts .entry)) g site ⌝ }
@@ -80,33 +109,38 @@ fn start(counts: &[u32], g: Pair, site: Site) -> Kept
         vafs,
         terms,
         gains,
-        value: -1.0 / 0.0,
+        value: start_value(counts, g, site, vafs),
     }
 }
 
-// The candidate x of allele i, in what has been kept so far: it replaces that only where its value is strictly larger.
-fn attempt(counts: &[u32], g: Pair, site: Site, kept: Kept, i: usize, x: f64) -> Kept
+// What has been kept so far with the candidate x of allele i in it.
+fn change(counts: &[u32], g: Pair, site: Site, kept: Kept, i: usize, x: f64) -> Kept
     requires { ⌜ (length (now counts) ≤ 8) × (i < length (now counts)) ⌝ }
-    ensures { λ r. ⌜ r ≡ attempted (now (counts .entry)) g site kept i x ⌝ }
+    ensures { λ r. ⌜ r ≡ changed (now (counts .entry)) g site kept i x ⌝ }
 {
     let density = site.density;
-    let factorials = site.factorials;
     let mut vafs = kept.vafs;
     let mut terms = kept.terms;
     let mut gains = kept.gains;
     vafs[i] = x;
     terms[i] = counts[i] as f64 * ln(x);
     gains[i] = gain(density, x);
-    let ln_share = ln(germline_share(g, mass(counts, g, vafs)));
-    let ll = likelihood(counts, g, site.of_total, factorials, terms, ln_share);
-    let value = ll + log_prior(counts, g, gains, of_germline(site, g));
-    if less(kept.value, value) {
-        return Kept {
-            vafs,
-            terms,
-            gains,
-            value,
-        };
+    Kept {
+        vafs,
+        terms,
+        gains,
+        value: likelihood_here(counts, g, site, vafs, terms) + prior_here(counts, g, site, gains),
+    }
+}
+
+// A candidate replaces what has been kept only where its value is strictly larger.
+fn attempt(counts: &[u32], g: Pair, site: Site, kept: Kept, i: usize, x: f64) -> Kept
+    requires { ⌜ (length (now counts) ≤ 8) × (i < length (now counts)) ⌝ }
+    ensures { λ r. ⌜ r ≡ attempted (now (counts .entry)) g site kept i x ⌝ }
+{
+    let new = change(counts, g, site, kept, i, x);
+    if less(kept.value, new.value) {
+        return new;
     }
     kept
 }
@@ -168,20 +202,9 @@ pub(crate) fn find(counts: &[u32], g: Pair, site: Site) -> Found
     requires { ⌜ length (now counts) ≤ 8 ⌝ }
     ensures { λ r. ⌜ r ≡ foundBy (now (counts .entry)) g site ⌝ }
 {
-    let initial = start(counts, g, site);
-    if any_somatic(counts, g) {
-        let best = search_vafs(counts, g, site, initial);
-        let vafs = best.vafs;
-        let gains = best.gains;
-        let posterior = best.value + log_prior(counts, g, gains, of_germline(site, g));
-        return Found { vafs, posterior };
-    }
-    let vafs = initial.vafs;
-    let terms = initial.terms;
-    let gains = initial.gains;
-    let factorials = site.factorials;
-    let ln_share = ln(germline_share(g, mass(counts, g, vafs)));
-    let ll = likelihood(counts, g, site.of_total, factorials, terms, ln_share);
-    let posterior = ll + log_prior(counts, g, gains, of_germline(site, g));
+    let best = search_vafs(counts, g, site, start(counts, g, site));
+    let vafs = best.vafs;
+    let gains = best.gains;
+    let posterior = best.value + prior_here(counts, g, site, gains);
     Found { vafs, posterior }
 }

@@ -1,94 +1,22 @@
--- `hypotheses::search::attempt` meets its contract: its steps are the definition's. Assumes nothing.
-use mathlib.Core.Path.{_≡_}
-use Rattle.floats.specs.F64.{_⊕_}
-use Rattle.hypotheses.specs.Inner.{changed, attempted}
+-- `hypotheses::search::attempt` meets its contract. Assumes nothing.
+use Rattle.hypotheses.specs.Inner.{attempted}
 use borrow.Author.Needs.{needs}
 use Rattle.hypotheses.proofs.search.attempt.Statement.{statement}
 use Rattle.hypotheses.proofs.search.attempt.Tie as tie
 
-mul-vafs : tie.Need-mul-vafs
-mul-vafs c = search needs
-
-array-write-vafs : tie.Need-array-write-vafs
-array-write-vafs c = search needs
-
-mul-terms : tie.Need-mul-terms
-mul-terms c = search needs
-
-shared-slice-read-terms : tie.Need-shared-slice-read-terms
-shared-slice-read-terms c = search needs
-
-int-to-float-terms : tie.Need-int-to-float-terms
-int-to-float-terms c = search needs
-
-ln-requires : tie.Need-ln-requires
-ln-requires c κs = search needs
-
-mul-terms-2 : tie.Need-mul-terms-2
-mul-terms-2 c = search needs
-
-array-write-terms : tie.Need-array-write-terms
-array-write-terms c = search needs
-
-gain-requires : tie.Need-gain-requires
-gain-requires c κs = search needs
-
-mul-gains : tie.Need-mul-gains
-mul-gains c = search needs
-
-array-write-gains : tie.Need-array-write-gains
-array-write-gains c = search needs
-
-mass-requires : tie.Need-mass-requires
-mass-requires c κs = search needs
-
-germline-share-requires : tie.Need-germline-share-requires
-germline-share-requires c κs = search needs
-
-ln-requires-2 : tie.Need-ln-requires-2
-ln-requires-2 c κs = search needs
-
-likelihood-requires : tie.Need-likelihood-requires
-likelihood-requires c κs = search needs
-
-of-germline-requires : tie.Need-of-germline-requires
-of-germline-requires c κs = search needs
-
-log-prior-requires : tie.Need-log-prior-requires
-log-prior-requires c κs = search needs
+change-requires : tie.Need-change-requires
+change-requires c κs = search needs
 
 less-requires : tie.Need-less-requires
 less-requires c κs = search needs
 
 returns : tie.Need-returns
 unfolding attempted
-returns c = let a = c .before .before .before .before .before .before .before .before .before .before .before .before .before .before .before .before .before .before .args in let e : c .before .before .before .before .likelihood .result ⊕ c .before .before .log-prior .result ≡ changed (a .counts .now) (a .g) (a .site) (a .kept) (a .i) (a .x) .value = rw (c .before .before .log-prior .ensures, c .before .before .before .before .likelihood .ensures, c .before .before .before .before .before .ln2 .ensures, c .before .before .before .before .before .before .germline-share .ensures, c .before .before .before .before .before .before .before .mass .ensures, c .before .before .before .of-germline .ensures, c .before .before .before .before .before .before .before .before .gain .ensures, c .before .before .before .before .before .before .before .before .before .ln .ensures) in rw (← e, ← c .before .less .ensures, c .if1 .taken, c .before .before .before .before .before .before .before .before .before .ln .ensures, c .before .before .before .before .before .before .before .before .gain .ensures)
+returns c = rw (← c .before .before .change .ensures, ← c .before .less .ensures, c .if1 .taken)
 
 returns-2 : tie.Need-returns-2
 unfolding attempted
-returns-2 c = let a = c .before .before .before .before .before .before .before .before .before .before .before .before .before .before .before .before .before .before .args in let e : c .before .before .before .before .likelihood .result ⊕ c .before .before .log-prior .result ≡ changed (a .counts .now) (a .g) (a .site) (a .kept) (a .i) (a .x) .value = rw (c .before .before .log-prior .ensures, c .before .before .before .before .likelihood .ensures, c .before .before .before .before .before .ln2 .ensures, c .before .before .before .before .before .before .germline-share .ensures, c .before .before .before .before .before .before .before .mass .ensures, c .before .before .before .of-germline .ensures, c .before .before .before .before .before .before .before .before .gain .ensures, c .before .before .before .before .before .before .before .before .before .ln .ensures) in rw (← e, ← c .before .less .ensures, c .if1 .left)
+returns-2 c = rw (← c .before .before .change .ensures, ← c .before .less .ensures, c .if1 .left)
 
 pub attempt-spec : {M : Type 1} → statement M
-attempt-spec =
-    tie.close
-    (tie.spec
-    mul-vafs
-    array-write-vafs
-    mul-terms
-    shared-slice-read-terms
-    int-to-float-terms
-    ln-requires
-    mul-terms-2
-    array-write-terms
-    gain-requires
-    mul-gains
-    array-write-gains
-    mass-requires
-    germline-share-requires
-    ln-requires-2
-    likelihood-requires
-    of-germline-requires
-    log-prior-requires
-    less-requires
-    returns
-    returns-2)
+attempt-spec = tie.close (tie.spec change-requires less-requires returns returns-2)

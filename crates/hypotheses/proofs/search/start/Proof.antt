@@ -1,5 +1,5 @@
 -- `hypotheses::search::start` meets its contract. Assumes nothing.
-use lib.Ieee.{neg, div, round, ofInt, ofBits}
+use lib.Ieee.{round, ofInt, ofBits}
 use Rattle.hypotheses.specs.Inner.{started}
 use borrow.Author.Needs.{needs}
 use Rattle.hypotheses.proofs.search.start.Statement.{statement}
@@ -11,9 +11,12 @@ start-vafs-requires c κs = search needs
 gain-requires : tie.Need-gain-requires
 gain-requires c κs = search needs
 
+start-value-requires : tie.Need-start-value-requires
+start-value-requires c κs = search needs
+
 returns : tie.Need-returns
-unfolding started neg div round ofInt ofBits
-returns c = rw (c .gain .ensures, c .before .before .start-vafs .ensures)
+unfolding started round ofInt ofBits
+returns c = rw (c .start-value .ensures, c .before .gain .ensures, c .before .before .before .start-vafs .ensures)
 
 pub start-spec : {M : Type 1} → statement M
-start-spec = tie.close (tie.spec start-vafs-requires gain-requires returns)
+start-spec = tie.close (tie.spec start-vafs-requires gain-requires start-value-requires returns)
