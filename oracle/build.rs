@@ -1,4 +1,4 @@
-//! Links the port, which `rt staticlib` writes as kernel_exports and exports to target/staticlib of the repository, and takes kanpig's text into the build: each
+//! Links the port, which `rt staticlib` writes to target/staticlib of the repository, and takes kanpig's text into the build: each
 //! of its files, or the same with `.txt` behind its name, from anywhere below the folder that KANPIG_SRC names, with some names changed.
 use std::path::{Path, PathBuf};
 use std::{env, fs};
@@ -73,7 +73,7 @@ fn main() {
     let repository = here.join("..");
     let folder = repository.join("target/staticlib");
     println!("cargo:rustc-link-search=native={}", folder.display());
-    for library in ["kernel_exports", "exports"] {
+    for library in ["kernel_exports", "diploid_export", "trio_export", "mosaic_export"] {
         println!("cargo:rustc-link-lib=static={library}");
         println!("cargo:rerun-if-changed={}", folder.join(format!("lib{library}.a")).display());
     }

@@ -1,5 +1,4 @@
-//! The port's functions, as the crate `exports` names them. They are proved to answer every argument and to touch no memory but what is
-//! lent to them.
+//! The port's functions under their C names. They are proved to answer every argument and to touch no memory but what is lent to them.
 use crate::diploid::{Answer, Input};
 use crate::{mosaic, trio};
 

@@ -72,9 +72,9 @@ use Rattle.kernel_exports.proofs.admulfas_ln_gamma.Reads as c-ln-gamma
 use Rattle.kernel_exports.proofs.admulfas_ln_pmf.Reads as c-ln-pmf
 use Rattle.kernel_exports.proofs.admulfas_key.Reads as c-key
 use Rattle.kernel_exports.proofs.admulfas_stirling.Reads as c-stirling
-use Rattle.exports.proofs.diploid_call.admulfas_diploid.Reads as c-diploid
-use Rattle.exports.proofs.trio_call.admulfas_trio.Reads as c-trio
-use Rattle.exports.proofs.mosaic_call.admulfas_mosaic.Reads as c-mosaic
+use Rattle.diploid_export.proofs.admulfas_diploid.Reads as c-diploid
+use Rattle.trio_export.proofs.admulfas_trio.Reads as c-trio
+use Rattle.mosaic_export.proofs.admulfas_mosaic.Reads as c-mosaic
 use Rattle.triples.proofs.genotypes.triple_of.Reads as triple-of
 use Rattle.triples.proofs.score.score_at.Reads as score-at
 use Rattle.reading.proofs.fields.field_end.Reads as field-end
@@ -318,7 +318,7 @@ params-default-once κ a v w e f = only
 pub mosaic-genotype-once : OneAnswer mosaic-genotype.Post
 mosaic-genotype-once κ a v w e f = only
 
--- ---- kernel_exports, exports
+-- ---- C names
 
 pub c-ln-once : OneAnswer c-ln.Post
 c-ln-once κ a v w e f = only
