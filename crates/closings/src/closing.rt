@@ -10,11 +10,11 @@ use family::pair::Triple;
 use family::sample::Sample;
 use floats::key::key;
 use marks::marks::all_marked;
+use marks::marks::all_marked;
 use parts::part::Part;
 use parts::shape::right_part;
 use refusals::Refusal;
 use samples::samples::column_total;
-use marks::marks::all_marked;
 use triples::genotypes::triple_of;
 
 // The call with its score, its ground and the runner-up, if there is one; or a refusal with zeros. The part is handed back in every case.

@@ -12,11 +12,11 @@ use entries::held::Held;
 use entries::held::offer;
 use family::genotypes::genotype_count;
 use marks::marks::row_marked;
+use marks::marks::row_marked;
 use parts::part::Part;
 use parts::part::Stepped;
 use parts::shape::right_part;
 use refusals::Refusal;
-use marks::marks::row_marked;
 use triples::score::score_at;
 
 // The best two of `many` positions from `from` on.
