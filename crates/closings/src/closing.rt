@@ -10,7 +10,6 @@ use family::pair::Triple;
 use family::sample::Sample;
 use floats::key::key;
 use marks::marks::all_marked;
-use marks::marks::all_marked;
 use parts::part::Part;
 use parts::shape::right_part;
 use refusals::Refusal;

@@ -12,7 +12,6 @@ use entries::held::Held;
 use entries::held::offer;
 use family::genotypes::genotype_count;
 use marks::marks::row_marked;
-use marks::marks::row_marked;
 use parts::part::Part;
 use parts::part::Stepped;
 use parts::shape::right_part;
