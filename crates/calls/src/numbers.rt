@@ -2,8 +2,8 @@
 ghost use Prim.Native.Nat.{_≤_};
 ghost use lib.ListN.{length};
 use crate::sites::TAB;
-use numerals::decimals::Decimal;
-use numerals::decimals::read_decimal;
+use decimals::decimals::Decimal;
+use decimals::decimals::read_decimal;
 use numerals::wholes::Whole;
 use numerals::wholes::read_whole;
 use reading::fields::field;

@@ -82,7 +82,7 @@ use Rattle.reading.proofs.fields.field.Reads as field
 use Rattle.reading.proofs.fields.next_field.Reads as next-field
 use Rattle.reading.proofs.names.packed.Reads as packed
 use Rattle.numerals.proofs.wholes.read_whole.Reads as read-whole
-use Rattle.numerals.proofs.decimals.read_decimal.Reads as read-decimal
+use Rattle.decimals.proofs.decimals.read_decimal.Reads as read-decimal
 use Rattle.figures.proofs.figures.hundredths.Reads as hundredths
 use Rattle.figures.proofs.figures.lay_figure.Reads as lay-figure
 use Rattle.writing.proofs.laying.first_bytes.Reads as first-bytes

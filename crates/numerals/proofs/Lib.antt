@@ -1,3 +1,2 @@
 -- The laws of `numerals`.
 pub mod WholeLaws
-pub mod DecimalLaws

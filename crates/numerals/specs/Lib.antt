@@ -1,3 +1,2 @@
--- The definitions of `numerals`: whole numbers, decimal numbers.
+-- The definitions of `numerals`.
 pub mod Wholes
-pub mod Decimals

@@ -1,3 +1,2 @@
-// Numbers in decimal: whole ones, and those with a point.
-pub mod decimals;
+// Whole numbers in decimal.
 pub mod wholes;

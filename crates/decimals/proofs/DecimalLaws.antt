@@ -20,13 +20,13 @@ use lib.Ieee.Positive.{first-pos}
 use Rattle.floats.specs.F64.{_⊘_, nat, ratio}
 use Rattle.floats.proofs.Rounded.{exact-small}
 use Rattle.limits.specs.Every.{every}
 use Rattle.numerals.specs.declared.wholes.Whole.the-variants as whole
-use Rattle.numerals.specs.declared.decimals.Decimal.the-variants.{Is, Unread}
+use Rattle.decimals.specs.declared.decimals.Decimal.the-variants.{Is, Unread}
 use Rattle.reading.specs.Fields.{upTo, behind, fieldEnd}
 use Rattle.numerals.specs.Wholes.{isDigit, digits, number, wholeOf}
-use Rattle.numerals.specs.Decimals.{point, plainDecimal, pointDecimal, decimalOf}
+use Rattle.decimals.specs.Decimals.{point, plainDecimal, pointDecimal, decimalOf}
 use Rattle.reading.proofs.FieldLaws.{up-to-taken, end-there}
 use Rattle.numerals.proofs.WholeLaws.{number-shift, number-append, number-lt, whole-read, whole-unread}
 
 cross : (M N a b D E : ℕ) → M * 1 ≡ a * D → N * 1 ≡ b * E → M * E * b ≡ a * (N * D)
 cross M N a b D E h k =

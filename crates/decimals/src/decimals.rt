@@ -1,9 +1,9 @@
 // Decimal numbers: the f64 nearest to what the digits say (docs/RULES.md, A3).
 ghost use mathlib.Core.Path.{_≡_};
 ghost use Prim.Native.Nat.{_^_, _≤_};
-ghost use Rattle.numerals.specs.Decimals.{plainDecimal, pointDecimal, decimalOf};
-use crate::wholes::Whole;
-use crate::wholes::read_whole;
+ghost use Rattle.decimals.specs.Decimals.{plainDecimal, pointDecimal, decimalOf};
+use numerals::wholes::Whole;
+use numerals::wholes::read_whole;
 use reading::fields::field_end;
 
 pub enum Decimal {

@@ -1,12 +1,12 @@
--- `numerals::decimals::plain` meets its contract: 15 digits write a number that an f64 holds. Assumes nothing.
+-- `decimals::decimals::plain` meets its contract: 15 digits write a number that an f64 holds. Assumes nothing.
 use Prim.Native.Nat.{_^_}
 use mathlib.Core.Path.{sym, _∙_}
 use lib.Ieee.{inFloat}
 use lib.Dec.{le→leb}
 use borrow.Author.Needs.{needs}
-use Rattle.numerals.proofs.DecimalLaws.{plain-long, plain-unread, plain-small, plain-read}
-use Rattle.numerals.proofs.decimals.plain.Statement.{statement}
-use Rattle.numerals.proofs.decimals.plain.Tie as tie
+use Rattle.decimals.proofs.DecimalLaws.{plain-long, plain-unread, plain-small, plain-read}
+use Rattle.decimals.proofs.decimals.plain.Statement.{statement}
+use Rattle.decimals.proofs.decimals.plain.Tie as tie
 
 returns : tie.Need-returns
 returns c = plain-long (c .before .before .args .whole .now) (c .if1 .taken)

@@ -5,10 +5,10 @@ use mathlib.Core.List.{List, _++_}
 use lib.Dec.{leb, ltb}
 use lib.ListN.{length}
 use Rattle.floats.specs.F64.{decimal}
-use Rattle.numerals.specs.declared.decimals.Decimal.{Decimal}
-use Rattle.numerals.specs.declared.decimals.Decimal.the-variants.{Is, Unread}
+use Rattle.decimals.specs.declared.decimals.Decimal.{Decimal}
+use Rattle.decimals.specs.declared.decimals.Decimal.the-variants.{Is, Unread}
 use Rattle.reading.specs.Fields.{upTo, behind}
 use Rattle.numerals.specs.Wholes.{digits, number}
 
 -- the byte of a point
 abbrev pub point : ℕ

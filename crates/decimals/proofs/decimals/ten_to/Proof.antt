@@ -1,10 +1,10 @@
--- `numerals::decimals::ten_to` meets its contract. The loop's invariant: the power so far is 10 to the i. Assumes nothing.
+-- `decimals::decimals::ten_to` meets its contract. The loop's invariant: the power so far is 10 to the i. Assumes nothing.
 use mathlib.Core.Path.{_≡_, ap, _∙_}
 use Prim.Native.Nat.{ℕ, _*_, _≤_, _-_, _^_}
 use borrow.Author.Needs.{needs}
-use Rattle.numerals.proofs.DecimalLaws.{ten-more, ten-next}
-use Rattle.numerals.proofs.decimals.ten_to.Statement.{statement}
-use Rattle.numerals.proofs.decimals.ten_to.Tie as tie
+use Rattle.decimals.proofs.DecimalLaws.{ten-more, ten-next}
+use Rattle.decimals.proofs.decimals.ten_to.Statement.{statement}
+use Rattle.decimals.proofs.decimals.ten_to.Tie as tie
 
 abbrev Inv-loop : tie.InvT-loop
 Inv-loop k power₀ i₀ power i = (i ≤ k) × (power ≡ 10 ^ i)

@@ -1,13 +1,13 @@
--- `numerals::decimals::with_point` meets its contract: both numbers of the division are exact, so that it rounds once. Assumes nothing.
+-- `decimals::decimals::with_point` meets its contract: both numbers of the division are exact, so that it rounds once. Assumes nothing.
 use native.Mathlib.Omega.{arith}
 use Prim.Native.Nat.{_^_}
 use mathlib.Core.Path.{sym, _∙_}
 use lib.Ieee.{inFloat}
 use lib.Dec.{le→leb}
 use borrow.Author.Needs.{needs}
-use Rattle.numerals.proofs.DecimalLaws.{Divided, divided, point-long, point-left, point-right}
-use Rattle.numerals.proofs.decimals.with_point.Statement.{statement}
-use Rattle.numerals.proofs.decimals.with_point.Tie as tie
+use Rattle.decimals.proofs.DecimalLaws.{Divided, divided, point-long, point-left, point-right}
+use Rattle.decimals.proofs.decimals.with_point.Statement.{statement}
+use Rattle.decimals.proofs.decimals.with_point.Tie as tie
 
 returns : tie.Need-returns
 returns c = point-long (c .before .before .before .args .whole .now) (c .before .before .before .args .part .now) (omega arith)

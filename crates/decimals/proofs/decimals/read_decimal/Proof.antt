@@ -1,10 +1,10 @@
--- `numerals::decimals::read_decimal` meets its contract: the first point parts the digits. Assumes nothing.
+-- `decimals::decimals::read_decimal` meets its contract: the first point parts the digits. Assumes nothing.
 use mathlib.Core.Path.{sym, _∙_}
 use lib.Seq.{length-take-le}
 use borrow.Author.Needs.{needs}
-use Rattle.numerals.proofs.DecimalLaws.{by-point, by-none}
-use Rattle.numerals.proofs.decimals.read_decimal.Statement.{statement}
-use Rattle.numerals.proofs.decimals.read_decimal.Tie as tie
+use Rattle.decimals.proofs.DecimalLaws.{by-point, by-none}
+use Rattle.decimals.proofs.decimals.read_decimal.Statement.{statement}
+use Rattle.decimals.proofs.decimals.read_decimal.Tie as tie
 
 field-end-requires : tie.Need-field-end-requires
 field-end-requires c κs = search needs

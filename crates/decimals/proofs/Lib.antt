@@ -1,0 +1,2 @@
+-- The laws of `decimals`.
+pub mod DecimalLaws

@@ -1,0 +1,2 @@
+-- The definitions of `decimals`.
+pub mod Decimals

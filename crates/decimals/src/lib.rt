@@ -1,0 +1,2 @@
+// Decimal numbers, with a point or without.
+pub mod decimals;
