@@ -61,6 +61,7 @@ use Rattle.alleles.proofs.counts.count.Reads as allele-count
 use Rattle.alleles.proofs.counts.somatic.Reads as somatic
 use Rattle.alleles.proofs.counts.total.Reads as total
 use Rattle.sites.proofs.site.site_of.Reads as site-of
+use Rattle.candidates.proofs.search.find.Reads as find
 use Rattle.hypotheses.proofs.choice.choose.Reads as choose
 use Rattle.models.proofs.params.Params.default.Reads as params-default
 use Rattle.mosaic.proofs.genotype.genotype.Reads as mosaic-genotype
@@ -280,7 +281,7 @@ close-once κ a v w e f = only
 pub call-once : OneAnswer call.Post
 call-once κ a v w e f = only
 
--- ---- stirlings, probabilities, alleles, sites, hypotheses, mosaic
+-- ---- stirlings, probabilities, alleles, sites, candidates, hypotheses, mosaic
 
 pub stirling-once : OneAnswer stirling.Post
 stirling-once κ a v w e f = only
@@ -308,6 +309,9 @@ total-once κ a v w e f = only
 
 pub site-of-once : OneAnswer site-of.Post
 site-of-once κ a v w e f = only
+
+pub find-once : OneAnswer find.Post
+find-once κ a v w e f = only
 
 pub choose-once : OneAnswer choose.Post
 choose-once κ a v w e f = only

@@ -18,7 +18,8 @@ use Rattle.hypotheses.specs.Edition.{first}
 use Rattle.hypotheses.specs.Hypotheses.{hypotheses}
 use Rattle.hypotheses.specs.Search.{foundOf}
 use Rattle.hypotheses.specs.Choice.{posteriors, chosen}
-use Rattle.hypotheses.specs.Inner.{foundBy, chosenBy}
+use Rattle.candidates.specs.Kept.{foundAt}
+use Rattle.hypotheses.specs.Inner.{chosenBy}
 use Rattle.hypotheses.proofs.Terms.{found-by}
 use Rattle.lists.proofs.PaddedLaws.{padded-at}
 use Rattle.hypotheses.proofs.Scanned.{scanned, at-most-36}
@@ -41,7 +42,7 @@ module _ (p : Params) (counts : List ℕ) (few : length counts ≤ 8) where
   abbrev site : Site
   site = siteOf p counts (length counts) (totalOf counts)
 
-  posteriors-same : (l : List Pair) → map (λ g. foundBy counts g site .posterior) l ≡ map (λ g. foundOf first p counts g .posterior) l
+  posteriors-same : (l : List Pair) → map (λ g. foundAt counts g site .posterior) l ≡ map (λ g. foundOf first p counts g .posterior) l
   posteriors-same [] = refl
   posteriors-same (g ∷ l) = rw (found-by p counts few g, posteriors-same l)
 

@@ -6,7 +6,8 @@ use native.Mathlib.Omega.{arith}
 use lib.ListN.{getD}
 use Rattle.alleles.specs.Alleles.{pair}
 use Rattle.hypotheses.specs.Hypotheses.{allPairs, bothSeen}
-use Rattle.hypotheses.specs.Inner.{foundBy, pushed, scanStep, scanOver}
+use Rattle.candidates.specs.Kept.{foundAt}
+use Rattle.hypotheses.specs.Inner.{pushed, scanStep, scanOver}
 use Rattle.sites.specs.declared.site.Site.{Site}
 use Rattle.hypotheses.specs.declared.scan.Scan.{Scan}
 
@@ -21,4 +22,4 @@ scanned-low counts site (suc k) =
     let s = scanOver counts site k in
     let h = scanned-low counts site k in
     let g = getD allPairs k (pair 0 0) in
-    either (bothSeen counts g) (pushed s g (foundBy counts g site .posterior)) s (suc k) (omega arith) (omega arith)
+    either (bothSeen counts g) (pushed s g (foundAt counts g site .posterior)) s (suc k) (omega arith) (omega arith)

@@ -13,7 +13,8 @@ use Rattle.lists.proofs.PassingLaws.{front, passing-append, passing-next, passi
 use Rattle.lists.proofs.PaddedLaws.{longer, padded-next}
 use Rattle.alleles.specs.Alleles.{seenIn, pair}
 use Rattle.hypotheses.specs.Hypotheses.{singles, pairs, hypotheses, allPairs, bothSeen}
-use Rattle.hypotheses.specs.Inner.{foundBy, pushed, scanStep, scanOver, scannedBy}
+use Rattle.candidates.specs.Kept.{foundAt}
+use Rattle.hypotheses.specs.Inner.{pushed, scanStep, scanOver, scannedBy}
 use Rattle.alleles.specs.declared.pair.Pair.{Pair}
 use Rattle.sites.specs.declared.site.Site.{Site}
 use Rattle.hypotheses.specs.declared.scan.Scan.{Scan}
@@ -22,7 +23,7 @@ use Rattle.hypotheses.specs.declared.scan.Scan.{Scan}
 
 module _ (counts : List ℕ) (site : Site) where
   abbrev posterior : Pair → Float
-  posterior g = foundBy counts g site .posterior
+  posterior g = foundAt counts g site .posterior
 
   abbrev scanOf : List Pair → Scan
   scanOf l = record { count = length l; pairs = padded 36 (pair 0 0) l; posteriors = padded 36 (nat 0) (map posterior l) }

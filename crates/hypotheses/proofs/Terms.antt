@@ -4,6 +4,7 @@ use mathlib.Core.Bool.{Bool, true, false, not, _&&_, _||_, cond, true≢false}
 use mathlib.Core.List.{List}
 use Prim.Native.Nat.{ℕ, zero, suc, _≤_, _<_}
 use native.Mathlib.Omega.{arith}
+use borrow.Author.Tests.{le-leb}
 use lib.Dec.{eqb, lit≤}
 use lib.ListN.{length, getD, set, replicate, length-set, length-replicate, getD-replicate}
 use lib.Signed.{ltZ}
@@ -14,18 +15,17 @@ use Rattle.kernels.specs.Ln.{lnOf}
 use Rattle.stirlings.specs.Stirling.{stirlingOf, lnFactorial}
 use Rattle.hypotheses.specs.Edition.{first}
 use Rattle.alleles.specs.Alleles.{countAt, seenIn, germlineIn, somaticIn, totalOf}
-use Rattle.hypotheses.specs.Hypotheses.{anyOver, anySomatic}
-use Rattle.hypotheses.specs.Likelihood.{vafAt, massOf, germlineShare, shareOf, likelihoodOf}
-use Rattle.sites.specs.Site.{densityOf}
-use Rattle.hypotheses.specs.Prior.{gainOf, priorOf}
-use Rattle.hypotheses.specs.Search.{Best, startVafs, valueOf, tried, triedStep, stepOf, observedShare, searchedAllele, searchedAll, foundOf}
-use Rattle.sites.specs.Site.{factorialsOf, startsOf, siteOf}
-use Rattle.hypotheses.specs.Inner.{termAt, likelihoodBy, priorBy, ofGermline, likelihoodHere, priorHere, startValue, started, changed, attempted, stepTried, alleleSearched, offered, searched, foundBy}
+use Rattle.candidates.specs.Shares.{anyOver, anySomatic, vafAt, massOf, germlineShare, gainOf, startVafs, stepOf, observedShare}
+use Rattle.hypotheses.specs.Likelihood.{shareOf, likelihoodOf}
+use Rattle.sites.specs.Site.{densityOf, factorialsOf, startsOf, siteOf}
+use Rattle.hypotheses.specs.Prior.{priorOf}
+use Rattle.hypotheses.specs.Search.{Best, valueOf, tried, triedStep, searchedAllele, searchedAll, foundOf}
+use Rattle.candidates.specs.Kept.{termAt, likelihoodBy, priorBy, ofGermline, likelihoodHere, priorHere, startValue, started, changed, attempted, stepTried, alleleSearched, offered, searched, foundBy, foundAt}
 use Rattle.models.specs.declared.params.Params.{Params}
 use Rattle.alleles.specs.declared.pair.Pair.{Pair}
 use Rattle.sites.specs.declared.site.Site.{Site}
-use Rattle.hypotheses.specs.declared.search.Kept.{Kept}
-use Rattle.hypotheses.specs.declared.search.Found.{Found}
+use Rattle.candidates.specs.declared.search.Kept.{Kept}
+use Rattle.candidates.specs.declared.search.Found.{Found}
 use Rattle.probabilities.specs.Over.{over}
 use Rattle.probabilities.proofs.OverLaws.{over-related, over-same, length-placed, at-set, placed-at}
 
@@ -175,9 +175,9 @@ module _ (p : Params) (counts : List ℕ) (few : length counts ≤ 8) (g : Pair)
   abbrev made : Best → Found
   made b = record { vafs = b .vafs; posterior = b .value ⊕ priorOf first p counts g (b .vafs) }
 
-  pub found-by : foundBy counts g site ≡ foundOf first p counts g
-  unfolding foundBy foundOf
-  found-by = go (anySomatic counts g) refl
+  pub found-by : foundAt counts g site ≡ foundOf first p counts g
+  unfolding foundAt foundBy foundOf
+  found-by = rw (le-leb (length counts) 8 few) (go (anySomatic counts g) refl)
     where
       go : (b : Bool) → anySomatic counts g ≡ b → foundBy counts g site ≡ foundOf first p counts g
       go true h = let k = searched counts g site (started counts g site) in rw (h, prior-same k (search-follows h .caches)) (ap made (search-follows h .same))

@@ -1,10 +1,8 @@
 -- The hypotheses: which of the alleles that are seen are germline. Definitions only (RULES.md, M1).
 use Prim.Native.Nat.{ℕ}
-use mathlib.Core.Bool.{Bool, false, _&&_, _||_}
+use mathlib.Core.Bool.{Bool, _&&_}
 use mathlib.Core.List.{List, [], _∷_, _++_, map}
-use lib.ListN.{length}
-use Rattle.probabilities.specs.Over.{over}
-use Rattle.alleles.specs.Alleles.{seenIn, pair, somaticIn}
+use Rattle.alleles.specs.Alleles.{seenIn, pair}
 use Rattle.alleles.specs.declared.pair.Pair.{Pair}
 use Rattle.lists.specs.Lists.{numbers, passing}
 
@@ -15,13 +13,6 @@ seenAlleles counts = passing (seenIn counts) (numbers 0 8)
 -- a hypothesis has germline alleles that are seen
 abbrev pub bothSeen : List ℕ → Pair → Bool
 bothSeen counts g = seenIn counts (g .first) && seenIn counts (g .second)
-
--- whether one of the first k alleles is somatic, and whether any is
-abbrev pub anyOver : List ℕ → Pair → ℕ → Bool
-anyOver counts g = over (λ i b. b || somaticIn counts g i) false
-
-abbrev pub anySomatic : List ℕ → Pair → Bool
-anySomatic counts g = anyOver counts g (length counts)
 
 -- each allele of a list alone, then each pair of them, an earlier with a later
 abbrev pub singles : List ℕ → List Pair

@@ -2,31 +2,16 @@
 use Prim.Native.Nat.{ℕ}
 use mathlib.Core.Bool.{cond}
 use mathlib.Core.List.{List}
-use lib.ListN.{length, getD}
-use lib.Ieee.{Float, nan}
-use Rattle.floats.specs.F64.{_⊕_, _⊖_, _⊗_, _⊘_, nat, decimal}
+use lib.ListN.{length}
+use lib.Ieee.{Float}
+use Rattle.floats.specs.F64.{_⊕_, _⊖_, _⊗_, nat}
 use Rattle.kernels.specs.Ln.{lnOf}
 use Rattle.stirlings.specs.Stirling.{lnFactorial}
-use Rattle.qualities.specs.Order.{larger}
 use Rattle.probabilities.specs.Over.{over}
+use Rattle.candidates.specs.Shares.{vafAt, massOf, germlineShare}
 use Rattle.hypotheses.specs.Edition.{Edition}
-use Rattle.alleles.specs.Alleles.{countAt, seenIn, germlineIn, somaticIn, alone, totalOf}
+use Rattle.alleles.specs.Alleles.{countAt, seenIn, germlineIn, totalOf}
 use Rattle.alleles.specs.declared.pair.Pair.{Pair}
-
--- the VAF of a somatic allele
-abbrev pub vafAt : List Float → ℕ → Float
-vafAt vafs i = getD vafs i nan
-
--- the VAFs of the somatic alleles, summed: over the first k alleles, and over all
-abbrev pub massOver : List ℕ → Pair → List Float → ℕ → Float
-massOver counts g vafs = over (λ i s. cond (somaticIn counts g i) (s ⊕ vafAt vafs i) s) (nat 0)
-
-abbrev pub massOf : List ℕ → Pair → List Float → Float
-massOf counts g vafs = massOver counts g vafs (length counts)
-
--- the larger of 1 − sum and 0.01, halved between two alleles
-unfoldable pub germlineShare : Pair → Float → Float
-germlineShare g mass = let rest = larger (nat 1 ⊖ mass) (decimal 1 2) in cond (alone g) rest (rest ⊘ nat 2)
 
 -- the share of an allele that is seen
 abbrev pub shareOf : List ℕ → Pair → List Float → ℕ → Float

@@ -2,40 +2,25 @@
 use Prim.Native.Nat.{ℕ}
 use mathlib.Core.Bool.{true, not, _&&_, cond}
 use mathlib.Core.List.{List}
-use lib.ListN.{length, replicate, set}
+use lib.ListN.{length, set}
 use lib.Signed.{ltZ}
 use lib.Ieee.{Float, inf, lt}
-use Rattle.floats.specs.F64.{_⊕_, _⊗_, _⊘_, nat, decimal}
+use Rattle.floats.specs.F64.{_⊕_, nat, decimal}
 use Rattle.floats.specs.Key.{keyOf}
-use Rattle.probabilities.specs.Over.{over, placed}
+use Rattle.probabilities.specs.Over.{over}
+use Rattle.candidates.specs.Shares.{anySomatic, startVafs, observedShare, stepOf}
 use Rattle.hypotheses.specs.Edition.{Edition}
 use Rattle.alleles.specs.Alleles.{countAt, somaticIn, totalOf}
-use Rattle.hypotheses.specs.Hypotheses.{anySomatic}
 use Rattle.hypotheses.specs.Likelihood.{likelihoodOf}
 use Rattle.hypotheses.specs.Prior.{priorOf}
 use Rattle.models.specs.declared.params.Params.{Params}
 use Rattle.alleles.specs.declared.pair.Pair.{Pair}
-use Rattle.hypotheses.specs.declared.search.Found.{Found}
+use Rattle.candidates.specs.declared.search.Found.{Found}
 
 -- the VAFs kept so far, by allele, and their value
 pub record Best : Type 0 where
   pub vafs : List Float
   pub value : Float
-
--- M1: a somatic allele starts at 0.05; the place of any other allele is zero
-abbrev pub startOver : List ℕ → Pair → ℕ → List Float
-startOver counts g = placed (replicate 8 (nat 0)) (λ i. cond (somaticIn counts g i) (decimal 5 2) (nat 0))
-
-unfoldable pub startVafs : List ℕ → Pair → List Float
-startVafs counts g = startOver counts g (length counts)
-
--- the observed share, count / total, which no limit touches
-abbrev pub observedShare : ℕ → Float → Float
-observedShare count total = nat count ⊘ total
-
--- step s of the highest VAF, the quotient rounded first
-abbrev pub stepOf : Float → ℕ → Float
-stepOf highest s = highest ⊗ (nat s ⊘ nat 20)
 
 module _ (e : Edition) (p : Params) (counts : List ℕ) (g : Pair) where
   -- likelihood plus prior

@@ -1,13 +1,11 @@
 // Every hypothesis with its posterior, and the one that wins (docs/RULES.md, M6).
 ghost use mathlib.Core.Path.{_≡_};
-ghost use Prim.Native.Nat.{_≤_};
-ghost use lib.ListN.{length};
 ghost use Rattle.hypotheses.specs.Choice.{nothing, choiceOf};
 ghost use Rattle.hypotheses.specs.Inner.{chosenBy};
 use crate::scan::scan_all;
-use crate::search::find;
 use alleles::counts::total;
 use alleles::pair::Pair;
+use candidates::search::find;
 use models::params::Params;
 use probabilities::winner::best_place;
 use sites::site::Site;
@@ -42,7 +40,6 @@ fn no_choice() -> Choice
 
 // The search of the winner is made once more, for its VAFs.
 fn choose_at(counts: &[u32], site: Site) -> Choice
-    requires { ⌜ length (now counts) ≤ 8 ⌝ }
     ensures { λ r. ⌜ r ≡ chosenBy (now (counts .entry)) site ⌝ }
 {
     let scan = scan_all(counts, site);

@@ -1,8 +1,4 @@
 // The hypotheses of a mosaic call: which alleles are germline, the VAFs that fit the others best, and the hypothesis that wins.
 pub mod choice;
-mod likelihood;
-mod order;
 mod pairs;
-mod prior;
 pub mod scan;
-pub mod search;

@@ -1,14 +1,13 @@
 // The posterior of every hypothesis (docs/RULES.md, M6).
 ghost use mathlib.Core.Path.{_≡_};
-ghost use Prim.Native.Nat.{_≤_, _<_};
-ghost use lib.ListN.{length};
+ghost use Prim.Native.Nat.{_<_};
 ghost use Rattle.hypotheses.specs.Hypotheses.{bothSeen};
 ghost use Rattle.hypotheses.specs.Inner.{pushed, scannedBy};
 use crate::pairs::FIRSTS;
 use crate::pairs::SECONDS;
-use crate::search::find;
 use alleles::counts::count;
 use alleles::pair::Pair;
+use candidates::search::find;
 use sites::site::Site;
 
 // The hypotheses so far, each with its posterior.
@@ -43,7 +42,6 @@ fn both_seen(counts: &[u32], g: Pair) -> bool
 // Each pair whose alleles are seen is a hypothesis. The others are passed by here and not in a function of their own, to which the scan would be
 // copied for each.
 pub(crate) fn scan_all(counts: &[u32], site: Site) -> Scan
-    requires { ⌜ length (now counts) ≤ 8 ⌝ }
     ensures { λ r. ⌜ r ≡ scannedBy (now (counts .entry)) site ⌝ }
 {
     let firsts = FIRSTS;

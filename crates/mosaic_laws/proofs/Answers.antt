@@ -25,7 +25,7 @@ use Rattle.hypotheses.specs.Edition.{first}
 use Rattle.mosaic.specs.Allowed.{paramsAllowed}
 use Rattle.alleles.specs.Alleles.{countAt, seenIn, germlineIn, somaticIn, totalOver, totalOf, pair}
 use Rattle.hypotheses.specs.Hypotheses.{seenAlleles, singles, pairs, hypotheses, allPairs, bothSeen}
-use Rattle.hypotheses.specs.Likelihood.{vafAt}
+use Rattle.candidates.specs.Shares.{vafAt}
 use Rattle.hypotheses.specs.Search.{foundOf}
 use Rattle.probabilities.specs.Winner.{winner}
 use Rattle.hypotheses.specs.Choice.{posteriors}

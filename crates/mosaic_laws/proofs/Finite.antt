@@ -27,11 +27,12 @@ use Rattle.stirlings.specs.Stirling.{stirlingOf, lnFactorial}
 use Rattle.probabilities.specs.Over.{over}
 use Rattle.hypotheses.specs.Edition.{first}
 use Rattle.alleles.specs.Alleles.{countAt, seenIn, germlineIn, somaticIn, alone, totalOf}
-use Rattle.hypotheses.specs.Hypotheses.{anyOver, anySomatic, bothSeen}
-use Rattle.hypotheses.specs.Likelihood.{vafAt, massOf, germlineShare, shareOf, likelihoodOf}
+use Rattle.candidates.specs.Shares.{anyOver, anySomatic, vafAt, massOf, germlineShare, gainOf, startVafs, stepOf, observedShare}
+use Rattle.hypotheses.specs.Hypotheses.{bothSeen}
+use Rattle.hypotheses.specs.Likelihood.{shareOf, likelihoodOf}
 use Rattle.sites.specs.Site.{densityOf, forOne, forTwo}
-use Rattle.hypotheses.specs.Prior.{gainOf, priorOf}
-use Rattle.hypotheses.specs.Search.{Best, startVafs, valueOf, tried, triedStep, stepOf, observedShare, searchedAllele, searchedAll, foundOf}
+use Rattle.hypotheses.specs.Prior.{priorOf}
+use Rattle.hypotheses.specs.Search.{Best, valueOf, tried, triedStep, searchedAllele, searchedAll, foundOf}
 use Rattle.models.specs.declared.params.Params.{Params}
 use Rattle.alleles.specs.declared.pair.Pair.{Pair}
 use Rattle.alleles.proofs.CountLaws.{count-bound, total-bound}

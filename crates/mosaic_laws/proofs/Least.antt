@@ -13,7 +13,8 @@ use Rattle.floats.proofs.KeyOrder.{key-order}
 use Rattle.models.specs.declared.params.Params.{Params}
 use Rattle.hypotheses.specs.Edition.{Edition}
 use Rattle.alleles.specs.Alleles.{countAt, somaticIn, totalOf}
-use Rattle.hypotheses.specs.Search.{Best, startVafs, valueOf, tried, triedStep, stepOf, observedShare, searchedAllele, searchedAll}
+use Rattle.candidates.specs.Shares.{startVafs, stepOf, observedShare}
+use Rattle.hypotheses.specs.Search.{Best, valueOf, tried, triedStep, searchedAllele, searchedAll}
 use Rattle.alleles.specs.declared.pair.Pair.{Pair}
 use Rattle.mosaic_laws.proofs.Sums.{over-keeps}
 

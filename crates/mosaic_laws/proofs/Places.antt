@@ -13,9 +13,9 @@ use Rattle.floats.specs.F64.{nat, decimal}
 use Rattle.floats.specs.Key.{keyOf}
 use Rattle.hypotheses.specs.Edition.{Edition}
 use Rattle.alleles.specs.Alleles.{countAt, germlineIn, somaticIn, totalOf}
-use Rattle.hypotheses.specs.Hypotheses.{anySomatic}
-use Rattle.hypotheses.specs.Likelihood.{vafAt, likelihoodOf}
-use Rattle.hypotheses.specs.Search.{Best, startVafs, valueOf, tried, triedStep, stepOf, observedShare, searchedAllele, searchedAll, foundOf}
+use Rattle.candidates.specs.Shares.{anySomatic, vafAt, startVafs, stepOf, observedShare}
+use Rattle.hypotheses.specs.Likelihood.{likelihoodOf}
+use Rattle.hypotheses.specs.Search.{Best, valueOf, tried, triedStep, searchedAllele, searchedAll, foundOf}
 use Rattle.mosaic.specs.Genotype.{flagsOf}
 use Rattle.models.specs.declared.params.Params.{Params}
 use Rattle.alleles.specs.declared.pair.Pair.{Pair}

@@ -19,7 +19,7 @@ use Rattle.floats.proofs.Bounds.{above-whole, within-ratio}
 use Rattle.floats.proofs.Zeros.{zeroOf, zero-fits, plus-zero}
 use Rattle.models.specs.declared.params.Params.{Params}
 use Rattle.mosaic.specs.Allowed.{paramsAllowed}
-use Rattle.hypotheses.specs.Search.{stepOf}
+use Rattle.candidates.specs.Shares.{stepOf}
 use Rattle.mosaic_laws.proofs.Quotients.{quotient, whole-size}
 use Rattle.mosaic_laws.proofs.Terms.{highest-not-below}
 

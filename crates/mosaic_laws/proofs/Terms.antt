@@ -25,9 +25,8 @@ use Rattle.mosaic.specs.Allowed.{paramsAllowed}
 use Rattle.limits.specs.Limits.{inRange}
 use Rattle.alleles.specs.Alleles.{alone}
 use Rattle.qualities.specs.Order.{larger}
-use Rattle.hypotheses.specs.Likelihood.{germlineShare}
+use Rattle.candidates.specs.Shares.{germlineShare, gainOf}
 use Rattle.sites.specs.Site.{densityOf, forOne, forTwo}
-use Rattle.hypotheses.specs.Prior.{gainOf}
 use Rattle.models.specs.declared.params.Params.{Params}
 use Rattle.alleles.specs.declared.pair.Pair.{Pair}
 use Rattle.sites.specs.declared.priors.Density.{Density}

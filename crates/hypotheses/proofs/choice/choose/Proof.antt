@@ -28,7 +28,7 @@ site-of-requires : tie.Need-site-of-requires
 site-of-requires c κs = search needs
 
 choose-at-requires : tie.Need-choose-at-requires
-choose-at-requires c κs = let w = c .before .before in counted (w .before .before .args .counts .now) (λ e. c .before .if1 .left (w .total .ensures ∙ e)) .few
+choose-at-requires c κs = search needs
 
 returns-2 : tie.Need-returns-2
 unfolding choiceOf
