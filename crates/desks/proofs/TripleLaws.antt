@@ -7,6 +7,7 @@ use native.Mathlib.Omega.{arith}
 use lib.Arith.{digits-div, digits-mod, mod-mul}
 use lib.ListN.{length, getD, length-append, length-map, List·getD-append}
 use lib.Seq.{getD-append-add}
+use Rattle.lists.proofs.PlaceLaws.{map-at}
 use Rattle.family.specs.declared.pair.Pair.{Pair}
 use Rattle.family.specs.declared.pair.Triple.{Triple}
 use Rattle.family.specs.Genotypes.{genotypes, genotypeCount, pair}
@@ -27,10 +28,6 @@ module _ {A B : Type 0} (f : A → List B) (k : ℕ) (same : (x : A) → length 
   each-at (x ∷ l) a d (suc i) j h e =
       let place : suc i * k + j ≡ length (f x) + (i * k + j) = omega (arith, same x, suc-mul i k) in
       rw place (getD-append-add (f x) (each f l) (i * k + j) d ∙ each-at l a d i j (suc-le-suc-iff .0 h) e)
-
-map-at : {A B : Type 0} (h : A → B) (l : List A) (a : A) (d : B) (i : ℕ) → i < length l → getD (map h l) i d ≡ h (getD l i a)
-map-at h (x ∷ l) a d zero e = refl
-map-at h (x ∷ l) a d (suc i) e = map-at h l a d i (suc-le-suc-iff .0 e)
 
 inside : (g m c : ℕ) → m < g → c < g → m * g + c < g * g
 inside g m c hm hc = omega (arith, mul-le-mul hm (le-refl g), suc-mul m g)

@@ -1,4 +1,4 @@
 -- The laws of `lists`.
-pub mod NumbersLaws
+pub mod PlaceLaws
 pub mod PassingLaws
 pub mod PaddedLaws

@@ -8,7 +8,7 @@ use lib.Dec.{lit≤}
 use lib.ListN.{length, getD, take, set}
 use Rattle.alleles.specs.Alleles.{seenIn}
 use Rattle.lists.specs.Lists.{numbers, passing, padded}
-use Rattle.lists.proofs.NumbersLaws.{number-at}
+use Rattle.lists.proofs.PlaceLaws.{number-at}
 use Rattle.lists.proofs.PassingLaws.{front, passing-next, passing-few}
 use Rattle.lists.proofs.PaddedLaws.{longer, padded-next}
 use Rattle.hypotheses.specs.Hypotheses.{seenAlleles}

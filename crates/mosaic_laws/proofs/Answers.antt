@@ -20,7 +20,7 @@ use Rattle.limits.specs.Limits.{countsAllowed}
 use Rattle.probabilities.specs.Quality.{wholeOf, probabilityOf, probabilities}
 use Rattle.probabilities.proofs.InUse.{in-use-all}
 use Rattle.lists.specs.Lists.{numbers, passing}
-use Rattle.lists.proofs.NumbersLaws.{number-at}
+use Rattle.lists.proofs.PlaceLaws.{number-at, map-at}
 use Rattle.hypotheses.specs.Edition.{first}
 use Rattle.mosaic.specs.Allowed.{paramsAllowed}
 use Rattle.alleles.specs.Alleles.{countAt, seenIn, germlineIn, somaticIn, totalOver, totalOf, pair}
@@ -71,14 +71,6 @@ module _ {A : Type 0} (t : A → Bool) (d : A) where
       more : (k : ℕ) → 0 < suc k
       more k = omega arith
   some-pass (x ∷ l) (suc j) m e = some-front (t x) x (passing t l) (some-pass l j (omega arith) e)
-
-map-at : (f : Pair → Float) (l : List Pair) (i : ℕ) → i < length l → getD (map f l) i nan ≡ f (getD l i (pair 0 0))
-map-at f [] i m = absurd (none i m)
-  where
-    none : (i : ℕ) → i < 0 → ⊥
-    none i m = omega arith
-map-at f (g ∷ l) zero m = refl
-map-at f (g ∷ l) (suc i) m = map-at f l i (omega arith)
 
 -- ---- the hypotheses
 
@@ -176,7 +168,7 @@ module _ (p : Params) (counts : List ℕ) (ok : Accepted p counts) where
   posteriors-within i h =
       let m = map posterior (hypotheses counts) in
       subst (Within (2 ^ 47))
-      (sym (List·getD-append m (replicate (36 - length m) (nat 0)) nan i (rw (length-map (hypotheses counts) posterior) h) ∙ map-at posterior (hypotheses counts) i h))
+      (sym (List·getD-append m (replicate (36 - length m) (nat 0)) nan i (rw (length-map (hypotheses counts) posterior) h) ∙ map-at posterior (hypotheses counts) (pair 0 0) nan i h))
       (each-within i h)
 
   chance-at : (i : ℕ) → i < n → getD (probabilities posts n) i nan ≡ probabilityOf (wholeOf posts n) (getD posts i nan)

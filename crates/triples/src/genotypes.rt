@@ -41,7 +41,7 @@ fn triple_at(n: u64, position: u64) -> Triple
     }
 }
 
-// The triple at a position, for whoever reads an answer: pairs of zeros where n is no number of clusters.
+// The same for every n: pairs of zeros where it is no number of clusters.
 pub fn triple_of(n: u64, position: u64) -> Triple
     ensures { λ r. ⌜ r ≡ tripleOf n position ⌝ }
 {

@@ -1,0 +1,20 @@
+-- What stands at a place: of the numbers from i on, and of a list that is mapped. Assumes nothing.
+use mathlib.Core.Path.{_≡_, refl, _∙_}
+use mathlib.Core.List.{List, _∷_, map}
+use Prim.Native.Nat.{ℕ, zero, suc, _+_, _<_}
+use native.Mathlib.Nat.{suc-le-suc-iff}
+use native.Mathlib.Omega.{arith}
+use lib.ListN.{length, getD}
+use Rattle.lists.specs.Lists.{numbers}
+
+pub number-at : (i n k : ℕ) → k < n → getD (numbers i n) k 0 ≡ i + k
+number-at i zero k h = absurd (none k h)
+  where
+    none : (k : ℕ) → k < 0 → ⊥
+    none k h = omega arith
+number-at i (suc n) zero h = omega arith
+number-at i (suc n) (suc k) h = number-at (suc i) n k (omega arith) ∙ omega arith
+
+pub map-at : {A B : Type 0} (h : A → B) (l : List A) (a : A) (d : B) (i : ℕ) → i < length l → getD (map h l) i d ≡ h (getD l i a)
+map-at h (x ∷ l) a d zero e = refl
+map-at h (x ∷ l) a d (suc i) e = map-at h l a d i (suc-le-suc-iff .0 e)
