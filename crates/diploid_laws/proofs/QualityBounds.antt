@@ -62,7 +62,7 @@ pow10-zero s = ap (λ (t : Float). expOf (zeroOf s ⊗ t)) ln-ten ∙ ap expOf (
 
 -- ---- the sum of the three powers of ten is at least 1: one of them is ten to 0
 
-one-above : Above 0 one
+pub one-above : Above 0 one
 one-above = record { is-positive = tt; large = lit≤ tt }
 
 above-left : {n : ℕ} (x y : Float) → Above 0 x → NotBelow y → Within n x → Within n y → n + n ≤ 2 ^ 53 → Above 0 (x ⊕ y)

@@ -143,7 +143,7 @@ module _ (p : Params) (counts : List ℕ) (few : length counts ≤ 8) (g : Pair)
   offer-follows i l k b h =
       follows-cond (somaticIn counts g i) (alleleSearched counts g site i k) k (searchedAllele first p counts g i b) b (allele-follows i l k b h) h
 
-  start-at : (i : ℕ) → i < length counts → somaticIn counts g i ≡ true → vafAt (startVafs counts g) i ≡ decimal 5 2
+  pub start-at : (i : ℕ) → i < length counts → somaticIn counts g i ≡ true → vafAt (startVafs counts g) i ≡ decimal 5 2
   unfolding startVafs
   start-at i l s =
       placed-at (replicate 8 (nat 0)) (λ i. cond (somaticIn counts g i) (decimal 5 2) (nat 0)) nan (length counts) (rw length-replicate few) i l ∙ rw s

@@ -1,10 +1,12 @@
--- What stands at a place: of the numbers from i on, and of a list that is mapped. Assumes nothing.
+-- What stands at a place: of the numbers from i on, of a list that is mapped, and of a list that is left from there on. Assumes nothing.
 use mathlib.Core.Path.{_≡_, refl, _∙_}
 use mathlib.Core.List.{List, _∷_, map}
 use Prim.Native.Nat.{ℕ, zero, suc, _+_, _<_}
 use native.Mathlib.Nat.{suc-le-suc-iff}
+use native.Mathlib.Numerals.{add-one}
 use native.Mathlib.Omega.{arith}
-use lib.ListN.{length, getD}
+use lib.ListN.{length, getD, drop}
+use lib.Seq.{drop-cons}
 use Rattle.lists.specs.Lists.{numbers}
 
 pub number-at : (i n k : ℕ) → k < n → getD (numbers i n) k 0 ≡ i + k
@@ -18,3 +20,6 @@ number-at i (suc n) (suc k) h = number-at (suc i) n k (omega arith) ∙ omega ar
 pub map-at : {A B : Type 0} (h : A → B) (l : List A) (a : A) (d : B) (i : ℕ) → i < length l → getD (map h l) i d ≡ h (getD l i a)
 map-at h (x ∷ l) a d zero e = refl
 map-at h (x ∷ l) a d (suc i) e = map-at h l a d i (suc-le-suc-iff .0 e)
+
+pub drop-next : {A : Type 0} (l : List A) (i : ℕ) (d : A) → i < length l → drop i l ≡ getD l i d ∷ drop (i + 1) l
+drop-next l i d h = rw (add-one i) (drop-cons l i d h)

@@ -19,7 +19,7 @@ use Rattle.kernels.specs.Ln.{lnOf}
 use Rattle.kernels.specs.Log10.{log10Of, pow10Of}
 use Rattle.bounds.proofs.Log10Bounds.{within-log10}
 use Rattle.diploid_laws.proofs.Signs.{lt-itself, lt-not-back, not-below-trans, difference-not-above, not-below-add}
-use Rattle.diploid_laws.proofs.QualityBounds.{one, pow10-within, pow10-zero, ten-above, smaller-zero}
+use Rattle.diploid_laws.proofs.QualityBounds.{one, one-above, pow10-within, pow10-zero, ten-above, smaller-zero}
 use Rattle.qualities.specs.Order.{larger, smaller}
 use Rattle.probabilities.specs.Quality.{inTens, topOf, sumOf, wholeOf, probabilityOf, wrongOf, qualityBy}
 use Rattle.mosaic_laws.proofs.Terms.{either}
@@ -121,9 +121,6 @@ module _ (l : List Float) (n : ℕ) (some : 0 < n) (few : n ≤ 36) (given : (i 
       let w = within-sub (ten-within i h) top-within (lit≤ tt) in
       let r = pow10-within (ten i ⊖ top) w (difference-not-above (ten i) top (ten-within i h .is-finite) (top-within .is-finite) w (top-is .none-above i h)) (lit≤ tt) in
       record { within = r .0; not-negative = r .1 }
-
-  one-above : Above 0 one
-  one-above = record { is-positive = tt; large = lit≤ tt }
 
   power-at-top : Above 0 (pow10Of (ten (top-is .at) ⊖ top))
   power-at-top =

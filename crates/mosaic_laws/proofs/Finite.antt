@@ -25,6 +25,7 @@ use Rattle.floats.proofs.Fractions.{above-by-test}
 use Rattle.kernels.specs.Ln.{lnOf}
 use Rattle.stirlings.specs.Stirling.{stirlingOf, lnFactorial}
 use Rattle.probabilities.specs.Over.{over}
+use Rattle.hypotheses.proofs.Terms.{start-at}
 use Rattle.hypotheses.specs.Edition.{first}
 use Rattle.alleles.specs.Alleles.{countAt, seenIn, germlineIn, somaticIn, alone, totalOf}
 use Rattle.candidates.specs.Shares.{anyOver, anySomatic, vafAt, massOf, germlineShare, gainOf, startVafs, stepOf, observedShare}
@@ -326,10 +327,6 @@ module _ (p : Params) (counts : List ℕ) (ok : Accepted p counts) (g : Pair) (b
 
   -- ---- the search, and the posterior
 
-  start-at : (i : ℕ) → i < n → somaticIn counts g i ≡ true → vafAt (startVafs counts g) i ≡ decimal 5 2
-  unfolding startVafs
-  start-at i l s = placed-at (replicate 8 (nat 0)) (λ i. cond (somaticIn counts g i) (decimal 5 2) (nat 0)) nan n (ok .few) i l ∙ rw s
-
   start-vaf : Vaf (decimal 5 2)
   start-vaf = record {
     above-zero = above-fraction 5 100 1 5 (lit< tt) (lit≤ tt) (lit≤ tt) (lit≤ tt) (lit≤ tt) .is-positive;
@@ -338,10 +335,10 @@ module _ (p : Params) (counts : List ℕ) (ok : Accepted p counts) (g : Pair) (b
   }
 
   start-tryable : Tryable (startVafs counts g)
-  start-tryable i l s = subst Vaf (sym (start-at i l s)) start-vaf
+  start-tryable i l s = subst Vaf (sym (start-at p counts (ok .few) g i l s)) start-vaf
 
   start-low : Low1 (startVafs counts g)
-  start-low i l s = subst (λ (v : Float). lt v (nat 1) ≡ true) (sym (start-at i l s)) (unfold round lt ofInt in refl)
+  start-low i l s = subst (λ (v : Float). lt v (nat 1) ≡ true) (sym (start-at p counts (ok .few) g i l s)) (unfold round lt ofInt in refl)
 
   start-kept : Kept (record { vafs = startVafs counts g; value = inf true })
   start-kept = record {

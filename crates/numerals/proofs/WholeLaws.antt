@@ -4,13 +4,12 @@ use mathlib.Core.Bool.{Bool, true, false, cond, _&&_}
 use mathlib.Core.List.{List, [], _∷_, _++_}
 use Prim.Native.Nat.{ℕ, suc, _+_, _-_, _*_, _^_, _≤_, _<_}
 use native.Mathlib.Nat.{le-trans, lt-of-lt-of-le, zero-lt-suc, zero-add, add-mul, mul-assoc, mul-le-mul-right, pow-succ', pow-le-pow-right}
-use native.Mathlib.Numerals.{add-one}
 use native.Mathlib.Omega.{arith}
 use borrow.Author.Tests.{ltb-true, ltb-false, leb-true, leb-false, lt-ltb, le-ltb}
 use lib.Dec.{T, leb, ltb, leb→le, lit≤}
 use lib.Ieee.Fits.{and-l, and-r}
 use lib.ListN.{length, getD, drop, drop-of-length-le}
-use lib.Seq.{drop-cons}
+use Rattle.lists.proofs.PlaceLaws.{drop-next}
 use Rattle.limits.specs.Every.{every}
 use Rattle.numerals.specs.declared.wholes.Whole.the-variants.{Is, Unread}
 use Rattle.numerals.specs.Wholes.{isDigit, digits, numberFrom, number, wholeOf, digitOf, grownBy}
@@ -74,16 +73,13 @@ pub record Read (l : List ℕ) (n i : ℕ) : Type 0 where
   pub fits : n < 2 ^ 64
 
 module _ (l : List ℕ) (n i : ℕ) (r : Read l n i) where
-  at : i < length l → drop i l ≡ getD l i 0 ∷ drop (i + 1) l
-  at h = rw (add-one i) (drop-cons l i 0 h)
-
   pub read-on : (m : ℕ) → i < length l → grownBy n (digitOf (getD l i 0)) ≡ Is m → Read l m (i + 1)
   read-on m h e =
       let s = step-yes n (getD l i 0) m e in
       record {
         within = omega arith;
-        all = ap (λ (t : Bool). t && every isDigit (drop (i + 1) l)) (sym (s .digit)) ∙ sym (ap (every isDigit) (at h)) ∙ r .all;
-        same = ap (λ (k : ℕ). numberFrom k (drop (i + 1) l)) (s .grown) ∙ sym (ap (numberFrom n) (at h)) ∙ r .same;
+        all = ap (λ (t : Bool). t && every isDigit (drop (i + 1) l)) (sym (s .digit)) ∙ sym (ap (every isDigit) (drop-next l i 0 h)) ∙ r .all;
+        same = ap (λ (k : ℕ). numberFrom k (drop (i + 1) l)) (s .grown) ∙ sym (ap (numberFrom n) (drop-next l i 0 h)) ∙ r .same;
         fits = s .fits;
       }
 
@@ -91,7 +87,7 @@ module _ (l : List ℕ) (n i : ℕ) (r : Read l n i) where
   unfolding wholeOf
   read-no h e =
       let none : (every isDigit l && ltb (number l) (2 ^ 64)) ≡ false =
-      rw (← r .all, ← r .same, at h) (step-no n (getD l i 0) (drop (i + 1) l) e) in
+      rw (← r .all, ← r .same, drop-next l i 0 h) (step-no n (getD l i 0) (drop (i + 1) l) e) in
       refused (ltb 0 (length l)) (every isDigit l) (ltb (number l) (2 ^ 64)) none
     where
       refused : (p q t : Bool) → (q && t) ≡ false → Unread ≡ cond ((p && q) && t) (Is (number l)) Unread

@@ -9,7 +9,7 @@ use native.Mathlib.Omega.{arith}
 use borrow.Author.Tests.{eq-eqb, ne-eqb, le-leb, lt-leb}
 use lib.Dec.{lit≤}
 use lib.ListN.{length, getD, drop, drop-of-length-le}
-use lib.Seq.{drop-cons}
+use Rattle.lists.proofs.PlaceLaws.{drop-next}
 use Rattle.limits.specs.Every.{every}
 use Rattle.limits.proofs.EveryLaws.{every-more, every-bad, every-end}
 use Rattle.reading.specs.Names.{notZero, packedFrom, packedOf}
@@ -26,9 +26,6 @@ pub record Packing (l : List ℕ) (n i : ℕ) : Type 0 where
   pub fits : n < 256 ^ i
 
 module _ (l : List ℕ) (n i : ℕ) (short : length l ≤ 8) (p : Packing l n i) where
-  at : i < length l → drop i l ≡ getD l i 0 ∷ drop (i + 1) l
-  at h = rw (add-one i) (drop-cons l i 0 h)
-
   -- one byte more
   next : getD l i 0 < 256 → n * 256 + getD l i 0 < 256 ^ suc i
   next b = let most : suc n * 256 ≤ 256 ^ i * 256 = mul-le-mul-right 256 (p .fits) in rw (pow-suc 256 i) (omega arith)
@@ -40,7 +37,7 @@ module _ (l : List ℕ) (n i : ℕ) (short : length l ≤ 8) (p : Packing l n i)
   packed-on h b z = record {
     within = omega arith;
     none = every-more notZero 0 l i h (ap not (ne-eqb (getD l i 0) 0 z)) ∙ p .none;
-    same = sym (ap (packedFrom n) (at h)) ∙ p .same;
+    same = sym (ap (packedFrom n) (drop-next l i 0 h)) ∙ p .same;
     fits = rw (add-one i) (next b);
   }
 
