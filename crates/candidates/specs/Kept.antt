@@ -63,7 +63,7 @@ module _ (counts : List ℕ) (g : Pair) (site : Site) where
   }
 
   -- M5: what is kept with the candidate x of allele i in it, and whether it stays
-  unfoldable pub changed : Kept → ℕ → Float → Kept
+  abbrev pub changed : Kept → ℕ → Float → Kept
   changed kept i x =
       let vafs = set (kept .vafs) i x in
       let terms = set (kept .terms) i (nat (countAt counts i) ⊗ lnOf x) in

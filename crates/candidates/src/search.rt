@@ -4,7 +4,7 @@ ghost use mathlib.Core.Path.{_≡_};
 ghost use Prim.Native.Nat.{_≤_, _<_};
 ghost use lib.ListN.{length};
 ghost use Rattle.candidates.specs.Shares.{anySomatic, startVafs};
-ghost use Rattle.candidates.specs.Kept.{ofGermline, likelihoodHere, priorHere, startValue, started, changed, attempted, stepTried, alleleSearched, offered, searched, foundBy, foundAt};
+ghost use Rattle.candidates.specs.Kept.{ofGermline, likelihoodHere, priorHere, startValue, started, attempted, stepTried, alleleSearched, offered, searched, foundBy, foundAt};
 use crate::likelihood::germline_share;
 use crate::likelihood::likelihood;
 use crate::likelihood::mass;
@@ -112,10 +112,10 @@ fn start(counts: &[u32], g: Pair, site: Site) -> Kept
     }
 }
 
-// What has been kept so far with the candidate x of allele i in it.
-fn change(counts: &[u32], g: Pair, site: Site, kept: Kept, i: usize, x: f64) -> Kept
+// The candidate x of allele i, in what has been kept so far: it replaces that only where its value is strictly larger.
+fn attempt(counts: &[u32], g: Pair, site: Site, kept: Kept, i: usize, x: f64) -> Kept
     requires { ⌜ (length (now counts) ≤ 8) × (i < length (now counts)) ⌝ }
-    ensures { λ r. ⌜ r ≡ changed (now (counts .entry)) g site kept i x ⌝ }
+    ensures { λ r. ⌜ r ≡ attempted (now (counts .entry)) g site kept i x ⌝ }
 {
     let density = site.density;
     let mut vafs = kept.vafs;
@@ -124,22 +124,14 @@ fn change(counts: &[u32], g: Pair, site: Site, kept: Kept, i: usize, x: f64) -> 
     vafs[i] = x;
     terms[i] = counts[i] as f64 * ln(x);
     gains[i] = gain(density, x);
-    Kept {
-        vafs,
-        terms,
-        gains,
-        value: likelihood_here(counts, g, site, vafs, terms) + prior_here(counts, g, site, gains),
-    }
-}
-
-// A candidate replaces what has been kept only where its value is strictly larger.
-fn attempt(counts: &[u32], g: Pair, site: Site, kept: Kept, i: usize, x: f64) -> Kept
-    requires { ⌜ (length (now counts) ≤ 8) × (i < length (now counts)) ⌝ }
-    ensures { λ r. ⌜ r ≡ attempted (now (counts .entry)) g site kept i x ⌝ }
-{
-    let new = change(counts, g, site, kept, i, x);
-    if less(kept.value, new.value) {
-        return new;
+    let value = likelihood_here(counts, g, site, vafs, terms) + prior_here(counts, g, site, gains);
+    if less(kept.value, value) {
+        return Kept {
+            vafs,
+            terms,
+            gains,
+            value,
+        };
     }
     kept
 }

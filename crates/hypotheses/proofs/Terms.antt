@@ -101,7 +101,7 @@ module _ (p : Params) (counts : List ℕ) (few : length counts ≤ 8) (g : Pair)
   in-eight i h l e = omega arith
 
   changed-caches : (k : Kept) (i : ℕ) (x : Float) → i < length counts → Caches k → Caches (changed counts g site k i x)
-  unfolding siteOf changed
+  unfolding siteOf
   changed-caches k i x l h = record {
     eight-vafs = length-set (k .vafs) i x ∙ h .eight-vafs;
     eight-terms = length-set (k .terms) i (nat (countAt counts i) ⊗ lnOf x) ∙ h .eight-terms;
@@ -115,7 +115,7 @@ module _ (p : Params) (counts : List ℕ) (few : length counts ≤ 8) (g : Pair)
   follows-cond false k m b c h q = q
 
   attempt-follows : (i : ℕ) → i < length counts → (x : Float) (k : Kept) (b : Best) → Follows k b → Follows (attempted counts g site k i x) (tried first p counts g i x b)
-  unfolding attempted tried changed
+  unfolding attempted tried
   attempt-follows i l x k b h =
       let d = changed counts g site k i x in
       let cs = changed-caches k i x l (h .caches) in
