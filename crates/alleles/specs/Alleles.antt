@@ -5,7 +5,7 @@ use mathlib.Core.List.{List}
 use lib.Dec.{leb, ltb, eqb}
 use lib.ListN.{length, getD}
 use Rattle.limits.specs.Limits.{countsAllowed}
-use Rattle.probabilities.specs.Over.{over}
+use Rattle.lists.specs.Over.{over}
 use Rattle.alleles.specs.declared.pair.Pair.{Pair}
 
 -- the count of an allele; an allele beyond the counts has none

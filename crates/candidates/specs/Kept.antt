@@ -10,7 +10,7 @@ use lib.Ieee.{Float, nan, inf, lt}
 use Rattle.floats.specs.F64.{_⊕_, _⊖_, _⊗_, nat, decimal}
 use Rattle.floats.specs.Key.{keyOf}
 use Rattle.kernels.specs.Ln.{lnOf}
-use Rattle.probabilities.specs.Over.{over}
+use Rattle.lists.specs.Over.{over}
 use Rattle.alleles.specs.Alleles.{countAt, seenIn, somaticIn, alone}
 use Rattle.alleles.specs.declared.pair.Pair.{Pair}
 use Rattle.sites.specs.declared.site.Site.{Site}

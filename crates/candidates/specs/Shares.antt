@@ -8,7 +8,7 @@ use lib.Ieee.{Float, nan, inf, lt, le}
 use Rattle.floats.specs.F64.{_⊕_, _⊖_, _⊗_, _⊘_, nat, decimal}
 use Rattle.kernels.specs.Ln.{lnOf}
 use Rattle.qualities.specs.Order.{larger}
-use Rattle.probabilities.specs.Over.{over, placed}
+use Rattle.lists.specs.Over.{over, placed}
 use Rattle.alleles.specs.Alleles.{somaticIn, alone}
 use Rattle.alleles.specs.declared.pair.Pair.{Pair}
 use Rattle.sites.specs.declared.priors.Density.{Density}

@@ -26,8 +26,8 @@ use Rattle.alleles.specs.declared.pair.Pair.{Pair}
 use Rattle.sites.specs.declared.site.Site.{Site}
 use Rattle.candidates.specs.declared.search.Kept.{Kept}
 use Rattle.candidates.specs.declared.search.Found.{Found}
-use Rattle.probabilities.specs.Over.{over}
-use Rattle.probabilities.proofs.OverLaws.{over-related, over-same, length-placed, at-set, placed-at}
+use Rattle.lists.specs.Over.{over}
+use Rattle.lists.proofs.OverLaws.{over-related, over-same, length-placed, at-set, placed-at}
 
 -- one step of the likelihood: for a somatic allele the term that was kept is the definition's
 likelihood-step : (seen germ : Bool) (s f c g t v : Float) → ((seen && not germ) ≡ true → t ≡ c ⊗ lnOf v)

@@ -6,7 +6,7 @@ use mathlib.Core.List.{List}
 use lib.ListN.{getD, replicate, set}
 use lib.Ieee.{Float}
 use Rattle.floats.specs.F64.{nat}
-use Rattle.probabilities.specs.Over.{over}
+use Rattle.lists.specs.Over.{over}
 use Rattle.probabilities.specs.Quality.{inUse}
 use Rattle.probabilities.specs.Winner.{winner}
 use Rattle.alleles.specs.Alleles.{pair}

@@ -7,7 +7,7 @@ use lib.Ieee.{Float}
 use Rattle.floats.specs.F64.{_⊕_, _⊖_, _⊗_, nat}
 use Rattle.kernels.specs.Ln.{lnOf}
 use Rattle.stirlings.specs.Stirling.{lnFactorial}
-use Rattle.probabilities.specs.Over.{over}
+use Rattle.lists.specs.Over.{over}
 use Rattle.candidates.specs.Shares.{vafAt, massOf, germlineShare}
 use Rattle.hypotheses.specs.Edition.{Edition}
 use Rattle.alleles.specs.Alleles.{countAt, seenIn, germlineIn, totalOf}

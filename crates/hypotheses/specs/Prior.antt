@@ -5,7 +5,7 @@ use mathlib.Core.List.{List}
 use lib.ListN.{length}
 use lib.Ieee.{Float}
 use Rattle.floats.specs.F64.{_⊕_, nat}
-use Rattle.probabilities.specs.Over.{over}
+use Rattle.lists.specs.Over.{over}
 use Rattle.models.specs.declared.params.Params.{Params}
 use Rattle.alleles.specs.Alleles.{somaticIn, alone}
 use Rattle.alleles.specs.declared.pair.Pair.{Pair}

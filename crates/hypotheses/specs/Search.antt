@@ -7,7 +7,7 @@ use lib.Signed.{ltZ}
 use lib.Ieee.{Float, inf, lt}
 use Rattle.floats.specs.F64.{_⊕_, nat, decimal}
 use Rattle.floats.specs.Key.{keyOf}
-use Rattle.probabilities.specs.Over.{over}
+use Rattle.lists.specs.Over.{over}
 use Rattle.candidates.specs.Shares.{anySomatic, startVafs, observedShare, stepOf}
 use Rattle.hypotheses.specs.Edition.{Edition}
 use Rattle.alleles.specs.Alleles.{countAt, somaticIn, totalOf}

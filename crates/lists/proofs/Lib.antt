@@ -2,3 +2,4 @@
 pub mod PlaceLaws
 pub mod PassingLaws
 pub mod PaddedLaws
+pub mod OverLaws

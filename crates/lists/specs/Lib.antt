@@ -1,2 +1,3 @@
 -- The definitions of `lists`.
 pub mod Lists
+pub mod Over

@@ -9,7 +9,7 @@ use Rattle.refusals.specs.declared.Refusal.{Refusal}
 use Rattle.refusals.specs.declared.Refusal.the-variants.{Done, TooMany, Count, Model, NoCall}
 use Rattle.limits.specs.Limits.{countsAllowed}
 use Rattle.models.specs.declared.params.Params.{Params}
-use Rattle.probabilities.specs.Over.{placed}
+use Rattle.lists.specs.Over.{placed}
 use Rattle.probabilities.specs.Quality.{probabilities, qualityOf}
 use Rattle.alleles.specs.Alleles.{totalOf, alone, somaticIn}
 use Rattle.alleles.specs.declared.pair.Pair.{Pair}

@@ -3,7 +3,7 @@ use Prim.Native.Nat.{ℕ, _+_}
 use mathlib.Core.Bool.{cond}
 use mathlib.Core.List.{List}
 use lib.ListN.{replicate, set}
-use Rattle.probabilities.specs.Over.{over}
+use Rattle.lists.specs.Over.{over}
 use Rattle.alleles.specs.Alleles.{seenIn}
 use Rattle.mosaic.specs.declared.genotype.Alleles.{Alleles}
 

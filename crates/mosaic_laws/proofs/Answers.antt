@@ -33,7 +33,7 @@ use Rattle.mosaic.specs.Genotype.{blank, flagsOf, calledOf, genotypeBy, genotyp
 use Rattle.models.specs.declared.params.Params.{Params}
 use Rattle.alleles.specs.declared.pair.Pair.{Pair}
 use Rattle.mosaic.specs.declared.genotype.MosaicResult.{MosaicResult}
-use Rattle.probabilities.proofs.OverLaws.{placed-at, placed-beyond}
+use Rattle.lists.proofs.OverLaws.{placed-at, placed-beyond}
 use Rattle.probabilities.proofs.WinnerLaws.{winner-low}
 use Rattle.hypotheses.proofs.Scanned.{all-seen, at-most-36}
 use Rattle.mosaic_laws.specs.Accepted.{Accepted}

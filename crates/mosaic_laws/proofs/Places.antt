@@ -19,7 +19,7 @@ use Rattle.hypotheses.specs.Search.{Best, valueOf, tried, triedStep, searchedAl
 use Rattle.mosaic.specs.Genotype.{flagsOf}
 use Rattle.models.specs.declared.params.Params.{Params}
 use Rattle.alleles.specs.declared.pair.Pair.{Pair}
-use Rattle.probabilities.proofs.OverLaws.{placed-at, placed-beyond}
+use Rattle.lists.proofs.OverLaws.{placed-at, placed-beyond}
 use Rattle.mosaic_laws.proofs.Terms.{either}
 use Rattle.mosaic_laws.proofs.Sums.{over-keeps}
 use Rattle.mosaic_laws.proofs.Seen.{unseen}

@@ -3,7 +3,7 @@ use Prim.Native.Nat.{ℕ, zero, suc, _+_, _*_, _<_}
 use native.Mathlib.Nat.{suc-mul, zero-mul, add-assoc, add-zero}
 use native.Mathlib.Omega.{arith}
 use lib.Ieee.{Float}
-use Rattle.probabilities.specs.Over.{over}
+use Rattle.lists.specs.Over.{over}
 
 last : (n : ℕ) → n < suc n
 last n = omega arith

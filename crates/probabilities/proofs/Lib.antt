@@ -1,4 +1,3 @@
 -- What belongs to no one function of `probabilities`: what the proofs share.
 pub mod InUse
-pub mod OverLaws
 pub mod WinnerLaws

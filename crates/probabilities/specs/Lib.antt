@@ -1,4 +1,3 @@
 -- The definitions that the contracts of `probabilities` cite.
-pub mod Over
 pub mod Quality
 pub mod Winner

@@ -10,7 +10,7 @@ use Rattle.floats.specs.F64.{_⊕_, _⊖_, _⊗_, _⊘_, nat, whole}
 use Rattle.kernels.specs.Ln.{lnOf}
 use Rattle.kernels.specs.Log10.{log10Of, pow10Of}
 use Rattle.qualities.specs.Order.{larger, smaller}
-use Rattle.probabilities.specs.Over.{over, placed}
+use Rattle.lists.specs.Over.{over, placed}
 
 -- how many places are in use: n, or all 36 where n is more
 unfoldable pub inUse : ℕ → ℕ

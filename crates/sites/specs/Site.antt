@@ -6,7 +6,7 @@ use lib.Ieee.{Float, neg}
 use Rattle.floats.specs.F64.{_⊕_, _⊖_, _⊗_, nat, decimal}
 use Rattle.kernels.specs.Ln.{lnOf}
 use Rattle.stirlings.specs.Stirling.{stirlingOf, lnFactorial}
-use Rattle.probabilities.specs.Over.{placed}
+use Rattle.lists.specs.Over.{placed}
 use Rattle.models.specs.declared.params.Params.{Params}
 use Rattle.alleles.specs.Alleles.{countAt}
 use Rattle.sites.specs.declared.priors.Density.{Density}

@@ -1,7 +1,7 @@
 -- `candidates::search::search_allele` meets its contract. The loop's invariant: the steps below `step` have been tried. Assumes nothing.
 use mathlib.Core.Path.{_≡_, refl}
 use Prim.Native.Nat.{_≤_, _-_}
-use Rattle.probabilities.specs.Over.{over}
+use Rattle.lists.specs.Over.{over}
 use Rattle.candidates.specs.Kept.{stepTried, alleleSearched}
 use borrow.Author.Needs.{needs}
 use native.Mathlib.Omega.{arith}

@@ -8,7 +8,7 @@ use borrow.Author.Tests.{eqb-true, eqb-false}
 use lib.Dec.{eqb}
 use lib.ListN.{length, getD, set, length-set}
 use lib.Seq.{getD-set-same, getD-set-other}
-use Rattle.probabilities.specs.Over.{over, placed}
+use Rattle.lists.specs.Over.{over, placed}
 
 -- two walks keep a relation that each step keeps
 pub over-related : {A B : Type 0} (R : A → B → Type 0) (f : ℕ → A → A) (g : ℕ → B → B) (a : A) (b : B) (n : ℕ)

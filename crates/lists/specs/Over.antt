@@ -1,4 +1,4 @@
--- Walking alleles, or hypotheses, in rising order, as M1 to M8 ask it (RULES.md). Definitions only.
+-- Steps in rising order, as mosaic asks them of alleles, hypotheses and candidates (RULES.md, M1 to M8). Definitions only.
 use Prim.Native.Nat.{ℕ, zero, suc}
 use mathlib.Core.List.{List}
 use lib.ListN.{set}
