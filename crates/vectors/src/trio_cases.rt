@@ -1,4 +1,6 @@
 // The cases of a trio that ask no register: the Mendelian term, an animal's score, the whole call.
+ghost use Prim.Native.Nat.{_≤_};
+ghost use lib.ListN.{length};
 use crate::lists;
 use crate::lists::Counts;
 use crate::lists::Floats;
@@ -24,6 +26,14 @@ struct ReadPair {
 
 struct ReadSample {
     sample: Sample,
+    after: usize,
+}
+
+// A cluster number, how many counts and weights came, and where the next word starts.
+struct Input {
+    clusters: u64,
+    counts: usize,
+    weights: usize,
     after: usize,
 }
 
@@ -71,16 +81,32 @@ fn read_sample(line: &[u8], at: usize) -> ReadSample {
     }
 }
 
+fn read_input(line: &[u8], at: usize, counts: &mut [u32], weights: &mut [f64]) -> Input
+    ensures { λ r. ⌜ (r .counts ≤ length (now (counts .entry))) × (r .weights ≤ length (now (weights .entry))) ⌝ }
+{
+    let n = words::read_u32(line, at);
+    let i = lists::read_count_list(line, n.after, counts);
+    let j = lists::read_float_list(line, i.after, weights);
+    Input {
+        clusters: n.is as u64,
+        counts: i.count,
+        weights: j.count,
+        after: j.after,
+    }
+}
+
 // Opens the cluster number, counts and weights from a place on.
 pub fn open_input(line: &[u8], at: usize) -> Opening {
     let mut counts: Counts = [0; 2048];
     let mut weights: Floats = [0.0; 1024];
-    let n = words::read_u32(line, at);
-    let i = lists::read_count_list(line, n.after, &mut counts);
-    let j = lists::read_float_list(line, i.after, &mut weights);
+    let input = read_input(line, at, &mut counts, &mut weights);
     Opening {
-        stepped: open_part(n.is as u64, &counts[..i.count], &weights[..j.count]),
-        after: j.after,
+        stepped: open_part(
+            input.clusters,
+            &counts[..input.counts],
+            &weights[..input.weights],
+        ),
+        after: input.after,
     }
 }
 
@@ -151,12 +177,14 @@ pub fn closed(text: &mut Text, out: Out, closed: Closed) -> Out {
 pub fn call(line: &[u8], at: usize, text: &mut Text, out: Out) -> Out {
     let mut counts: Counts = [0; 2048];
     let mut weights: Floats = [0.0; 1024];
-    let n = words::read_u32(line, at);
-    let i = lists::read_count_list(line, n.after, &mut counts);
-    let j = lists::read_float_list(line, i.after, &mut weights);
-    if !words::done(line, j.after) {
+    let input = read_input(line, at, &mut counts, &mut weights);
+    if !words::done(line, input.after) {
         return write::unread(text, out);
     }
-    let answer = desks::call::call(n.is as u64, &counts[..i.count], &weights[..j.count]);
+    let answer = desks::call::call(
+        input.clusters,
+        &counts[..input.counts],
+        &weights[..input.weights],
+    );
     closed(text, out, answer)
 }

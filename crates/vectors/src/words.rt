@@ -15,7 +15,8 @@ const NAN: u64 = 0x6e616e;
 // either: a kind reads all its words and asks once.
 pub const NOWHERE: usize = usize::MAX;
 
-// What a word was read as, zero if it could not be, and where the next word starts; behind the last one that is past the line's end.
+// What a word was read as, which means nothing where it could not be read, and where the next word starts; behind the last one that is past the
+// line's end.
 pub struct U64 {
     pub is: u64,
     pub after: usize,

@@ -56,6 +56,10 @@ pub fn end_line(text: &mut Text, out: Out) -> Out {
     ended
 }
 
+fn space(text: &mut Text, out: Out) -> Out {
+    bytes(text, out, b" ")
+}
+
 // The answer to a line that cannot be read.
 pub fn unread(text: &mut Text, out: Out) -> Out {
     bytes(text, out, b"?")
@@ -73,11 +77,7 @@ pub fn number(text: &mut Text, out: Out, n: u32) -> Out {
     whole(text, out, n as u64)
 }
 
-fn space(text: &mut Text, out: Out) -> Out {
-    bytes(text, out, b" ")
-}
-
-// The same behind a space.
+// The next word of an answer: a space, and the number.
 pub fn then_whole(text: &mut Text, out: Out, n: u64) -> Out {
     let spaced = space(text, out);
     whole(text, spaced, n)

@@ -2,9 +2,6 @@
 use mathlib.Core.Path.{sym}
 use lib.Seq.{length-take-le}
 use borrow.Author.Needs.{needs}
-use mathlib.Core.Path.{sym}
-use lib.Seq.{length-take-le}
-use borrow.Author.Needs.{needs}
 use Rattle.calls.proofs.mosaic_site.mosaic.Statement.{statement}
 use Rattle.calls.proofs.mosaic_site.mosaic.Tie as tie
 

@@ -2,9 +2,6 @@
 use mathlib.Core.Path.{sym}
 use lib.Seq.{length-take-le}
 use borrow.Author.Needs.{needs}
-use mathlib.Core.Path.{sym}
-use lib.Seq.{length-take-le}
-use borrow.Author.Needs.{needs}
 use Rattle.calls.proofs.trio_site.counted.Statement.{statement}
 use Rattle.calls.proofs.trio_site.counted.Tie as tie
 

@@ -2,9 +2,6 @@
 use mathlib.Core.Path.{sym}
 use lib.Seq.{length-take-le}
 use borrow.Author.Needs.{needs}
-use mathlib.Core.Path.{sym}
-use lib.Seq.{length-take-le}
-use borrow.Author.Needs.{needs}
 use Rattle.vectors.proofs.diploid_cases.diploid.Statement.{statement}
 use Rattle.vectors.proofs.diploid_cases.diploid.Tie as tie
 

@@ -2,26 +2,17 @@
 use mathlib.Core.Path.{sym}
 use lib.Seq.{length-take-le}
 use borrow.Author.Needs.{needs}
-use mathlib.Core.Path.{sym}
-use lib.Seq.{length-take-le}
-use borrow.Author.Needs.{needs}
 use Rattle.vectors.proofs.trio_cases.call.Statement.{statement}
 use Rattle.vectors.proofs.trio_cases.call.Tie as tie
 
-read-u32-requires : tie.Need-read-u32-requires
-read-u32-requires c κs = search needs
+slice-aggregate-read-input : tie.Need-slice-aggregate-read-input
+slice-aggregate-read-input c = search needs
 
-slice-aggregate-read-count-list : tie.Need-slice-aggregate-read-count-list
-slice-aggregate-read-count-list c = search needs
+slice-aggregate-read-input-2 : tie.Need-slice-aggregate-read-input-2
+slice-aggregate-read-input-2 c = search needs
 
-read-count-list-requires : tie.Need-read-count-list-requires
-read-count-list-requires c κs = search needs
-
-slice-aggregate-read-float-list : tie.Need-slice-aggregate-read-float-list
-slice-aggregate-read-float-list c = search needs
-
-read-float-list-requires : tie.Need-read-float-list-requires
-read-float-list-requires c κs = search needs
+read-input-requires : tie.Need-read-input-requires
+read-input-requires c κs = search needs
 
 done-requires : tie.Need-done-requires
 done-requires c κs = search needs
@@ -31,9 +22,6 @@ unread-requires c κs = search needs
 
 returns : tie.Need-returns
 returns c = search needs
-
-cast-call : tie.Need-cast-call
-cast-call c = search needs
 
 array-share-prefix-counts : tie.Need-array-share-prefix-counts
 array-share-prefix-counts c = search needs
@@ -60,15 +48,12 @@ pub call-spec : {M : Type 1} → statement M
 call-spec =
     tie.close
     (tie.spec
-    read-u32-requires
-    slice-aggregate-read-count-list
-    read-count-list-requires
-    slice-aggregate-read-float-list
-    read-float-list-requires
+    slice-aggregate-read-input
+    slice-aggregate-read-input-2
+    read-input-requires
     done-requires
     unread-requires
     returns
-    cast-call
     array-share-prefix-counts
     slice-aggregate-call
     array-share-prefix-weights
