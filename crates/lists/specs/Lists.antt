@@ -14,6 +14,6 @@ abbrev pub passing : {A : Type 0} → (A → Bool) → List A → List A
 passing t [] = []
 passing t (x ∷ l) = cond (t x) (x ∷ passing t l) (passing t l)
 
--- a list in n places, what is left of them filled with d
+-- a list in n places, what is left of them filled with d; one that is longer stays as it is
 abbrev pub padded : {A : Type 0} → ℕ → A → List A → List A
 padded n d l = l ++ replicate (n - length l) d

@@ -45,10 +45,6 @@ betaScore m alt total i =
 unfoldable pub binoScore : Model → ℕ → ℕ → ℕ → Float
 binoScore m alt total i = lnOf (fraction m i) ⊕ lnPmf alt total (mean m i)
 
--- the log factorial of a count by the full log gamma; for the steps of the code
-abbrev pub fullLnFactorial : ℕ → Float
-fullLnFactorial c = lnGammaOf (nat c ⊕ nat 1)
-
 -- one way round of a phased Het: the other alternative is error, and this one shares the remaining reads with the reference; no remaining reads, no factor
 unfoldable pub oneWay : Model → ℕ → ℕ → ℕ → ℕ → Float
 oneWay m ref this other total =
@@ -89,6 +85,12 @@ scoredBy max m ref alt1 alt2 =
     cond (countAllowed ref && (countAllowed alt1 && countAllowed alt2))
     (cond (eqb (ref + alt1 + alt2) 0) Unread (Are (scoresOf max m ref alt1 alt2)))
     Beyond
+
+-- ---- for the code
+
+-- the log factorial of a count by the full log gamma
+abbrev pub fullLnFactorial : ℕ → Float
+fullLnFactorial c = lnGammaOf (nat c ⊕ nat 1)
 
 -- ---- for the laws on scores
 

@@ -1,1 +1,2 @@
+// Marks and entries together: whether they have the right shape.
 pub mod shape;
