@@ -8,12 +8,12 @@ ghost use Rattle.candidates.specs.Kept.{ofGermline, likelihoodHere, prio
 use crate::likelihood::germline_share;
 use crate::likelihood::likelihood;
 use crate::likelihood::mass;
-use crate::order::less;
 use crate::order::pick;
 use crate::prior::gain;
 use crate::prior::log_prior;
 use alleles::counts::somatic;
 use alleles::pair::Pair;
+use floats::key::below;
 use kernels::ln::ln;
 use sites::site::Site;
 
@@ -125,7 +125,7 @@ fn attempt(counts: &[u32], g: Pair, site: Site, kept: Kept, i: usize, x: f64) ->
     terms[i] = counts[i] as f64 * ln(x);
     gains[i] = gain(density, x);
     let value = likelihood_here(counts, g, site, vafs, terms) + prior_here(counts, g, site, gains);
-    if less(kept.value, value) {
+    if below(kept.value, value) {
         return Kept {
             vafs,
             terms,

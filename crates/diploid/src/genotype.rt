@@ -1,11 +1,9 @@
 // The diploid genotype at every input.
 ghost use mathlib.Core.Path.{_≡_};
-ghost use lib.Signed.{leZ};
-ghost use Rattle.floats.specs.Key.{keyOf};
 ghost use Rattle.qualities.specs.Order.{larger, smaller};
 ghost use Rattle.diploid.specs.Genotype.{winner, blank, called, answered, genotypeOf};
 use crate::allowed::model_allowed;
-use floats::key::key;
+use floats::key::at_most;
 use models::model::Model;
 use models::state::State;
 use qualities::quality::genotype_quals;
@@ -22,13 +20,6 @@ pub struct GenotypeResult {
     pub state: State,
     pub gq: f64,
     pub sq: f64,
-}
-
-// The order of two scores, by their keys.
-fn at_most(a: f64, b: f64) -> bool
-    ensures { λ r. ⌜ r ≡ leZ (keyOf a) (keyOf b) ⌝ }
-{
-    key(a) <= key(b)
 }
 
 // The state of the largest score, the later on equality.

@@ -4,6 +4,8 @@ use mathlib.Core.Path.{_≡_, sym, _∙_}
 use Rattle.refusals.proofs.number.Reads as number
 use Rattle.refusals.proofs.name.Reads as name
 use Rattle.floats.proofs.key.key.Reads as key
+use Rattle.floats.proofs.key.at_most.Reads as at-most
+use Rattle.floats.proofs.key.below.Reads as below
 use Rattle.floats.proofs.bits.bits.Reads as bits
 use Rattle.kernels.proofs.ln.ln.Reads as ln
 use Rattle.kernels.proofs.exp.exp.Reads as exp
@@ -110,6 +112,12 @@ name-once κ a v w e f = only
 
 pub key-once : OneAnswer key.Post
 key-once κ a v w e f = only
+
+pub at-most-once : OneAnswer at-most.Post
+at-most-once κ a v w e f = only
+
+pub below-once : OneAnswer below.Post
+below-once κ a v w e f = only
 
 pub bits-once : OneAnswer bits.Post
 bits-once κ a v w e f = only

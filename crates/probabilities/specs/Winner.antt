@@ -1,13 +1,17 @@
 -- The hypothesis that wins. Definitions only (RULES.md, M6).
 use Prim.Native.Nat.{ℕ, zero, suc}
-use mathlib.Core.Bool.{cond}
+use mathlib.Core.Bool.{Bool, cond}
 use mathlib.Core.List.{List}
 use lib.ListN.{getD}
 use lib.Signed.{leZ}
 use lib.Ieee.{Float, nan}
 use Rattle.floats.specs.Key.{keyOf}
 
+-- a later place takes over where its key is not below the best one's
+abbrev pub takesOver : List Float → ℕ → ℕ → Bool
+takesOver l best i = leZ (keyOf (getD l best nan)) (keyOf (getD l i nan))
+
 -- the place of the largest of the first k, by key, the later on equality
 unfoldable pub winner : List Float → ℕ → ℕ
 winner l zero = 0
-winner l (suc k) = cond (leZ (keyOf (getD l (winner l k) nan)) (keyOf (getD l k nan))) k (winner l k)
+winner l (suc k) = cond (takesOver l (winner l k) k) k (winner l k)

@@ -1,18 +1,9 @@
 // The hypothesis that wins (docs/RULES.md, M6).
 ghost use mathlib.Core.Path.{_≡_};
-ghost use lib.Signed.{leZ};
-ghost use Rattle.floats.specs.Key.{keyOf};
 ghost use Rattle.probabilities.specs.Quality.{inUse};
 ghost use Rattle.probabilities.specs.Winner.{winner};
 use crate::quality::in_use;
-use floats::key::key;
-
-// Whether the key of a is not above that of b.
-fn at_most(a: f64, b: f64) -> bool
-    ensures { λ r. ⌜ r ≡ leZ (keyOf a) (keyOf b) ⌝ }
-{
-    key(a) <= key(b)
-}
+use floats::key::at_most;
 
 // The place of the largest of the first n, the later on equality.
 pub fn best_place(posteriors: [f64; 36], n: usize) -> usize

@@ -45,8 +45,8 @@ likelihood-here-requires c κs = search needs
 prior-here-requires : tie.Need-prior-here-requires
 prior-here-requires c κs = search needs
 
-less-requires : tie.Need-less-requires
-less-requires c κs = search needs
+below-requires : tie.Need-below-requires
+below-requires c κs = search needs
 
 returns : tie.Need-returns
 unfolding attempted
@@ -55,7 +55,7 @@ returns c =
     let a = w .before .before .before .before .before .before .before .before .before .before .before .args in
     let e : w .before .likelihood-here .result ⊕ w .prior-here .result ≡ changed (a .counts .now) (a .g) (a .site) (a .kept) (a .i) (a .x) .value =
     rw (w .prior-here .ensures, w .before .likelihood-here .ensures, w .before .before .gain .ensures, w .before .before .before .ln .ensures) in
-    rw (← e, ← c .before .less .ensures, c .if1 .taken, w .before .before .gain .ensures, w .before .before .before .ln .ensures)
+    rw (← e, ← c .before .below .ensures, c .if1 .taken, w .before .before .gain .ensures, w .before .before .before .ln .ensures)
 
 returns-2 : tie.Need-returns-2
 unfolding attempted
@@ -64,7 +64,7 @@ returns-2 c =
     let a = w .before .before .before .before .before .before .before .before .before .before .before .args in
     let e : w .before .likelihood-here .result ⊕ w .prior-here .result ≡ changed (a .counts .now) (a .g) (a .site) (a .kept) (a .i) (a .x) .value =
     rw (w .prior-here .ensures, w .before .likelihood-here .ensures, w .before .before .gain .ensures, w .before .before .before .ln .ensures) in
-    rw (← e, ← c .before .less .ensures, c .if1 .left)
+    rw (← e, ← c .before .below .ensures, c .if1 .left)
 
 pub attempt-spec : {M : Type 1} → statement M
 attempt-spec =
@@ -83,6 +83,6 @@ attempt-spec =
     array-write-gains
     likelihood-here-requires
     prior-here-requires
-    less-requires
+    below-requires
     returns
     returns-2)

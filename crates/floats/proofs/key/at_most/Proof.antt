@@ -1,7 +1,7 @@
--- `diploid::genotype::at_most` meets its contract: the test is of the two keys. Assumes nothing.
+-- `floats::key::at_most` meets its contract: the test is of the two keys. Assumes nothing.
 use borrow.Author.Needs.{needs}
-use Rattle.diploid.proofs.genotype.at_most.Statement.{statement}
-use Rattle.diploid.proofs.genotype.at_most.Tie as tie
+use Rattle.floats.proofs.key.at_most.Statement.{statement}
+use Rattle.floats.proofs.key.at_most.Tie as tie
 
 key-requires : tie.Need-key-requires
 key-requires c κs = search needs
