@@ -7,6 +7,7 @@ ghost use Rattle.candidates.specs.Kept.{termAt, likelihoodBy};
 use crate::order::gained;
 use alleles::counts::somatic;
 use alleles::pair::Pair;
+use alleles::pair::alone;
 use qualities::order::max;
 
 // The somatic VAFs, summed.
@@ -28,7 +29,7 @@ pub(crate) fn germline_share(g: Pair, mass: f64) -> f64
     ensures { λ r. ⌜ r ≡ germlineShare g mass ⌝ }
 {
     let rest = max(1.0 - mass, 0.01);
-    if g.first == g.second {
+    if alone(g) {
         return rest;
     }
     rest / 2.0

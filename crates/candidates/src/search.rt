@@ -13,6 +13,7 @@ use crate::prior::gain;
 use crate::prior::log_prior;
 use alleles::counts::somatic;
 use alleles::pair::Pair;
+use alleles::pair::alone;
 use floats::key::below;
 use kernels::ln::ln;
 use sites::site::Site;
@@ -61,7 +62,7 @@ fn start_vafs(counts: &[u32], g: Pair) -> [f64; 8]
 fn of_germline(site: Site, g: Pair) -> f64
     ensures { λ r. ⌜ r ≡ ofGermline site g ⌝ }
 {
-    if g.first == g.second {
+    if alone(g) {
         return site.for_one;
     }
     site.for_two

@@ -62,6 +62,7 @@ use Rattle.probabilities.proofs.winner.best_place.Reads as best-place
 use Rattle.alleles.proofs.counts.count.Reads as allele-count
 use Rattle.alleles.proofs.counts.somatic.Reads as somatic
 use Rattle.alleles.proofs.counts.total.Reads as total
+use Rattle.alleles.proofs.pair.alone.Reads as alone
 use Rattle.sites.proofs.site.site_of.Reads as site-of
 use Rattle.candidates.proofs.search.find.Reads as find
 use Rattle.hypotheses.proofs.choice.choose.Reads as choose
@@ -314,6 +315,9 @@ somatic-once κ a v w e f = only
 
 pub total-once : OneAnswer total.Post
 total-once κ a v w e f = only
+
+pub alone-once : OneAnswer alone.Post
+alone-once κ a v w e f = only
 
 pub site-of-once : OneAnswer site-of.Post
 site-of-once κ a v w e f = only

@@ -12,6 +12,7 @@ use alleles::counts::count;
 use alleles::counts::somatic;
 use alleles::counts::total;
 use alleles::pair::Pair;
+use alleles::pair::alone;
 use hypotheses::choice::Choice;
 use hypotheses::choice::choose;
 use limits::counts::counts_allowed;
@@ -64,7 +65,7 @@ fn blank_answer(refusal: Refusal) -> MosaicResult
 fn ploidy(g: Pair) -> usize
     ensures { λ r. ⌜ r ≡ ploidyOf g ⌝ }
 {
-    if g.first == g.second {
+    if alone(g) {
         return 1;
     }
     2
@@ -73,7 +74,7 @@ fn ploidy(g: Pair) -> usize
 fn germline_alleles(g: Pair) -> [usize; 2]
     ensures { λ r. ⌜ r ≡ germlineOf g ⌝ }
 {
-    if g.first == g.second {
+    if alone(g) {
         return [g.first, 0];
     }
     [g.first, g.second]

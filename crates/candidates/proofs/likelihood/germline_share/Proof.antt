@@ -1,6 +1,5 @@
 -- `candidates::likelihood::germline_share` meets its contract. Assumes nothing.
 use lib.Ieee.{round, ofInt, ofBits}
-use borrow.Author.Tests.{eq-eqb, ne-eqb}
 use Rattle.candidates.specs.Shares.{germlineShare}
 use borrow.Author.Needs.{needs}
 use Rattle.candidates.proofs.likelihood.germline_share.Statement.{statement}
@@ -9,13 +8,16 @@ use Rattle.candidates.proofs.likelihood.germline_share.Tie as tie
 max-requires : tie.Need-max-requires
 max-requires c κs = search needs
 
+alone-requires : tie.Need-alone-requires
+alone-requires c κs = search needs
+
 returns : tie.Need-returns
 unfolding germlineShare round ofInt ofBits
-returns c = let a = c .before .before .before .args in rw (eq-eqb (a .g .first) (a .g .second) (c .if1 .taken)) (c .before .before .max .ensures)
+returns c = rw (← c .before .alone .ensures, c .if1 .taken) (c .before .before .max .ensures)
 
 returns-2 : tie.Need-returns-2
 unfolding germlineShare round ofInt ofBits
-returns-2 c = let a = c .before .before .before .args in rw (ne-eqb (a .g .first) (a .g .second) (c .if1 .left), c .before .before .max .ensures)
+returns-2 c = rw (← c .before .alone .ensures, c .if1 .left, c .before .before .max .ensures)
 
 pub germline-share-spec : {M : Type 1} → statement M
-germline-share-spec = tie.close (tie.spec max-requires returns returns-2)
+germline-share-spec = tie.close (tie.spec max-requires alone-requires returns returns-2)
