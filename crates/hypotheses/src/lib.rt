@@ -1,4 +1,4 @@
 // The hypotheses of a mosaic call: which alleles are germline, the VAFs that fit the others best, and the hypothesis that wins.
 pub mod choice;
 mod pairs;
-pub mod scan;
+mod scan;

@@ -11,7 +11,7 @@ use candidates::search::find;
 use sites::site::Site;
 
 // The hypotheses so far, each with its posterior.
-pub struct Scan {
+pub(crate) struct Scan {
     pub count: usize,
     pub pairs: [Pair; 36],
     pub posteriors: [f64; 36],
