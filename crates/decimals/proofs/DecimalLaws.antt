@@ -19,7 +19,7 @@ use lib.Ieee.Scale.{round-same}
 use lib.Ieee.Positive.{first-pos}
 use Rattle.floats.specs.F64.{_⊘_, nat, ratio}
 use Rattle.floats.proofs.Rounded.{exact-small}
-use Rattle.limits.specs.Every.{every}
+use Rattle.lists.specs.Every.{every}
 use Rattle.numerals.specs.declared.wholes.Whole.the-variants as whole
 use Rattle.decimals.specs.declared.decimals.Decimal.the-variants.{Is, Unread}
 use Rattle.reading.specs.Fields.{upTo, behind, fieldEnd}

@@ -9,7 +9,7 @@ use lib.Dec.{T}
 use lib.ListN.{getD}
 use lib.Ieee.Fits.{and-l, and-r}
 use Rattle.lists.specs.Lists.{numbers}
-use Rattle.limits.specs.Every.{every}
+use Rattle.lists.specs.Every.{every}
 
 pub every-at : {A : Type 0} (f : A → Bool) (l : List A) (k : ℕ) (d : A) → T (every f l) → T (f d) → T (f (getD l k d))
 every-at f [] k d h e = e

@@ -24,7 +24,7 @@ use Rattle.parts.specs.declared.part.Stepped.{Stepped}
 use Rattle.family.specs.Genotypes.{genotypeCount}
 use Rattle.limits.specs.Limits.{countAllowed}
 use Rattle.parts.specs.Part.{noCount, weightAllowed, noWeight, placesRight, inputRight, freshPart, emptyPart, rightPart, gives}
-use Rattle.limits.specs.Every.{every}
+use Rattle.lists.specs.Every.{every}
 use Rattle.opening.specs.Opening.{openStep}
 
 -- ---- what it tells

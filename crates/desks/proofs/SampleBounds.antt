@@ -33,7 +33,7 @@ use Rattle.samples.specs.Samples.{inUse, clusters, reads, sum, columnTotal, sum
 use Rattle.parts.specs.Part.{weightAllowed}
 use Rattle.samples.proofs.SampleLaws.{in-use, sample-below, count-at-most}
 use Rattle.desks.specs.Accepted.{Accepted}
-use Rattle.limits.specs.Every.{every}
+use Rattle.lists.specs.Every.{every}
 use Rattle.desks.proofs.Every.{every-at, every-between}
 
 -- ---- the divided expectations: with two clusters or more each lies between 0 and 1

@@ -27,7 +27,7 @@ use Rattle.samples.specs.Samples.{columnTotal, sampleScore}
 use Rattle.triples.specs.Score.{tripleScore, scoreOf}
 use Rattle.triples.proofs.GenotypesLaws.{triple-within}
 use Rattle.desks.specs.Accepted.{Accepted}
-use Rattle.limits.specs.Every.{every}
+use Rattle.lists.specs.Every.{every}
 use Rattle.desks.proofs.Every.{every-between}
 use Rattle.desks.proofs.ChildPairLaws.{child-pairs-few}
 use Rattle.desks.proofs.SampleBounds.{sample-least, sample-within, sample-low}

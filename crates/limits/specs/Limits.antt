@@ -4,7 +4,7 @@ use mathlib.Core.Bool.{Bool, _&&_}
 use mathlib.Core.List.{List}
 use lib.Dec.{leb}
 use lib.Ieee.{Float, binary64, le, fits}
-use Rattle.limits.specs.Every.{every}
+use Rattle.lists.specs.Every.{every}
 
 -- from lo to hi, both ends included; a NaN is in no range
 abbrev pub inRange : Float → Float → Float → Bool

@@ -3,3 +3,4 @@ pub mod PlaceLaws
 pub mod PassingLaws
 pub mod PaddedLaws
 pub mod OverLaws
+pub mod EveryLaws

@@ -10,7 +10,7 @@ use lib.Dec.{T, leb, ltb, leb→le, lit≤}
 use lib.Ieee.Fits.{and-l, and-r}
 use lib.ListN.{length, getD, drop, drop-of-length-le}
 use Rattle.lists.proofs.PlaceLaws.{drop-next}
-use Rattle.limits.specs.Every.{every}
+use Rattle.lists.specs.Every.{every}
 use Rattle.numerals.specs.declared.wholes.Whole.the-variants.{Is, Unread}
 use Rattle.numerals.specs.Wholes.{isDigit, digits, numberFrom, number, wholeOf, digitOf, grownBy}
 

@@ -4,7 +4,7 @@ use mathlib.Core.Bool.{Bool, cond, _&&_}
 use mathlib.Core.List.{List, [], _∷_}
 use lib.Dec.{leb, ltb}
 use lib.ListN.{length}
-use Rattle.limits.specs.Every.{every}
+use Rattle.lists.specs.Every.{every}
 use Rattle.numerals.specs.declared.wholes.Whole.{Whole}
 use Rattle.numerals.specs.declared.wholes.Whole.the-variants.{Is, Unread}
 

@@ -6,7 +6,7 @@ use lib.Dec.{eqb, ltb}
 use lib.ListN.{length}
 use lib.Ieee.{Float}
 use Rattle.refusals.specs.declared.Refusal.the-variants.{Done, NoCluster, TooMany, Shape, Count, Weight}
-use Rattle.limits.specs.Every.{every}
+use Rattle.lists.specs.Every.{every}
 use Rattle.limits.specs.Limits.{countsAllowed}
 use Rattle.parts.specs.declared.part.Stepped.{Stepped}
 use Rattle.parts.specs.Part.{weightAllowed, freshPart, emptyPart, gives}

@@ -10,8 +10,8 @@ use borrow.Author.Tests.{eq-eqb, ne-eqb, le-leb, lt-leb}
 use lib.Dec.{lit≤}
 use lib.ListN.{length, getD, drop, drop-of-length-le}
 use Rattle.lists.proofs.PlaceLaws.{drop-next}
-use Rattle.limits.specs.Every.{every}
-use Rattle.limits.proofs.EveryLaws.{every-more, every-bad, every-end}
+use Rattle.lists.specs.Every.{every}
+use Rattle.lists.proofs.EveryLaws.{every-more, every-bad, every-end}
 use Rattle.reading.specs.Names.{notZero, packedFrom, packedOf}
 
 pub packed-long : (l : List ℕ) → 8 < length l → 0 ≡ packedOf l

@@ -4,7 +4,7 @@ use mathlib.Core.Bool.{Bool, not, cond, _&&_}
 use mathlib.Core.List.{List, [], _∷_}
 use lib.Dec.{leb, eqb}
 use lib.ListN.{length}
-use Rattle.limits.specs.Every.{every}
+use Rattle.lists.specs.Every.{every}
 
 -- a byte that a name may have
 abbrev pub notZero : ℕ → Bool

@@ -5,7 +5,7 @@ use lib.ListN.{length, drop}
 use borrow.Author.Tests.{not-true, not-false}
 use borrow.Author.Needs.{needs}
 use Rattle.limits.specs.Limits.{countAllowed, countsAllowed}
-use Rattle.limits.proofs.EveryLaws.{every-more, every-bad, every-end}
+use Rattle.lists.proofs.EveryLaws.{every-more, every-bad, every-end}
 use Rattle.limits.proofs.counts.counts_allowed.Statement.{statement}
 use Rattle.limits.proofs.counts.counts_allowed.Tie as tie
 

@@ -6,7 +6,7 @@ use lib.ListN.{length, drop}
 use borrow.Author.Tests.{not-true, not-false}
 use borrow.Author.Needs.{needs}
 use Rattle.limits.specs.Limits.{inRange, allIn}
-use Rattle.limits.proofs.EveryLaws.{every-more, every-bad, every-end}
+use Rattle.lists.proofs.EveryLaws.{every-more, every-bad, every-end}
 use Rattle.limits.proofs.ranges.all_in.Statement.{statement}
 use Rattle.limits.proofs.ranges.all_in.Tie as tie
 

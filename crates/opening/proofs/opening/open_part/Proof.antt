@@ -8,7 +8,7 @@ use lib.Dec.{eqb, ltb}
 use lib.Ieee.{round, ofInt, ofBits}
 use lib.ListN.{length}
 use Rattle.refusals.specs.declared.Refusal.the-variants.{Done}
-use Rattle.limits.specs.Every.{every}
+use Rattle.lists.specs.Every.{every}
 use Rattle.limits.specs.Limits.{countsAllowed}
 use Rattle.parts.specs.Part.{weightAllowed, gives}
 use Rattle.opening.specs.Opening.{openStep}

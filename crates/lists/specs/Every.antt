@@ -1,4 +1,4 @@
--- A test on every member of a list, as L1, L3 to L5, A1 and A2 ask it (RULES.md). Definitions only.
+-- A test on every member of a list, as L1, L3 to L5 and A2 ask it (RULES.md). Definitions only.
 use mathlib.Core.Bool.{Bool, true, _&&_}
 use mathlib.Core.List.{List, [], _∷_}
 

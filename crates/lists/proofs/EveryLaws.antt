@@ -3,14 +3,13 @@ use Prim.Native.Nat.{ℕ, _+_, _≤_, _<_}
 use mathlib.Core.Bool.{Bool, true, false, _&&_}
 use mathlib.Core.List.{List}
 use mathlib.Core.Path.{_≡_, sym, ap, _∙_}
-use native.Mathlib.Numerals.{add-one}
 use lib.ListN.{length, getD, drop, drop-of-length-le}
-use lib.Seq.{drop-cons}
-use Rattle.limits.specs.Every.{every}
+use Rattle.lists.specs.Every.{every}
+use Rattle.lists.proofs.PlaceLaws.{drop-next}
 
 module _ {A : Type 0} (passes : A → Bool) (d : A) (l : List A) (i : ℕ) where
   pub every-step : i < length l → every passes (drop i l) ≡ (passes (getD l i d) && every passes (drop (i + 1) l))
-  every-step h = rw (add-one i, drop-cons l i d h)
+  every-step h = rw (drop-next l i d h)
 
   pub every-more : i < length l → passes (getD l i d) ≡ true → every passes (drop (i + 1) l) ≡ every passes (drop i l)
   every-more h e = sym (every-step h ∙ ap (λ (t : Bool). t && every passes (drop (i + 1) l)) e)
