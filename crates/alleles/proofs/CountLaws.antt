@@ -1,22 +1,20 @@
 -- What is known of counts that are allowed, and of the number of pairs of s. Assumes nothing.
 use mathlib.Core.Path.{_≡_, refl, subst, sym}
 use mathlib.Core.Bool.{true}
-use mathlib.Core.List.{List, [], _∷_}
+use mathlib.Core.List.{List}
 use Prim.Native.Nat.{ℕ, zero, suc, _+_, _-_, _*_, _≤_}
 use native.Mathlib.Nat.{mul-suc}
 use native.Mathlib.Omega.{arith}
 use borrow.Author.Tests.{le-leb}
 use lib.Dec.{T, leb→le}
 use lib.ListN.{length}
-use lib.Ieee.Fits.{and-l, and-r}
+use Rattle.lists.proofs.EveryLaws.{every-at}
 use Rattle.limits.specs.Limits.{countAllowed, countsAllowed}
 use Rattle.alleles.specs.Alleles.{countAt, totalOver, totalOf, totalAllowed}
 
 -- a place beyond the counts has the count 0
 at-most : (counts : List ℕ) → T (countsAllowed counts) → (i : ℕ) → countAt counts i ≤ 1000000
-at-most [] h i = omega arith
-at-most (c ∷ cs) h zero = leb→le c 1000000 (and-l (countAllowed c) (countsAllowed cs) h)
-at-most (c ∷ cs) h (suc i) = at-most cs (and-r (countAllowed c) (countsAllowed cs) h) i
+at-most counts h i = leb→le (countAt counts i) 1000000 (every-at countAllowed counts i 0 h (λ _. tt))
 
 total-at-most : (counts : List ℕ) → T (countsAllowed counts) → (k : ℕ) → totalOver counts k ≤ 1000000 * k
 total-at-most counts h zero = omega arith

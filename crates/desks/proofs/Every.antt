@@ -1,26 +1,16 @@
--- A test that every element of a list passes: what antt computes over a whole list, at one element. Assumes nothing.
+-- A test that each of the numbers from i on passes: what antt computes over all of them, at one. Assumes nothing.
 use Prim.Native.Nat.{ℕ, zero, suc, _+_, _-_, _≤_, _<_}
-use native.Mathlib.Nat.{add-zero, add-suc, suc-add}
+use native.Mathlib.Nat.{not-suc-le-zero, add-zero, add-suc, suc-add}
 use native.Mathlib.Omega.{arith}
 use mathlib.Core.Path.{_≡_}
 use mathlib.Core.Bool.{Bool}
-use mathlib.Core.List.{List, [], _∷_}
 use lib.Dec.{T}
-use lib.ListN.{getD}
 use lib.Ieee.Fits.{and-l, and-r}
 use Rattle.lists.specs.Lists.{numbers}
 use Rattle.lists.specs.Every.{every}
 
-pub every-at : {A : Type 0} (f : A → Bool) (l : List A) (k : ℕ) (d : A) → T (every f l) → T (f d) → T (f (getD l k d))
-every-at f [] k d h e = e
-every-at f (x ∷ l) zero d h e = and-l (f x) (every f l) h
-every-at f (x ∷ l) (suc k) d h e = every-at f l k d (and-r (f x) (every f l) h) e
-
-none : (d : ℕ) → d < 0 → ⊥
-none d h = omega arith
-
 every-up : (f : ℕ → Bool) (i m d : ℕ) → T (every f (numbers i m)) → d < m → T (f (i + d))
-every-up f i zero d h l = absurd (none d l)
+every-up f i zero d h l = absurd (not-suc-le-zero l)
 every-up f i (suc m) zero h l = rw add-zero (and-l (f i) (every f (numbers (suc i) m)) h)
 every-up f i (suc m) (suc d) h l =
     let k : d < m = omega arith in

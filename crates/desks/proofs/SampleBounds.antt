@@ -34,7 +34,8 @@ use Rattle.parts.specs.Part.{weightAllowed}
 use Rattle.samples.proofs.SampleLaws.{in-use, sample-below, count-at-most}
 use Rattle.desks.specs.Accepted.{Accepted}
 use Rattle.lists.specs.Every.{every}
-use Rattle.desks.proofs.Every.{every-at, every-between}
+use Rattle.lists.proofs.EveryLaws.{every-at}
+use Rattle.desks.proofs.Every.{every-between}
 
 -- ---- the divided expectations: with two clusters or more each lies between 0 and 1
 
@@ -61,7 +62,7 @@ all-inside = tt
 every-genotype : (f : Pair → Bool) (n k : ℕ) → 1 ≤ n → T (every f (genotypes n)) → T (f (genotypeAt n k))
 unfolding genotypeAt
 every-genotype f zero k l h = absurd (lt-irrefl 0 l)
-every-genotype f (suc n) k l h = every-at f (genotypes (suc n)) k (pair 0 0) h (and-l (f (pair 0 0)) (every f (pairsWith 0 1 n ++ pairsFrom 1 n)) h)
+every-genotype f (suc n) k l h = every-at f (genotypes (suc n)) k (pair 0 0) h (λ _. and-l (f (pair 0 0)) (every f (pairsWith 0 1 n ++ pairsFrom 1 n)) h)
 
 share-inside : (n k c : ℕ) → 2 ≤ n → n ≤ 8 → c < n → T (inside (share n (genotypeAt n k) c))
 share-inside n k c l u h =

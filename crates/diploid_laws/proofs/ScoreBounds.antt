@@ -3,9 +3,9 @@
 use mathlib.Core.Path.{_≡_, refl, sym, subst}
 use mathlib.Core.Logic.{_⊎_, inl, inr, ⊎-elim}
 use mathlib.Core.Bool.{Bool, true, false, _&&_, cond}
-use mathlib.Core.List.{List, [], _∷_}
+use mathlib.Core.List.{List}
 use Prim.Native.Nat.{ℕ, zero, suc, _+_, _-_, _^_, _≤_, _<_, zero-le}
-use native.Mathlib.Nat.{le-of-suc-le-suc, not-suc-le-zero, zero-lt-suc}
+use native.Mathlib.Nat.{zero-lt-suc}
 use native.Mathlib.Omega.{arith}
 use lib.IntN.{pos}
 use lib.ListN.{length, getD}
@@ -14,6 +14,7 @@ use lib.Ieee.{Float, nan, fin, binary64, round, neg, sum, add, sub, lt, eq, le, 
 use lib.Ieee.Scale.{finite}
 use lib.Ieee.Fits.{and-l, and-r, round-fits, ofInt-fits, add-fits, sub-fits, mul-fits}
 use lib.Ieee.Positive.{positive, between, sub-anti, le-trans-positive}
+use Rattle.lists.proofs.EveryLaws.{every-at}
 use Rattle.floats.specs.F64.{_⊕_, _⊖_, _⊗_, nat, decimal}
 use Rattle.floats.specs.Within.{Within, Above, NotBelow}
 use Rattle.floats.proofs.Bounds.{within-more, within-whole, within-fraction, within-add, within-sub, within-mul, above-whole, above-mul, above-add, above-not-below}
@@ -43,10 +44,10 @@ record In (lo hi x : Float) : Type 0 where
   pub high : T (le x hi)
 
 all-in-at : (lo hi : Float) (xs : List Float) (i : ℕ) → i < length xs → T (allIn lo hi xs) → In lo hi (getD xs i nan)
-all-in-at lo hi [] i h t = absurd (not-suc-le-zero h)
-all-in-at lo hi (x ∷ xs) zero h t =
-    let r = and-l (inRange lo hi x) (allIn lo hi xs) t in record { low = and-l (le lo x) (le x hi) r; high = and-r (le lo x) (le x hi) r }
-all-in-at lo hi (x ∷ xs) (suc i) h t = all-in-at lo hi xs i (le-of-suc-le-suc h) (and-r (inRange lo hi x) (allIn lo hi xs) t)
+all-in-at lo hi xs i h t =
+    let x = getD xs i nan in
+    let r = every-at (inRange lo hi) xs i nan t (λ k. absurd (omega arith)) in
+    record { low = and-l (le lo x) (le x hi) r; high = and-r (le lo x) (le x hi) r }
 
 record Parameters (m : Model) (i : ℕ) : Type 0 where
   pub fraction-in : In (decimal 1 9) (nat 1) (fraction m i)

@@ -1,8 +1,10 @@
--- A test on every member of a list, by what is left of the list from place i on.
-use Prim.Native.Nat.{ℕ, _+_, _≤_, _<_}
+-- A test on every member of a list: by what is left of the list from place i on, and at one member. Assumes nothing.
+use Prim.Native.Nat.{ℕ, zero, suc, _+_, _≤_, _<_, suc-le-suc, zero-le}
 use mathlib.Core.Bool.{Bool, true, false, _&&_}
-use mathlib.Core.List.{List}
+use mathlib.Core.List.{List, [], _∷_}
 use mathlib.Core.Path.{_≡_, sym, ap, _∙_}
+use lib.Dec.{T}
+use lib.Ieee.Fits.{and-l, and-r}
 use lib.ListN.{length, getD, drop, drop-of-length-le}
 use Rattle.lists.specs.Every.{every}
 use Rattle.lists.proofs.PlaceLaws.{drop-next}
@@ -19,3 +21,9 @@ module _ {A : Type 0} (passes : A → Bool) (d : A) (l : List A) (i : ℕ) where
 
   pub every-end : length l ≤ i → true ≡ every passes (drop i l)
   every-end h = rw (drop-of-length-le l h)
+
+-- a member of a list that passes, passes; what stands for a place beyond the list has to where the place is one
+pub every-at : {A : Type 0} (passes : A → Bool) (l : List A) (i : ℕ) (d : A) → T (every passes l) → (length l ≤ i → T (passes d)) → T (passes (getD l i d))
+every-at passes [] i d h e = e zero-le
+every-at passes (x ∷ l) zero d h e = and-l (passes x) (every passes l) h
+every-at passes (x ∷ l) (suc i) d h e = every-at passes l i d (and-r (passes x) (every passes l) h) (λ k. e (suc-le-suc k))
