@@ -11,6 +11,7 @@ use lib.Ieee.Fits.{and-l, and-r}
 use lib.ListN.{length, getD, drop, drop-of-length-le}
 use Rattle.lists.proofs.PlaceLaws.{drop-next}
 use Rattle.lists.specs.Every.{every}
+use Rattle.lists.proofs.EveryLaws.{every-more, every-end}
 use Rattle.numerals.specs.declared.wholes.Whole.the-variants.{Is, Unread}
 use Rattle.numerals.specs.Wholes.{isDigit, digits, numberFrom, number, wholeOf, digitOf, grownBy}
 
@@ -78,7 +79,7 @@ module _ (l : List ℕ) (n i : ℕ) (r : Read l n i) where
       let s = step-yes n (getD l i 0) m e in
       record {
         within = omega arith;
-        all = ap (λ (t : Bool). t && every isDigit (drop (i + 1) l)) (sym (s .digit)) ∙ sym (ap (every isDigit) (drop-next l i 0 h)) ∙ r .all;
+        all = every-more isDigit 0 l i h (s .digit) ∙ r .all;
         same = ap (λ (k : ℕ). numberFrom k (drop (i + 1) l)) (s .grown) ∙ sym (ap (numberFrom n) (drop-next l i 0 h)) ∙ r .same;
         fits = s .fits;
       }
@@ -99,7 +100,7 @@ module _ (l : List ℕ) (n i : ℕ) (r : Read l n i) where
   read-end p h =
       let over : drop i l ≡ [] = drop-of-length-le l h in
       let value : number l ≡ n = sym (r .same) ∙ ap (numberFrom n) over in
-      let good : every isDigit l ≡ true = sym (r .all) ∙ ap (every isDigit) over in
+      let good : every isDigit l ≡ true = sym (every-end isDigit 0 l i h ∙ r .all) in
       rw (lt-ltb 0 (length l) p, good, value, lt-ltb n (2 ^ 64) (r .fits))
 
 -- ---- numbers of so many digits
