@@ -1,6 +1,5 @@
 -- What belongs to no one function of `hypotheses`: what the proofs share.
 pub mod PairTable
-pub mod ScanLaws
 pub mod Terms
 pub mod Scanned
 pub mod Chosen

@@ -48,6 +48,10 @@ module _ (counts : List ℕ) (site : Site) where
       let few = passing-few (bothSeen counts) allPairs k in
       rw (passing-next (bothSeen counts) allPairs k (pair 0 0) (omega arith), scan-so-far k (omega arith)) (scan-step (bothSeen counts g) l g (omega arith))
 
+  -- no more hypotheses than pairs were looked at
+  pub scanned-low : (k : ℕ) → k ≤ 36 → scanOver counts site k .count ≤ k
+  scanned-low k h = rw (scan-so-far k h) (passing-few (bothSeen counts) allPairs k)
+
 -- ---- the pairs whose alleles are both seen are the hypotheses
 
 module _ (counts : List ℕ) where

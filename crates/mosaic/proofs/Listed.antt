@@ -31,6 +31,10 @@ list-so-far counts (suc k) h =
     let at : getD (numbers 0 8) k 0 ≡ k = number-at 0 8 k (omega arith) ∙ omega arith in
     rw (passing-next (seenIn counts) (numbers 0 8) k 0 (omega arith), at, list-so-far counts k (omega arith)) (list-step (seenIn counts k) l k (omega arith))
 
+-- no more members than alleles were looked at
+pub listed-low : (counts : List ℕ) (k : ℕ) → k ≤ 8 → listOver counts k .count ≤ k
+listed-low counts k h = rw (list-so-far counts k h) (passing-few (seenIn counts) (numbers 0 8) k)
+
 pub listed : (counts : List ℕ) → listedBy counts ≡ listOf (seenAlleles counts)
 unfolding listedBy
 listed counts = list-so-far counts 8 (lit≤ tt)

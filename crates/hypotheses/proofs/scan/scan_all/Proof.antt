@@ -9,7 +9,7 @@ use Rattle.alleles.specs.Alleles.{pair}
 use Rattle.hypotheses.specs.Hypotheses.{allPairs}
 use Rattle.hypotheses.specs.Inner.{scanStep, scanOver, scannedBy}
 use Rattle.hypotheses.proofs.PairTable.{pair-table}
-use Rattle.hypotheses.proofs.ScanLaws.{scanned-low}
+use Rattle.hypotheses.proofs.Scanned.{scanned-low}
 use borrow.Author.Needs.{needs}
 use native.Mathlib.Omega.{arith}
 use native.Mathlib.Numerals.{add-one}
@@ -62,7 +62,7 @@ loop-again c =
     let e : c .if1 .scan ≡ scanOver (a .counts .now) (a .site) (loop .t + 1) =
     rw (add-one, ← loop .inv .2, ← loop .inv .3 (loop .t), ← c .before .both-seen .ensures)
     (⊎-elim (λ w. rw (w .0 .taken, ← w .1 .ensures) (w .3 ∙ w .2 .ensures)) (λ w. rw (w .0 .left) (w .1)) (c .if1 .came)) in
-    (search needs, rw e (scanned-low (a .counts .now) (a .site) (loop .t + 1)), e, loop .inv .3)
+    (search needs, rw e (scanned-low (a .counts .now) (a .site) (loop .t + 1) (search needs)), e, loop .inv .3)
 
 returns : tie.Need-returns Inv-loop μ-loop
 unfolding scannedBy

@@ -2,7 +2,7 @@
 use mathlib.Core.Path.{_≡_, refl, ap, _∙_}
 use Prim.Native.Nat.{_≤_, _-_}
 use Rattle.mosaic.specs.Inner.{listOver, listedBy}
-use Rattle.mosaic.proofs.ListLaws.{listed-low}
+use Rattle.mosaic.proofs.Listed.{listed-low}
 use borrow.Author.Needs.{needs}
 use native.Mathlib.Omega.{arith}
 use native.Mathlib.Numerals.{add-one}
@@ -19,7 +19,7 @@ loop-holds : tie.Need-loop-holds Inv-loop μ-loop
 loop-holds c = (search needs, refl)
 
 list-allele-requires : tie.Need-list-allele-requires Inv-loop μ-loop
-list-allele-requires c κs = (search needs, rw (c .before .loop .inv .1) (listed-low (c .before .before .before .args .counts .now) (c .before .loop .i)))
+list-allele-requires c κs = (search needs, rw (c .before .loop .inv .1) (listed-low (c .before .before .before .args .counts .now) (c .before .loop .i) (search needs)))
 
 add-i : tie.Need-add-i Inv-loop μ-loop
 add-i c = search needs
