@@ -1,14 +1,14 @@
--- The table of examples holds: antt computes X7 to X9 from the definitions, and the others are laws of the crates below. Assumes nothing.
+-- The table of examples holds: antt computes X7, the logarithm of X8, and X9 from the definitions; the others are laws of the crates below. Assumes nothing.
 use Prim.Native.Nat.{ℕ}
-use mathlib.Core.Bool.{true}
+use mathlib.Core.Bool.{true, false}
 use mathlib.Core.List.{List, []}
 use mathlib.Core.Path.{_≡_, refl}
 use lib.Dec.{lit≤}
-use lib.Ieee.{Float, size, isNan, neg, add, sub, mul, div, round, lt, le, ofInt, ofBits, toBits}
+use lib.Ieee.{Float, isNan, sub, mul, div, le, ofInt, ofBits, toBits}
 use Rattle.floats.specs.Apart.{exponent, significand}
 use Rattle.floats.specs.Key.{keyOf}
 use Rattle.kernels.specs.Ln.{lnNearOne, lnParts, lnReduced, lnPositive, lnOf}
-use Rattle.kernels.specs.Exp.{expSeries, expParts, expOf}
+use Rattle.bounds.proofs.ExpBounds.{exp-of-zero}
 use Rattle.diploid.specs.Allowed.{modelAllowed}
 use Rattle.tables.specs.Tables.{entries, neverFalling, tableAllowed}
 use Rattle.scores.specs.Scores.{scoredBy}
@@ -41,7 +41,7 @@ unfolding mosaicBy
 no-alleles p h d = rw (h, d)
 
 pub examples : Examples
-unfolding keyOf lnOf lnPositive lnReduced lnParts lnNearOne exponent significand expOf expParts expSeries genotypeBy answered scoredBy modelAllowed tableAllowed entries neverFalling size isNan neg add sub mul div round lt le ofInt ofBits toBits
+unfolding keyOf lnOf lnPositive lnReduced lnParts lnNearOne exponent significand genotypeBy answered scoredBy modelAllowed tableAllowed entries neverFalling isNan sub mul div le ofInt ofBits toBits
 examples =
     record {
       genotypes-number = genotype-counts;
@@ -53,7 +53,7 @@ examples =
       four-pairs = four-pairs;
       zero-keys = refl;
       ln-of-one = refl;
-      exp-of-zero = refl;
+      exp-of-zero = exp-of-zero false;
       no-reads = refl;
       equal-scores = equal-scores;
       no-alleles = no-alleles;
