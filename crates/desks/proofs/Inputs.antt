@@ -13,6 +13,7 @@ use lib.Ieee.{nan, isNan}
 use Rattle.parts.specs.declared.part.Part.{Part}
 use Rattle.limits.specs.Limits.{countAllowed}
 use Rattle.parts.specs.Part.{noCount, weightAllowed, noWeight, placesRight, inputRight}
+use Rattle.parts.proofs.RightLaws.{few-clusters}
 use Rattle.trio.specs.Steps.{scoreIn}
 use Rattle.desks.specs.Accepted.{Accepted}
 use Rattle.desks.proofs.ScoreBounds.{score-number}
@@ -39,14 +40,8 @@ module _ (p : Part) (right : inputRight p ≡ true) (eight : length (p .weights)
   unfolding inputRight
   some-clusters = right
 
-  few-clusters : (leb n 8 && (counts-test && weights-test)) ≡ true
-  few-clusters = and-elim-right (leb 1 n) (leb n 8 && (counts-test && weights-test)) some-clusters
-
   places : (counts-test && weights-test) ≡ true
-  places = and-elim-right (leb n 8) (counts-test && weights-test) few-clusters
-
-  few : n ≤ 8
-  few = leb-true n 8 (and-elim-left (leb n 8) (counts-test && weights-test) few-clusters)
+  places = and-elim-right (leb n 8) (counts-test && weights-test) (and-elim-right (leb 1 n) (leb n 8 && (counts-test && weights-test)) some-clusters)
 
   count-at : (i : ℕ) → i < 3 * n → countAllowed (getD (p .counts) i 0) ≡ true
   count-at i h = go (ltb i (length (p .counts))) refl
@@ -59,9 +54,9 @@ module _ (p : Part) (right : inputRight p ≡ true) (eight : length (p .weights)
   input-accepted =
       record {
         some = leb-true 1 n (and-elim-left (leb 1 n) (leb n 8 && (counts-test && weights-test)) some-clusters);
-        few = few;
+        few = few-clusters p right;
         count-allowed = count-at;
-        weight-allowed = λ c h. place-passed weightAllowed noWeight nan n (p .weights) c (and-elim-right counts-test weights-test places) h (omega (arith, few, eight));
+        weight-allowed = λ c h. place-passed weightAllowed noWeight nan n (p .weights) c (and-elim-right counts-test weights-test places) h (omega (arith, few-clusters p right, eight));
       }
 
   pub scores-numbers : (q : ℕ) → isNan (scoreIn p q) ≡ false

@@ -9,11 +9,11 @@ use Rattle.search.specs.Shape.{workRight}
 use Rattle.parts.specs.declared.part.Part.{Part}
 use Rattle.parts.specs.Part.{inputRight, rowCount, rightPart}
 
-module _ (p : Part) (right : rightPart p ≡ true) where
-  pub right-input : inputRight p ≡ true
+module _ (p : Part) where
+  pub right-input : rightPart p ≡ true → inputRight p ≡ true
   unfolding rightPart
-  right-input = and-elim-left (inputRight p) (workRight (rowCount p) (p .marks) (p .held)) right
+  right-input right = and-elim-left (inputRight p) (workRight (rowCount p) (p .marks) (p .held)) right
 
-  pub few-clusters : p .clusters ≤ 8
+  pub few-clusters : inputRight p ≡ true → p .clusters ≤ 8
   unfolding inputRight
-  few-clusters = leb-true (p .clusters) 8 (and-elim-left (leb (p .clusters) 8) _ (and-elim-right (leb 1 (p .clusters)) _ right-input))
+  few-clusters right = leb-true (p .clusters) 8 (and-elim-left (leb (p .clusters) 8) _ (and-elim-right (leb 1 (p .clusters)) _ right))

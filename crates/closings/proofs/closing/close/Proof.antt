@@ -8,7 +8,7 @@ use lib.Dec.{eqb}
 use Rattle.marks.specs.Marks.{fullMarks}
 use Rattle.parts.specs.Part.{rowCount, rightPart}
 use Rattle.closings.specs.Closing.{closeStep}
-use Rattle.parts.proofs.RightLaws.{few-clusters}
+use Rattle.parts.proofs.RightLaws.{right-input, few-clusters}
 use Rattle.closings.proofs.closing.close.Statement.{statement}
 use Rattle.closings.proofs.closing.close.Tie as tie
 
@@ -23,7 +23,7 @@ right-part-requires : tie.Need-right-part-requires
 right-part-requires c κs = search needs
 
 cast-genotype-count : tie.Need-cast-genotype-count
-cast-genotype-count c = let few = few-clusters (c .before .before .before .args .p) (right (c .before)) in omega arith
+cast-genotype-count c = let p = c .before .before .before .args .p in let few = few-clusters p (right-input p (right (c .before))) in omega arith
 
 genotype-count-requires : tie.Need-genotype-count-requires
 genotype-count-requires c κs = search needs

@@ -4,7 +4,7 @@ use mathlib.Core.Path.{_≡_, sym, _∙_}
 use native.Mathlib.Omega.{arith}
 use borrow.Author.Needs.{needs}
 use Rattle.parts.specs.Part.{rightPart}
-use Rattle.parts.proofs.RightLaws.{few-clusters}
+use Rattle.parts.proofs.RightLaws.{right-input, few-clusters}
 use Rattle.trio.specs.Steps.{rowsIn}
 use Rattle.trio.proofs.rows.row_count.Statement.{statement}
 use Rattle.trio.proofs.rows.row_count.Tie as tie
@@ -16,7 +16,7 @@ right-part-requires : tie.Need-right-part-requires
 right-part-requires c κs = search needs
 
 cast-genotype-count : tie.Need-cast-genotype-count
-cast-genotype-count c = let few = few-clusters (c .before .before .before .args .p) (right (c .before)) in omega arith
+cast-genotype-count c = let p = c .before .before .before .args .p in let few = few-clusters p (right-input p (right (c .before))) in omega arith
 
 genotype-count-requires : tie.Need-genotype-count-requires
 genotype-count-requires c κs = search needs

@@ -6,7 +6,7 @@ use native.Mathlib.Omega.{arith}
 use borrow.Author.Needs.{needs}
 use borrow.Author.Tests.{le-ltb}
 use Rattle.parts.specs.Part.{rowCount, rightPart}
-use Rattle.parts.proofs.RightLaws.{few-clusters}
+use Rattle.parts.proofs.RightLaws.{right-input, few-clusters}
 use Rattle.trio.specs.Steps.{rowStep}
 use Rattle.trio.proofs.RowCode.{row-done}
 use Rattle.family.proofs.GenotypesLaws.{genotypes-few}
@@ -20,7 +20,7 @@ right-part-requires : tie.Need-right-part-requires
 right-part-requires c κs = search needs
 
 cast-genotype-count : tie.Need-cast-genotype-count
-cast-genotype-count c = let few = few-clusters (c .before .before .before .args .p) (right (c .before)) in omega arith
+cast-genotype-count c = let p = c .before .before .before .args .p in let few = few-clusters p (right-input p (right (c .before))) in omega arith
 
 genotype-count-requires : tie.Need-genotype-count-requires
 genotype-count-requires c κs = search needs
@@ -29,7 +29,7 @@ row-part-requires : tie.Need-row-part-requires
 row-part-requires c κs =
     let p = c .before .before .before .before .before .args .p in
     let t = right (c .before .before .before) in
-    (c .if2 .taken, subst (λ (n : ℕ). n ≤ 36) (sym (c .before .genotype-count .ensures)) (genotypes-few (p .clusters) (few-clusters p t)))
+    (c .if2 .taken, subst (λ (n : ℕ). n ≤ 36) (sym (c .before .genotype-count .ensures)) (genotypes-few (p .clusters) (few-clusters p (right-input p t))))
 
 joined-requires : tie.Need-joined-requires
 joined-requires c κs = search needs
