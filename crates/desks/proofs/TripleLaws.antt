@@ -1,6 +1,6 @@
 -- The triples in kanpig's order: how many there are, and which one stands where (RULES.md, T1, X1). Assumes nothing.
 use Prim.Native.Nat.{ℕ, zero, suc, _+_, _*_, _/_, _%_, _<_}
-use mathlib.Core.Path.{_≡_, refl, sym, ap, _∙_}
+use mathlib.Core.Path.{_≡_, sym, ap, _∙_}
 use mathlib.Core.List.{List, [], _∷_, map}
 use native.Mathlib.Nat.{zero-mul, zero-add, suc-mul, mul-assoc, add-assoc, mod-lt, div-add-mod', div-lt-iff-lt-mul, suc-le-suc-iff, mul-le-mul, le-refl}
 use native.Mathlib.Omega.{arith}

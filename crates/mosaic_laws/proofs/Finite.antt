@@ -37,7 +37,7 @@ use Rattle.hypotheses.specs.Search.{Best, valueOf, tried, triedStep, searchedAl
 use Rattle.models.specs.declared.params.Params.{Params}
 use Rattle.alleles.specs.declared.pair.Pair.{Pair}
 use Rattle.alleles.proofs.CountLaws.{count-bound, total-bound}
-use Rattle.lists.proofs.OverLaws.{length-placed, at-set, placed-at}
+use Rattle.lists.proofs.OverLaws.{length-placed, at-set}
 use Rattle.mosaic_laws.specs.Accepted.{Accepted}
 use Rattle.mosaic_laws.proofs.Quotients.{observed-share}
 use Rattle.mosaic_laws.proofs.Terms.{either, within-factorial, highest-within, Dense, dense, Vaf, ln-within, one-at, gain-within, gain-least, above-finite, share-ln-within, one-within, two-within}

@@ -1,7 +1,7 @@
 -- Names as numbers, byte by byte. Assumes nothing.
 use mathlib.Core.Path.{_≡_, sym, ap, _∙_}
 use mathlib.Core.Bool.{true, false, not}
-use mathlib.Core.List.{List, [], _∷_}
+use mathlib.Core.List.{List, []}
 use Prim.Native.Nat.{ℕ, suc, _+_, _*_, _^_, _≤_, _<_}
 use native.Mathlib.Nat.{le-trans, zero-lt-suc, mul-le-mul-right, pow-suc, pow-le-pow-right}
 use native.Mathlib.Numerals.{add-one}

@@ -1,4 +1,4 @@
--- `tables::ranges::in_range` meets its contract. Assumes nothing.
+-- `limits::ranges::in_range` meets its contract. Assumes nothing.
 use Rattle.limits.proofs.ranges.in_range.Statement.{statement}
 use Rattle.limits.proofs.ranges.in_range.Tie as tie
 
