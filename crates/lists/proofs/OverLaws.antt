@@ -3,6 +3,7 @@ use mathlib.Core.Path.{_≡_, refl, sym, ap, _∙_, subst}
 use mathlib.Core.Bool.{Bool, true, false}
 use mathlib.Core.List.{List}
 use Prim.Native.Nat.{ℕ, zero, suc, _≤_, _<_}
+use native.Mathlib.Nat.{not-suc-le-zero}
 use native.Mathlib.Omega.{arith}
 use borrow.Author.Tests.{eqb-true, eqb-false}
 use lib.Dec.{eqb}
@@ -42,10 +43,7 @@ at-set l i j x d h false e P same other =
     subst P (sym (getD-set-other l i j x d q)) (other q)
 
 pub placed-at : {A : Type 0} (places : List A) (f : ℕ → A) (d : A) (n : ℕ) → n ≤ length places → (i : ℕ) → i < n → getD (placed places f n) i d ≡ f i
-placed-at places f d zero h i l = absurd (none i l)
-  where
-    none : (i : ℕ) → i < 0 → ⊥
-    none i l = omega arith
+placed-at places f d zero h i l = absurd (not-suc-le-zero l)
 placed-at places f d (suc n) h i l =
     at-set (placed places f n) n i (f n) d (subst (λ (k : ℕ). n < k) (sym (length-placed places f n)) (fits n (length places) h)) (eqb i n) refl (λ x. x ≡ f i) (λ e. ap f (sym e)) (λ e. placed-at places f d n (less n (length places) h) i (below i n l e))
   where

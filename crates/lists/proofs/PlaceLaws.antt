@@ -2,7 +2,7 @@
 use mathlib.Core.Path.{_≡_, refl, _∙_}
 use mathlib.Core.List.{List, _∷_, map}
 use Prim.Native.Nat.{ℕ, zero, suc, _+_, _<_}
-use native.Mathlib.Nat.{suc-le-suc-iff}
+use native.Mathlib.Nat.{not-suc-le-zero, suc-le-suc-iff}
 use native.Mathlib.Numerals.{add-one}
 use native.Mathlib.Omega.{arith}
 use lib.ListN.{length, getD, drop}
@@ -10,10 +10,7 @@ use lib.Seq.{drop-cons}
 use Rattle.lists.specs.Lists.{numbers}
 
 pub number-at : (i n k : ℕ) → k < n → getD (numbers i n) k 0 ≡ i + k
-number-at i zero k h = absurd (none k h)
-  where
-    none : (k : ℕ) → k < 0 → ⊥
-    none k h = omega arith
+number-at i zero k h = absurd (not-suc-le-zero h)
 number-at i (suc n) zero h = omega arith
 number-at i (suc n) (suc k) h = number-at (suc i) n k (omega arith) ∙ omega arith
 

@@ -5,6 +5,7 @@ use mathlib.Core.Bool.{Bool, true, false, not, _||_, cond, true≢false}
 use mathlib.Core.List.{List, [], _∷_, map}
 use mathlib.Mathlib.Data.Bool.Basic.{and-elim-left}
 use Prim.Native.Nat.{ℕ, zero, suc, pred, _-_, _^_, _≤_, _<_}
+use native.Mathlib.Nat.{not-suc-le-zero}
 use native.Mathlib.Omega.{arith}
 use borrow.Author.Tests.{ltb-true, ltb-false, leb-true, eqb-false}
 use lib.Dec.{T, leb, ltb, eqb, lit≤, eqb·suc-zero}
@@ -51,10 +52,7 @@ module _ {A : Type 0} (t : A → Bool) (d : A) where
   passed-front false x l e h i m = h i m
 
   passed : (l : List A) (i : ℕ) → i < length (passing t l) → t (getD (passing t l) i d) ≡ true
-  passed [] i m = absurd (none i m)
-    where
-      none : (i : ℕ) → i < 0 → ⊥
-      none i m = omega arith
+  passed [] i m = absurd (not-suc-le-zero m)
   passed (x ∷ l) i m = passed-front (t x) x (passing t l) refl (passed l) i m
 
   some-front : (b : Bool) (x : A) (l : List A) → 0 < length l → 0 < length (cond b (x ∷ l) l)
@@ -62,10 +60,7 @@ module _ {A : Type 0} (t : A → Bool) (d : A) where
   some-front false x l h = h
 
   some-pass : (l : List A) (j : ℕ) → j < length l → t (getD l j d) ≡ true → 0 < length (passing t l)
-  some-pass [] j m e = absurd (none j m)
-    where
-      none : (j : ℕ) → j < 0 → ⊥
-      none j m = omega arith
+  some-pass [] j m e = absurd (not-suc-le-zero m)
   some-pass (x ∷ l) zero m e = rw e (more (length (passing t l)))
     where
       more : (k : ℕ) → 0 < suc k
@@ -85,10 +80,7 @@ record Read (counts : List ℕ) (k : ℕ) : Type 0 where
   pub is-seen : seenIn counts allele ≡ true
 
 read : (counts : List ℕ) (k : ℕ) → 0 < totalOver counts k → Read counts k
-read counts zero h = absurd (none h)
-  where
-    none : 0 < 0 → ⊥
-    none h = omega arith
+read counts zero h = absurd (not-suc-le-zero h)
 read counts (suc k) h = go (ltb 0 (countAt counts k)) refl (λ m. read counts k m)
   where
     go : (b : Bool) → ltb 0 (countAt counts k) ≡ b → (0 < totalOver counts k → Read counts k) → Read counts (suc k)
@@ -114,13 +106,10 @@ some-read counts h =
 pub none-seen : (counts : List ℕ) → length counts ≤ 8 → eqb (length (seenAlleles counts)) 0 ≡ eqb (totalOf counts) 0
 none-seen counts few = same (length (seenAlleles counts)) (totalOf counts) (some-read counts) (some-seen counts few)
   where
-    none : 0 < 0 → ⊥
-    none h = omega arith
-
     same : (s t : ℕ) → (0 < s → 0 < t) → (0 < t → 0 < s) → eqb s 0 ≡ eqb t 0
     same zero zero h k = refl
-    same zero (suc t) h k = absurd (none (k (omega arith)))
-    same (suc s) zero h k = absurd (none (h (omega arith)))
+    same zero (suc t) h k = absurd (not-suc-le-zero (k (omega arith)))
+    same (suc s) zero h k = absurd (not-suc-le-zero (h (omega arith)))
     same (suc s) (suc t) h k = eqb·suc-zero s ∙ sym (eqb·suc-zero t)
 
 pub some-hypothesis : (counts : List ℕ) → length counts ≤ 8 → 0 < totalOf counts → 0 < length (hypotheses counts)

@@ -3,6 +3,7 @@ use mathlib.Core.Path.{_≡_, refl, sym, ap, _∙_, subst}
 use mathlib.Core.Bool.{Bool, true, false, not, cond}
 use mathlib.Core.List.{List}
 use Prim.Native.Nat.{ℕ, zero, suc, _+_, _*_, _^_, _≤_, _<_, zero-le}
+use native.Mathlib.Nat.{not-suc-le-zero}
 use native.Mathlib.Omega.{arith}
 use borrow.Author.Tests.{eqb-true, eqb-false}
 use lib.IntN.{pos, negsuc}
@@ -105,10 +106,7 @@ module _ (l : List Float) (n : ℕ) (some : 0 < n) (few : n ≤ 36) (given : (i 
   top-is = go n some refl
     where
       go : (m : ℕ) → 0 < m → n ≡ m → Top n top
-      go zero h e = absurd (none h)
-        where
-          none : 0 < 0 → ⊥
-          none h = omega arith
+      go zero h e = absurd (not-suc-le-zero h)
       go (suc m) h e = subst (λ (k : ℕ). Top k (topOf l k)) (sym e) (top-at m (omega arith))
 
   top-within : Within (2 ^ 47) top
@@ -139,10 +137,7 @@ module _ (l : List Float) (n : ℕ) (some : 0 < n) (few : n ≤ 36) (given : (i 
       subst (λ (z : Float). Above 0 z) (sym e) (above-add (k .not-negative) h zero-le (subst (Within (m + m)) e (within-add w (k .within) q)))
 
   sum-above : (k : ℕ) → k ≤ n → top-is .at < k → Above 0 (sumOf l top k)
-  sum-above zero h q = absurd (none (top-is .at) q)
-    where
-      none : (i : ℕ) → i < 0 → ⊥
-      none i q = omega arith
+  sum-above zero h q = absurd (not-suc-le-zero q)
   sum-above (suc k) h q = go (eqb (top-is .at) k) refl (λ r. sum-above k (omega arith) r)
     where
       so-far : Chance (0 + k * 2) (sumOf l top k)

@@ -5,7 +5,7 @@ use mathlib.Core.Bool.{Bool, true, false, not, _&&_, _||_, cond, true≢false}
 use mathlib.Core.List.{List}
 use mathlib.Mathlib.Data.Bool.Basic.{and-elim-left, and-elim-right}
 use Prim.Native.Nat.{ℕ, zero, suc, _+_, _*_, _^_, _≤_, _<_}
-use native.Mathlib.Nat.{mul-le-mul}
+use native.Mathlib.Nat.{not-suc-le-zero, mul-le-mul}
 use native.Mathlib.Omega.{arith}
 use borrow.Author.Tests.{eqb-true, eqb-false, eq-eqb}
 use lib.IntN.{pos}
@@ -159,10 +159,7 @@ module _ (p : Params) (counts : List ℕ) (ok : Accepted p counts) (g : Pair) (b
 
   -- the sum is minus infinity from such an allele on
   sunk : (l : List Float) → Tryable l → (j : ℕ) → somaticIn counts g j ≡ true → le (nat 1) (vafAt l j) ≡ true → (k : ℕ) → k ≤ n → j < k → over (gainStep l) (nat 0) k ≡ inf true
-  sunk l h j s e zero q m = absurd (none j m)
-    where
-      none : (j : ℕ) → j < 0 → ⊥
-      none j m = omega arith
+  sunk l h j s e zero q m = absurd (not-suc-le-zero m)
   sunk l h j s e (suc k) q m =
       go (eqb j k) refl (λ r. sunk l h j s e k (less k n q) r)
     where

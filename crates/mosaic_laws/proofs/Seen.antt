@@ -3,6 +3,7 @@ use mathlib.Core.Path.{_≡_, refl, sym, ap, _∙_}
 use mathlib.Core.Bool.{Bool, true, false, true≢false}
 use mathlib.Core.List.{List}
 use Prim.Native.Nat.{ℕ, zero, suc, _+_, _≤_, _<_}
+use native.Mathlib.Nat.{not-suc-le-zero}
 use native.Mathlib.Omega.{arith}
 use borrow.Author.Tests.{ltb-true, ltb-false, eqb-true, eqb-false}
 use lib.Dec.{ltb, eqb}
@@ -24,10 +25,7 @@ seen-in counts i h = go (ltb i (length counts)) refl
     go false e = absurd (true≢false (sym h ∙ unseen counts i (ltb-false i (length counts) e)))
 
 pub count-in : (counts : List ℕ) (i n : ℕ) → i < n → countAt counts i ≤ totalOver counts n
-count-in counts i zero l = absurd (none i l)
-  where
-    none : (i : ℕ) → i < 0 → ⊥
-    none i l = omega arith
+count-in counts i zero l = absurd (not-suc-le-zero l)
 count-in counts i (suc n) l = go (eqb i n) refl (λ m. count-in counts i n m)
   where
     go : (b : Bool) → eqb i n ≡ b → (i < n → countAt counts i ≤ totalOver counts n) → countAt counts i ≤ totalOver counts n + countAt counts n
@@ -39,10 +37,7 @@ count-in counts i (suc n) l = go (eqb i n) refl (λ m. count-in counts i n m)
 
 -- two counts, of unlike alleles
 pub counts-in : (counts : List ℕ) (i j n : ℕ) → i < n → j < n → (i ≡ j → ⊥) → countAt counts i + countAt counts j ≤ totalOver counts n
-counts-in counts i j zero l m d = absurd (none i l)
-  where
-    none : (i : ℕ) → i < 0 → ⊥
-    none i l = omega arith
+counts-in counts i j zero l m d = absurd (not-suc-le-zero l)
 counts-in counts i j (suc n) l m d = go (eqb i n) (eqb j n) refl refl (λ a b. counts-in counts i j n a b d)
   where
     swap : (a b c : ℕ) → b ≤ c → a + b ≤ c + a

@@ -2,6 +2,7 @@
 use mathlib.Core.Path.{_≡_, refl, sym, _∙_, subst}
 use mathlib.Core.Bool.{Bool, true, false, _&&_, cond}
 use Prim.Native.Nat.{ℕ, zero, suc, _-_, _*_, _/_, _^_, _≤_, _<_}
+use native.Mathlib.Nat.{not-suc-le-zero}
 use native.Mathlib.Omega.{arith}
 use borrow.Author.Tests.{leb-false, lt-leb}
 use lib.IntN.{pos}
@@ -221,10 +222,7 @@ unfolding forOne
 one-within n h l = within-neg (within-ln (nat n) (ofInt-fits binary64 (pos n)) (above-whole n h (omega arith) .is-positive))
 
 triangle : (n : ℕ) → 1 < n → n ≤ 8 → (0 < n * (n - 1) / 2) × (n * (n - 1) / 2 ≤ 2 ^ 53)
-triangle zero h l = absurd (none h)
-  where
-    none : 1 < 0 → ⊥
-    none h = omega arith
+triangle zero h l = absurd (not-suc-le-zero h)
 triangle (suc zero) h l = absurd (none h)
   where
     none : 1 < 1 → ⊥

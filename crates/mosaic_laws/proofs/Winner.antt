@@ -3,6 +3,7 @@ use mathlib.Core.Path.{_≡_, refl, sym, subst}
 use mathlib.Core.Bool.{Bool, true, false, not, cond}
 use mathlib.Core.List.{List}
 use Prim.Native.Nat.{ℕ, zero, suc, _<_}
+use native.Mathlib.Nat.{not-suc-le-zero}
 use native.Mathlib.Omega.{arith}
 use borrow.Author.Tests.{eqb-true, eqb-false}
 use lib.Dec.{T, eqb, lit<}
@@ -71,10 +72,7 @@ module _ (l : List Float) where
   at (suc k) = next (suc k) (winner l (suc k)) (at k)
 
   pub winner-wins : (n : ℕ) → 0 < n → LastLargest l n (winner l n)
-  winner-wins zero h = absurd (none h)
-    where
-      none : 0 < 0 → ⊥
-      none h = omega arith
+  winner-wins zero h = absurd (not-suc-le-zero h)
   winner-wins (suc k) h = at k
 
   one-at-most : (n b c : ℕ) → LastLargest l n b → LastLargest l n c → b < c → ⊥

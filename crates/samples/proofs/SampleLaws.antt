@@ -3,7 +3,7 @@ use mathlib.Core.Path.{_≡_, refl, sym, ap, _∙_}
 use mathlib.Core.Bool.{Bool, true, false, cond, _&&_, _||_}
 use mathlib.Core.List.{List, [], _∷_, map}
 use Prim.Native.Nat.{ℕ, zero, suc, _+_, _-_, _≤_, _<_}
-use native.Mathlib.Nat.{zero-add, add-zero, add-suc, suc-add}
+use native.Mathlib.Nat.{not-suc-le-zero, zero-add, add-zero, add-suc, suc-add}
 use native.Mathlib.Numerals.{add-one}
 use native.Mathlib.Omega.{arith}
 use borrow.Author.Tests.{eq-eqb, ne-eqb, eqb-true, eqb-false, le-leb, leb-true}
@@ -40,10 +40,7 @@ up-done c n h = let none : n - c ≡ 0 = omega arith in rw none
 
 -- of m numbers from f i on, the one d places further
 part-at-most : (f : ℕ → ℕ) (i m d : ℕ) → d < m → f (i + d) ≤ sum (map f (numbers i m))
-part-at-most f i zero d h = absurd (none d h)
-  where
-    none : (d : ℕ) → d < 0 → ⊥
-    none d h = omega arith
+part-at-most f i zero d h = absurd (not-suc-le-zero h)
 part-at-most f i (suc m) zero h = rw add-zero (omega arith)
 part-at-most f i (suc m) (suc d) h =
     let k : d < m = omega arith in
