@@ -1,7 +1,8 @@
 -- The genotypes of n clusters. Definitions only (RULES.md, T1).
 use Prim.Native.Nat.{ℕ, zero, suc}
-use mathlib.Core.List.{List, [], _∷_, _++_}
+use mathlib.Core.List.{List, [], _++_, map}
 use lib.ListN.{length}
+use Rattle.lists.specs.Lists.{numbers}
 use Rattle.family.specs.declared.pair.Pair.{Pair}
 
 -- the pair of two cluster numbers, as they are given
@@ -10,8 +11,7 @@ pair i j = record { low = i; high = j }
 
 -- m pairs from (i, j) on, the second number rising
 abbrev pub pairsWith : ℕ → ℕ → ℕ → List Pair
-pairsWith i j zero = []
-pairsWith i j (suc m) = pair i j ∷ pairsWith i (suc j) m
+pairsWith i j m = map (pair i) (numbers j m)
 
 -- the pairs of the m clusters from i on: (i,i), (i,i+1) .., then those from i+1 on
 abbrev pub pairsFrom : ℕ → ℕ → List Pair

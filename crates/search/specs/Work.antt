@@ -1,13 +1,13 @@
 -- Scored positions: one pass over all of them, and partial results that have some rows of them. Over any score. Definitions only (RULES.md, T5, T6, T8, D3).
 use Prim.Native.Nat.{ℕ, zero, suc, _*_, _/_, _^_}
 use mathlib.Core.Bool.{Bool, not, cond}
-use mathlib.Core.List.{List, [], _∷_}
+use mathlib.Core.List.{List, [], _∷_, map}
 use mathlib.Core.Path.{_≡_}
 use lib.Bits.{bitOr}
 use lib.Dec.{T, eqb}
 use lib.Ieee.{Float}
 use lib.Signed.{ltZ}
-use Rattle.lists.specs.Lists.{passing}
+use Rattle.lists.specs.Lists.{numbers, passing}
 use Rattle.entries.specs.declared.entry.Entry.{Entry}
 use Rattle.entries.specs.Held.{mergedHeld}
 use Rattle.marks.specs.Marks.{fullMarks}
@@ -42,8 +42,7 @@ module _ (score : ℕ → Float) where
 
   -- the entries at n positions from p on, rising
   abbrev pub entriesFrom : ℕ → ℕ → List Entry
-  entriesFrom p zero = []
-  entriesFrom p (suc n) = entryAt p ∷ entriesFrom (suc p) n
+  entriesFrom p n = map entryAt (numbers p n)
 
 -- ---- partial results
 
