@@ -19,12 +19,12 @@ use Rattle.refusals.specs.declared.Refusal.the-variants.{Done, Row, OtherTrio, 
 use Rattle.refusals.specs.Refusals.{numberOf}
 use Rattle.entries.specs.declared.entry.Entry.{Entry}
 use Rattle.entries.specs.Best.{In}
-use Rattle.entries.specs.Held.{heldOf, heldList, fresh, mergedHeld}
+use Rattle.entries.specs.Held.{heldOf, heldList, mergedHeld}
 use Rattle.marks.specs.Marks.{isMarked, markCount, fullMarks}
 use Rattle.entries.specs.Rank.{beatsOf}
 use Rattle.search.specs.Shape.{inMarked, workRight}
 use Rattle.search.specs.Work.{Work, IsEntry, joined, rowWork, wholeWork, Within}
-use Rattle.entries.proofs.HeldLaws.{in-use-back, all-kept-whole}
+use Rattle.entries.proofs.HeldLaws.{in-use-back, merged-fits}
 use Rattle.marks.proofs.MarksLaws.{unmarked-above}
 use Rattle.lists.specs.Lists.{numbers}
 use Rattle.search_laws.specs.Sound.{workedAll}
@@ -165,7 +165,7 @@ module _ (p : Part) (right : rightPart p ≡ true) (eight : length (p .weights) 
   -- two entries at most
   again-fits : (k : ℕ) → heldList (heldOf (again k .held)) ≡ again k .held
   again-fits zero = in-use-back (p .held .count) (p .held .first) (p .held .second)
-  again-fits (suc k) = subst (λ (v : Work). heldList (heldOf (v .held)) ≡ v .held) (again-next k) (all-kept-whole (fresh (again k .held) (rowAlone k .held)) (again k .held) (again-fits k))
+  again-fits (suc k) = subst (λ (v : Work). heldList (heldOf (v .held)) ≡ v .held) (again-next k) (merged-fits (again k .held) (rowAlone k .held))
 
   -- the first k rows worked, step by step, with none refused
   abbrev Reached : ℕ → Type 0
@@ -240,7 +240,7 @@ forged-lies =
 
 -- working all its rows again leaves it as it is, since where both sides of a merge hold a position its own entry counts
 pub reworking-keeps-lies : workedTo forged (rowsIn forged) ≡ forged
-unfolding rowsIn genotypeCount beatsOf keyOf toBits ofInt isNan forged
+unfolding rowsIn genotypeCount beatsOf keyOf toBits ofInt isNan forged mergedHeld
 reworking-keeps-lies =
     rw forged-right
     (all-reached forged forged-right refl .0

@@ -116,20 +116,21 @@ fn offer_fresh(h: Held, own: Held, e: Entry) -> Held
     offer(h, e)
 }
 
-// The same entries, unused places zero.
+// The same entries, the better one first, of two at one position the first, unused places zero.
 fn tidy(h: Held) -> Held
-    ensures { λ r. ⌜ r ≡ heldOf (heldList h) ⌝ }
+    ensures { λ r. ⌜ r ≡ heldOf (mergedHeld (heldList h) []) ⌝ }
 {
     let n = h.count;
-    let first = h.first;
-    let second = h.second;
     if n == 0 {
         return Held::nothing();
     }
+    let first = h.first;
+    let alone = one(first);
     if n == 1 {
-        return one(first);
+        return alone;
     }
-    two(first, second)
+    let second = h.second;
+    offer_fresh(alone, alone, second)
 }
 
 // The best two by distinct position over both; at a shared position the entry of `a` stays.
@@ -137,15 +138,16 @@ pub fn merge_held(a: Held, b: Held) -> Held
     ensures { λ r. ⌜ r ≡ heldOf (mergedHeld (heldList a) (heldList b)) ⌝ }
 {
     let own = tidy(a);
-    let n = b.count;
+    let given = tidy(b);
+    let n = given.count;
     if n == 0 {
         return own;
     }
-    let first = b.first;
+    let first = given.first;
     let more = offer_fresh(own, own, first);
     if n == 1 {
         return more;
     }
-    let second = b.second;
+    let second = given.second;
     offer_fresh(more, own, second)
 }

@@ -1,6 +1,6 @@
 -- Lists that the rules of several crates are said over. Definitions only.
 use Prim.Native.Nat.{ℕ, zero, suc, _-_}
-use mathlib.Core.Bool.{Bool, cond}
+use mathlib.Core.Bool.{Bool, not, cond}
 use mathlib.Core.List.{List, [], _∷_, _++_}
 use lib.ListN.{length, replicate}
 
@@ -13,6 +13,11 @@ numbers i (suc n) = i ∷ numbers (suc i) n
 abbrev pub passing : {A : Type 0} → (A → Bool) → List A → List A
 passing t [] = []
 passing t (x ∷ l) = cond (t x) (x ∷ passing t l) (passing t l)
+
+-- each member of a list once: of those that a test calls the same the first stays
+abbrev pub distinctBy : {A : Type 0} → (A → A → Bool) → List A → List A
+distinctBy same [] = []
+distinctBy same (x ∷ l) = x ∷ passing (λ y. not (same x y)) (distinctBy same l)
 
 -- a list in n places, what is left of them filled with d; one that is longer stays as it is
 abbrev pub padded : {A : Type 0} → ℕ → A → List A → List A

@@ -5,7 +5,7 @@ use mathlib.Core.List.{List, [], _∷_, _++_}
 use lib.Dec.{eqb, leb}
 use lib.ListN.{length, take}
 use lib.Ieee.{Float}
-use Rattle.lists.specs.Lists.{passing}
+use Rattle.lists.specs.Lists.{passing, distinctBy}
 use Rattle.floats.specs.F64.{_⊘_, nat, decimal}
 use Rattle.kernels.specs.Ln.{lnOf}
 use Rattle.family.specs.declared.pair.Pair.{Pair}
@@ -30,8 +30,7 @@ withoutPair p l = passing (λ q. not (samePair p q)) l
 
 -- each pair of a list once, where it first stands
 abbrev pub distinct : List Pair → List Pair
-distinct [] = []
-distinct (p ∷ l) = p ∷ withoutPair p (distinct l)
+distinct l = distinctBy samePair l
 
 -- the different pairs of one allele of the father and one of the mother; d is their number
 unfoldable pub childPairs : Pair → Pair → List Pair

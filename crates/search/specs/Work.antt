@@ -1,34 +1,28 @@
 -- Scored positions: one pass over all of them, and partial results that have some rows of them. Over any score. Definitions only (RULES.md, T5, T6, T8, D3).
-use Prim.Native.Nat.{ℕ, zero, suc, _*_, _/_, _^_}
-use mathlib.Core.Bool.{Bool, not, cond}
-use mathlib.Core.List.{List, [], _∷_, map}
+use Prim.Native.Nat.{ℕ, _*_, _/_, _^_}
+use mathlib.Core.Bool.{Bool, not}
+use mathlib.Core.List.{List, [], map}
 use mathlib.Core.Path.{_≡_}
 use lib.Bits.{bitOr}
-use lib.Dec.{T, eqb}
+use lib.Dec.{T}
 use lib.Ieee.{Float}
 use lib.Signed.{ltZ}
-use Rattle.lists.specs.Lists.{numbers, passing}
+use Rattle.lists.specs.Lists.{numbers}
 use Rattle.entries.specs.declared.entry.Entry.{Entry}
 use Rattle.entries.specs.Held.{mergedHeld}
+use Rattle.entries.specs.Kept.{kept}
 use Rattle.marks.specs.Marks.{fullMarks}
 use Rattle.floats.specs.Key.{keyOf}
 
 -- ---- one pass
 
--- b, the kept entry, once the list has been passed: a larger key replaces it, and so does a later equal one
-abbrev pub passed : Entry → List Entry → Entry
-passed b [] = b
-passed b (e ∷ l) = passed (cond (ltZ (keyOf (e .score)) (keyOf (b .score))) b e) l
+-- a larger key replaces the one kept so far, and so does a later equal one
+abbrev pub notBelow : Entry → Entry → Bool
+notBelow e b = not (ltZ (keyOf (e .score)) (keyOf (b .score)))
 
--- the entries that are not at position p
-abbrev pub without : ℕ → List Entry → List Entry
-without p l = passing (λ e. not (eqb (e .position) p)) l
-
--- what one pass keeps, then what a pass over the rest keeps, and so on, k in all
+-- the best k, as one pass for each keeps them
 abbrev pub onePass : ℕ → List Entry → List Entry
-onePass zero l = []
-onePass (suc k) [] = []
-onePass (suc k) (e ∷ l) = passed e l ∷ onePass k (without (passed e l .position) (e ∷ l))
+onePass k l = kept notBelow k l
 
 -- ---- rows
 

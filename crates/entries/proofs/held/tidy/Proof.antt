@@ -1,7 +1,13 @@
--- `entries::held::tidy` meets its contract. By the count.
-use mathlib.Core.Path.{_∙_}
+-- `entries::held::tidy` meets its contract. By the count; a second entry is offered where its position is its own.
+use mathlib.Core.Bool.{cond}
+use mathlib.Core.Path.{sym, ap, _∙_}
 use borrow.Author.Needs.{needs}
-use Rattle.entries.proofs.HeldLaws.{tidy-two}
+use Rattle.entries.specs.declared.held.Held.{Held}
+use Rattle.entries.specs.Best.{offered}
+use Rattle.entries.specs.Rank.{beatsOf}
+use Rattle.entries.specs.Held.{heldOf, heldList, holdsAt}
+use Rattle.entries.proofs.MergedLaws.{alone-kept}
+use Rattle.entries.proofs.HeldLaws.{tidy-none, tidy-two}
 use Rattle.entries.proofs.held.tidy.Statement.{statement}
 use Rattle.entries.proofs.held.tidy.Tie as tie
 
@@ -9,22 +15,27 @@ nothing-requires : tie.Need-nothing-requires
 nothing-requires c κs = search needs
 
 returns : tie.Need-returns
-returns c = rw (c .before .if1 .taken) (c .nothing .ensures)
+returns c = rw (c .before .if1 .taken) (c .nothing .ensures ∙ tidy-none)
 
 one-requires : tie.Need-one-requires
 one-requires c κs = search needs
 
 returns-2 : tie.Need-returns-2
-returns-2 c = rw (c .before .if2 .taken) (c .one .ensures)
+returns-2 c =
+    let a = c .before .before .before .before .args in
+    rw (c .if2 .taken) (c .before .one .ensures ∙ ap heldOf (sym (alone-kept (a .h .first))))
 
-two-requires : tie.Need-two-requires
-two-requires c κs = search needs
+offer-fresh-requires : tie.Need-offer-fresh-requires
+offer-fresh-requires c κs = search needs
 
 returns-3 : tie.Need-returns-3
 returns-3 c =
-    let a = c .before .before .before .before .before .args in
-    c .two .ensures ∙ tidy-two (a .h .count) (a .h .first) (a .h .second) (c .before .before .if1 .left) (c .before .if2 .left)
+    let a = c .before .before .before .before .before .before .args in
+    let s = a .h .second in
+    c .offer-fresh .ensures
+    ∙ ap (λ (o : Held). cond (holdsAt (heldList o) (s .position)) o (heldOf (offered beatsOf 2 s (heldList o)))) (c .before .before .before .one .ensures)
+    ∙ tidy-two (a .h .count) (a .h .first) s (c .before .before .before .before .before .if1 .left) (c .before .before .if2 .left)
 
 pub tidy-spec : {M : Type 1} → statement M
 tidy-spec =
-    tie.close (tie.spec nothing-requires returns one-requires returns-2 two-requires returns-3)
+    tie.close (tie.spec nothing-requires returns one-requires returns-2 offer-fresh-requires returns-3)
