@@ -8,9 +8,9 @@ use Rattle.floats.specs.F64.{nat}
 use Rattle.floats.specs.Within.{Within, Above}
 use Rattle.floats.proofs.Bounds.{within-div}
 use Rattle.kernels.specs.Ln.{lnOf}
-use Rattle.kernels.specs.Log10.{log10Of}
+use Rattle.tens.specs.Log10.{log10Of}
 use Rattle.bounds.proofs.LnBounds.{within-ln}
-use Rattle.kernels.proofs.Log10Laws.{ln-ten}
+use Rattle.tens.proofs.Log10Laws.{ln-ten}
 
 -- ln 10 is 1 at least
 ln-ten-above : Above 0 (lnOf (nat 10))

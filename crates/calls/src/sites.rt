@@ -4,7 +4,7 @@ use crate::mosaic_site::mosaic;
 use crate::trio_site::trio;
 use reading::fields::field;
 use reading::fields::next_field;
-use reading::names::packed;
+use names::names::packed;
 
 pub const TAB: u8 = b'\t';
 

@@ -18,7 +18,7 @@ use Rattle.floats.proofs.Bounds.{within-more}
 use Rattle.bounds.proofs.ExpBounds.{exp-of-zero}
 use Rattle.kernels.specs.Ln.{lnNearOne, lnParts, lnReduced, lnPositive, lnOf}
 use Rattle.kernels.specs.Exp.{expOf}
-use Rattle.kernels.specs.Log10.{log10Of, pow10Of}
+use Rattle.tens.specs.Log10.{log10Of, pow10Of}
 use Rattle.refusals.specs.declared.Refusal.the-variants.{Done, Model as BadModel, Table}
 use Rattle.models.specs.declared.model.Mode.{Mode}
 use Rattle.models.specs.declared.model.Mode.the-variants.{Beta, Bino, Phased}

@@ -8,7 +8,7 @@ use lib.Ieee.{Float, round, mul, lt, ofInt}
 use lib.Ieee.Scale.{finite}
 use Rattle.floats.specs.F64.{_⊖_, _⊗_}
 use Rattle.floats.proofs.Ranges.{le-not-lt}
-use Rattle.kernels.specs.Log10.{pow10Of}
+use Rattle.tens.specs.Log10.{pow10Of}
 use Rattle.qualities.specs.declared.scores.Scores.{Scores}
 use Rattle.qualities.specs.Order.{Pick, IsMax, IsMin, larger, smaller, absolute}
 use Rattle.scores.specs.Scores.{EachScore}

@@ -17,8 +17,8 @@ use Rattle.floats.proofs.Rounded.{clear}
 use Rattle.floats.proofs.Bounds.{within-number, within-more, within-add, within-sub, within-mul, within-div, above-add}
 use Rattle.kernels.specs.Ln.{lnOf}
 use Rattle.kernels.specs.Exp.{expOf}
-use Rattle.kernels.specs.Log10.{log10Of, pow10Of}
-use Rattle.kernels.proofs.Log10Laws.{ln-ten}
+use Rattle.tens.specs.Log10.{log10Of, pow10Of}
+use Rattle.tens.proofs.Log10Laws.{ln-ten}
 use Rattle.bounds.proofs.Log10Bounds.{within-log10}
 use Rattle.bounds.proofs.ExpBounds.{exp-within, exp-of-zero}
 use Rattle.qualities.specs.declared.scores.Scores.{Scores}

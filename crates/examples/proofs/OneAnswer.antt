@@ -9,8 +9,8 @@ use Rattle.floats.proofs.key.below.Reads as below
 use Rattle.floats.proofs.bits.bits.Reads as bits
 use Rattle.kernels.proofs.ln.ln.Reads as ln
 use Rattle.kernels.proofs.exp.exp.Reads as exp
-use Rattle.kernels.proofs.log10.log10.Reads as log10
-use Rattle.kernels.proofs.log10.pow10.Reads as pow10
+use Rattle.tens.proofs.log10.log10.Reads as log10
+use Rattle.tens.proofs.log10.pow10.Reads as pow10
 use Rattle.gammas.proofs.gamma.ln_gamma.Reads as ln-gamma
 use Rattle.gammas.proofs.binomial.ln_choose.Reads as ln-choose
 use Rattle.gammas.proofs.binomial.ln_pmf_by.Reads as ln-pmf-by
@@ -84,7 +84,7 @@ use Rattle.triples.proofs.score.score_at.Reads as score-at
 use Rattle.reading.proofs.fields.field_end.Reads as field-end
 use Rattle.reading.proofs.fields.field.Reads as field
 use Rattle.reading.proofs.fields.next_field.Reads as next-field
-use Rattle.reading.proofs.names.packed.Reads as packed
+use Rattle.names.proofs.names.packed.Reads as packed
 use Rattle.numerals.proofs.wholes.read_whole.Reads as read-whole
 use Rattle.decimals.proofs.decimals.read_decimal.Reads as read-decimal
 use Rattle.figures.proofs.figures.hundredths.Reads as hundredths

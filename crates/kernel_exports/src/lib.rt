@@ -5,7 +5,7 @@ ghost use Rattle.gammas.specs.Binomial.{lnPmf};
 ghost use Rattle.kernels.specs.Exp.{expOf};
 ghost use Rattle.gammas.specs.Gamma.{lnGammaOf};
 ghost use Rattle.kernels.specs.Ln.{lnOf};
-ghost use Rattle.kernels.specs.Log10.{log10Of, pow10Of};
+ghost use Rattle.tens.specs.Log10.{log10Of, pow10Of};
 ghost use Rattle.stirlings.specs.Stirling.{stirlingOf};
 
 // The natural logarithm.
@@ -29,7 +29,7 @@ pub extern "C" fn admulfas_exp(x: f64) -> f64
 pub extern "C" fn admulfas_log10(x: f64) -> f64
     ensures { λ r. ⌜ r ≡ log10Of x ⌝ }
 {
-    kernels::log10::log10(x)
+    tens::log10::log10(x)
 }
 
 // Ten to the y.
@@ -37,7 +37,7 @@ pub extern "C" fn admulfas_log10(x: f64) -> f64
 pub extern "C" fn admulfas_pow10(y: f64) -> f64
     ensures { λ r. ⌜ r ≡ pow10Of y ⌝ }
 {
-    kernels::log10::pow10(y)
+    tens::log10::pow10(y)
 }
 
 // The full log gamma.

@@ -3,4 +3,3 @@ pub mod LnLaws
 pub mod Nearest
 pub mod ExpPower
 pub mod ExpSteps
-pub mod Log10Laws

@@ -1,4 +1,3 @@
 // The f64 kernels. Each contract says the result at every argument.
 pub mod exp;
 pub mod ln;
-pub mod log10;

@@ -17,7 +17,7 @@ use Rattle.floats.proofs.Floats.{positive-by-test}
 use Rattle.floats.proofs.Bounds.{within-number, within-more, within-whole, within-add, within-sub, within-mul, within-div, above-whole, above-add}
 use Rattle.floats.proofs.Differences.{less-itself, add-either}
 use Rattle.kernels.specs.Ln.{lnOf}
-use Rattle.kernels.specs.Log10.{log10Of, pow10Of}
+use Rattle.tens.specs.Log10.{log10Of, pow10Of}
 use Rattle.bounds.proofs.Log10Bounds.{within-log10}
 use Rattle.diploid_laws.proofs.Signs.{lt-itself, lt-not-back, not-below-trans, difference-not-above, not-below-add}
 use Rattle.diploid_laws.proofs.QualityBounds.{one-above, pow10-within, pow10-zero, ten-above, smaller-zero}

@@ -8,7 +8,7 @@ use lib.ListN.{getD, replicate}
 use lib.Ieee.{Float, nan, inf, lt}
 use Rattle.floats.specs.F64.{_⊕_, _⊖_, _⊗_, _⊘_, nat, whole}
 use Rattle.kernels.specs.Ln.{lnOf}
-use Rattle.kernels.specs.Log10.{log10Of, pow10Of}
+use Rattle.tens.specs.Log10.{log10Of, pow10Of}
 use Rattle.qualities.specs.Order.{larger, smaller}
 use Rattle.lists.specs.Over.{over, placed}
 

@@ -4,7 +4,7 @@ use lib.Ieee.{Float}
 use Rattle.floats.specs.F64.{_⊕_, _⊖_, _⊗_, _⊘_, whole, nat}
 use Rattle.floats.specs.Within.{Within, NotBelow}
 use Rattle.kernels.specs.Ln.{lnOf}
-use Rattle.kernels.specs.Log10.{log10Of, pow10Of}
+use Rattle.tens.specs.Log10.{log10Of, pow10Of}
 use Rattle.qualities.specs.declared.scores.Scores.{Scores}
 use Rattle.qualities.specs.declared.quality.Quals.{Quals}
 use Rattle.qualities.specs.Order.{Pick, larger, smaller, absolute}

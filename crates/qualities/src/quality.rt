@@ -6,9 +6,9 @@ use crate::order::abs;
 use crate::order::max;
 use crate::order::min;
 use crate::scores::Scores;
-use kernels::log10::LN_TEN;
-use kernels::log10::log10;
-use kernels::log10::pow10;
+use tens::log10::LN_TEN;
+use tens::log10::log10;
+use tens::log10::pow10;
 
 pub struct Quals {
     pub gq: f64,

@@ -1,3 +1,2 @@
 -- The laws of `reading`.
 pub mod FieldLaws
-pub mod NameLaws

@@ -1,3 +1,2 @@
--- The definitions of `reading`: fields, names.
+-- The definitions of `reading`: fields.
 pub mod Fields
-pub mod Names

@@ -1,3 +1,2 @@
-// Text in: the fields of a line, names.
+// Text in: the fields of a line.
 pub mod fields;
-pub mod names;

@@ -18,8 +18,8 @@ fn value(kernel: Kernel, x: f64) -> f64 {
     match kernel {
         Kernel::Ln => kernels::ln::ln(x),
         Kernel::Exp => kernels::exp::exp(x),
-        Kernel::Log10 => kernels::log10::log10(x),
-        Kernel::Pow10 => kernels::log10::pow10(x),
+        Kernel::Log10 => tens::log10::log10(x),
+        Kernel::Pow10 => tens::log10::pow10(x),
         Kernel::Lgamma => gammas::gamma::ln_gamma(x),
         Kernel::Stirling => stirlings::stirling::stirling(x),
     }

@@ -14,7 +14,7 @@ use crate::write::Out;
 use crate::write::Text;
 use reading::fields::field;
 use reading::fields::next_field;
-use reading::names::packed;
+use names::names::packed;
 
 // The names, as `packed` has them: their bytes in ASCII.
 const LN: u64 = 0x6c6e;

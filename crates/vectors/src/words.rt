@@ -3,7 +3,7 @@ use numerals::wholes::Whole;
 use numerals::wholes::read_whole;
 use reading::fields::field;
 use reading::fields::next_field;
-use reading::names::packed;
+use names::names::packed;
 
 // What parts two words.
 pub const SPACE: u8 = b' ';

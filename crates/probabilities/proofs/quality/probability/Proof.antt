@@ -1,6 +1,6 @@
 -- `probabilities::quality::probability` meets its contract. Assumes nothing.
 use lib.Ieee.{ofInt, ofBits}
-use Rattle.kernels.proofs.Log10Laws.{ln-ten}
+use Rattle.tens.proofs.Log10Laws.{ln-ten}
 use Rattle.probabilities.specs.Quality.{probabilityOf}
 use borrow.Author.Needs.{needs}
 use Rattle.probabilities.proofs.quality.probability.Statement.{statement}

@@ -2,7 +2,7 @@
 use mathlib.Core.Path.{_≡_, refl, ap, _∙_}
 use Prim.Native.Nat.{_≤_, _-_}
 use lib.Ieee.{div, neg, round, ofBits}
-use Rattle.kernels.proofs.Log10Laws.{ln-ten}
+use Rattle.tens.proofs.Log10Laws.{ln-ten}
 use Rattle.probabilities.specs.Quality.{topOf}
 use borrow.Author.Needs.{needs}
 use native.Mathlib.Omega.{arith}

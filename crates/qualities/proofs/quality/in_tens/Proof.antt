@@ -1,5 +1,5 @@
 -- `qualities::quality::in_tens` meets its contract: the code's constant is ln 10. Assumes nothing.
-use Rattle.kernels.proofs.Log10Laws.{ln-ten}
+use Rattle.tens.proofs.Log10Laws.{ln-ten}
 use Rattle.qualities.specs.Quality.{inTens}
 use Rattle.qualities.proofs.quality.in_tens.Statement.{statement}
 use Rattle.qualities.proofs.quality.in_tens.Tie as tie

@@ -12,7 +12,7 @@ use lib.ListN.{length, getD, drop, drop-of-length-le}
 use Rattle.lists.proofs.PlaceLaws.{drop-next}
 use Rattle.lists.specs.Every.{every}
 use Rattle.lists.proofs.EveryLaws.{every-more, every-bad, every-end}
-use Rattle.reading.specs.Names.{notZero, packedFrom, packedOf}
+use Rattle.names.specs.Names.{notZero, packedFrom, packedOf}
 
 pub packed-long : (l : List ℕ) → 8 < length l → 0 ≡ packedOf l
 unfolding packedOf

@@ -1,6 +1,6 @@
 // Names as numbers, so that a name can be matched on.
 ghost use mathlib.Core.Path.{_≡_};
-ghost use Rattle.reading.specs.Names.{packedOf};
+ghost use Rattle.names.specs.Names.{packedOf};
 
 // The cast of a parameter asks nothing, where that of an element asks that it fits.
 fn wide(b: u8) -> u64

@@ -1,12 +1,12 @@
--- `reading::names::packed` meets its contract. The loop's invariant: the bytes so far make the number, and what is left decides. Assumes nothing.
+-- `names::names::packed` meets its contract. The loop's invariant: the bytes so far make the number, and what is left decides. Assumes nothing.
 use mathlib.Core.Path.{refl}
 use native.Mathlib.Omega.{arith}
 use Prim.Native.Nat.{_-_}
 use borrow.Author.Needs.{needs}
 use lib.ListN.{length}
-use Rattle.reading.proofs.NameLaws.{Packing, packed-long, packed-fits, packed-on, packed-no, packed-end}
-use Rattle.reading.proofs.names.packed.Statement.{statement}
-use Rattle.reading.proofs.names.packed.Tie as tie
+use Rattle.names.proofs.NameLaws.{Packing, packed-long, packed-fits, packed-on, packed-no, packed-end}
+use Rattle.names.proofs.names.packed.Statement.{statement}
+use Rattle.names.proofs.names.packed.Tie as tie
 
 abbrev Inv-loop : tie.InvT-loop
 Inv-loop name n₀ i₀ n i = Packing name n i

@@ -1,8 +1,8 @@
 // The decimal logarithm, and ten to the y (docs/RULES.md, K5).
 ghost use mathlib.Core.Path.{_≡_};
-ghost use Rattle.kernels.specs.Log10.{log10Of, pow10Of};
-use crate::exp::exp;
-use crate::ln::ln;
+ghost use Rattle.tens.specs.Log10.{log10Of, pow10Of};
+use kernels::exp::exp;
+use kernels::ln::ln;
 
 // ln 10, as `ln` has it.
 pub const LN_TEN: f64 = 2.302585092994046;

@@ -1,0 +1,2 @@
+-- The laws of `names`.
+pub mod NameLaws

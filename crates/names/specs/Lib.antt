@@ -1,0 +1,2 @@
+-- The definition that the contract of `names` cites.
+pub mod Names

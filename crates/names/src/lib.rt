@@ -1,0 +1,2 @@
+// Text in: names as numbers.
+pub mod names;

@@ -1,0 +1,2 @@
+-- The definitions that the contracts of `tens` cite.
+pub mod Log10
