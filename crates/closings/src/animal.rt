@@ -4,7 +4,7 @@ ghost use Rattle.closings.specs.Animal.{sampleStep};
 use family::pair::Pair;
 use family::sample::Sample;
 use parts::part::Part;
-use parts::shape::right_part;
+use shapes::shape::right_part;
 use refusals::Refusal;
 use samples::samples::compute_log_likelihood;
 

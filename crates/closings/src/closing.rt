@@ -11,7 +11,7 @@ use family::sample::Sample;
 use floats::key::key;
 use marks::marks::all_marked;
 use parts::part::Part;
-use parts::shape::right_part;
+use shapes::shape::right_part;
 use refusals::Refusal;
 use samples::samples::column_total;
 use triples::genotypes::triple_of;

@@ -43,8 +43,8 @@ use Rattle.family.proofs.sample.sample_number.Reads as sample-number
 use Rattle.samples.proofs.samples.column_total.Reads as column-total
 use Rattle.samples.proofs.samples.compute_log_likelihood.Reads as compute-log-likelihood
 use Rattle.parts.proofs.part.Part.empty.Reads as part-empty
-use Rattle.parts.proofs.shape.right_part.Reads as right-part
-use Rattle.parts.proofs.shape.same_input.Reads as same-input
+use Rattle.shapes.proofs.shape.right_part.Reads as right-part
+use Rattle.inputs.proofs.input.same_input.Reads as same-input
 use Rattle.closings.proofs.animal.sample_score.Reads as sample-score
 use Rattle.opening.proofs.opening.open_part.Reads as open-part
 use Rattle.trio.proofs.rows.row_count.Reads as row-count

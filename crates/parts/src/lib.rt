@@ -1,3 +1,2 @@
-// Partial results of a trio's search: what they carry, and their right shape.
+// Partial results of a trio's search: what they carry.
 pub mod part;
-pub mod shape;

@@ -6,8 +6,8 @@ ghost use Rattle.trio.specs.Steps.{mergeStep};
 use entries::held::merge_held;
 use parts::part::Part;
 use parts::part::Stepped;
-use parts::shape::right_part;
-use parts::shape::same_input;
+use shapes::shape::right_part;
+use inputs::input::same_input;
 use refusals::Refusal;
 
 // The input of `a`, with the work of both.

@@ -14,7 +14,7 @@ use family::genotypes::genotype_count;
 use marks::marks::row_marked;
 use parts::part::Part;
 use parts::part::Stepped;
-use parts::shape::right_part;
+use shapes::shape::right_part;
 use refusals::Refusal;
 use triples::score::score_at;
 

@@ -1,10 +1,10 @@
--- `parts::shape::same_input` meets its contract. By each test in turn.
+-- `inputs::input::same_input` meets its contract. By each test in turn.
 use mathlib.Core.Path.{sym, _∙_}
 use borrow.Author.Tests.{eq-eqb, ne-eqb}
 use Rattle.parts.specs.Part.{sameInput}
 use borrow.Author.Needs.{needs}
-use Rattle.parts.proofs.shape.same_input.Statement.{statement}
-use Rattle.parts.proofs.shape.same_input.Tie as tie
+use Rattle.inputs.proofs.input.same_input.Statement.{statement}
+use Rattle.inputs.proofs.input.same_input.Tie as tie
 
 returns : tie.Need-returns
 unfolding sameInput

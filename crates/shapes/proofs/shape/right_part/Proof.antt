@@ -1,4 +1,4 @@
--- `parts::shape::right_part` meets its contract. By each test in turn.
+-- `shapes::shape::right_part` meets its contract. By each test in turn.
 use Prim.Native.Nat.{ℕ, _*_}
 use mathlib.Core.Bool.{true}
 use mathlib.Core.Path.{_≡_, sym, ap, _∙_}
@@ -7,9 +7,9 @@ use borrow.Author.Tests.{le-leb, lt-leb}
 use lib.Dec.{leb}
 use Rattle.search.specs.Shape.{workRight}
 use Rattle.limits.specs.Limits.{countAllowed}
 use Rattle.parts.specs.Part.{noCount, placesRight, inputRight, rightPart}
-use Rattle.parts.proofs.shape.right_part.Statement.{statement}
-use Rattle.parts.proofs.shape.right_part.Tie as tie
+use Rattle.shapes.proofs.shape.right_part.Statement.{statement}
+use Rattle.shapes.proofs.shape.right_part.Tie as tie
 
 -- ---- what is known past each test
 

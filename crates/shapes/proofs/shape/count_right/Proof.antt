@@ -1,7 +1,7 @@
--- `parts::shape::count_right` meets its contract. By the flag.
+-- `shapes::shape::count_right` meets its contract. By the flag.
 use borrow.Author.Needs.{needs}
-use Rattle.parts.proofs.shape.count_right.Statement.{statement}
-use Rattle.parts.proofs.shape.count_right.Tie as tie
+use Rattle.shapes.proofs.shape.count_right.Statement.{statement}
+use Rattle.shapes.proofs.shape.count_right.Tie as tie
 
 count-allowed-requires : tie.Need-count-allowed-requires
 count-allowed-requires c κs = search needs

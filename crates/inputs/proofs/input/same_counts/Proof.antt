@@ -1,13 +1,13 @@
--- `parts::shape::same_counts` meets its contract. The loop's invariant: what is left of the two lists decides.
+-- `inputs::input::same_counts` meets its contract. The loop's invariant: what is left of the two lists decides.
 use Prim.Native.Nat.{_≤_, _-_}
 use mathlib.Core.Path.{_≡_, _∙_}
 use lib.ListN.{length, drop}
 use Rattle.parts.specs.Part.{sameNumbers}
-use Rattle.parts.proofs.SameLaws.{same-differ, same-more, same-end}
+use Rattle.inputs.proofs.SameLaws.{same-differ, same-more, same-end}
 use borrow.Author.Needs.{needs}
 use native.Mathlib.Omega.{arith}
-use Rattle.parts.proofs.shape.same_counts.Statement.{statement}
-use Rattle.parts.proofs.shape.same_counts.Tie as tie
+use Rattle.inputs.proofs.input.same_counts.Statement.{statement}
+use Rattle.inputs.proofs.input.same_counts.Tie as tie
 
 abbrev Inv-loop : tie.InvT-loop
 Inv-loop a b i₀ i = (i ≤ 24) × (sameNumbers (drop i a) (drop i b) ≡ sameNumbers a b)

@@ -1,12 +1,12 @@
--- `parts::shape::weight_right` meets its contract. By the flag.
+-- `shapes::shape::weight_right` meets its contract. By the flag.
 use Prim.Native.Nat.{ℕ}
 use mathlib.Core.Path.{ap}
 use lib.Dec.{eqb}
 use lib.Ieee.{round, ofInt, ofBits}
 use borrow.Author.Needs.{needs}
 use Rattle.parts.specs.Part.{weightAllowed}
-use Rattle.parts.proofs.shape.weight_right.Statement.{statement}
-use Rattle.parts.proofs.shape.weight_right.Tie as tie
+use Rattle.shapes.proofs.shape.weight_right.Statement.{statement}
+use Rattle.shapes.proofs.shape.weight_right.Tie as tie
 
 in-range-requires : tie.Need-in-range-requires
 in-range-requires c κs = search needs

@@ -1,15 +1,15 @@
--- `parts::shape::same_weights` meets its contract. The loop's invariant: what is left of the two lists of bits decides.
+-- `inputs::input::same_weights` meets its contract. The loop's invariant: what is left of the two lists of bits decides.
 use Prim.Native.Nat.{ℕ, _≤_, _-_}
 use mathlib.Core.List.{List, map}
 use mathlib.Core.Path.{_≡_, sym, _∙_}
 use lib.Ieee.{Float, binary64, toBits, nan}
 use lib.ListN.{length, drop, length-map, List·getD-map}
 use Rattle.parts.specs.Part.{sameNumbers}
-use Rattle.parts.proofs.SameLaws.{same-differ, same-more, same-end}
+use Rattle.inputs.proofs.SameLaws.{same-differ, same-more, same-end}
 use borrow.Author.Needs.{needs}
 use native.Mathlib.Omega.{arith}
-use Rattle.parts.proofs.shape.same_weights.Statement.{statement}
-use Rattle.parts.proofs.shape.same_weights.Tie as tie
+use Rattle.inputs.proofs.input.same_weights.Statement.{statement}
+use Rattle.inputs.proofs.input.same_weights.Tie as tie
 
 abbrev bitsOf : List Float → List ℕ
 bitsOf l = map (toBits binary64) l

@@ -1,15 +1,15 @@
--- `parts::shape::weights_right` meets its contract. The loop's invariant: what is left of the list decides.
+-- `shapes::shape::weights_right` meets its contract. The loop's invariant: what is left of the list decides.
 use Prim.Native.Nat.{ℕ, _≤_, _-_}
 use mathlib.Core.Path.{_≡_, sym, ap, _∙_}
 use native.Mathlib.Nat.{sub-zero}
 use lib.Ieee.{nan}
 use lib.ListN.{length, drop}
 use Rattle.parts.specs.Part.{weightAllowed, noWeight, placesRight}
-use Rattle.parts.proofs.PlacesLaws.{places-more, places-bad, places-end}
+use Rattle.shapes.proofs.PlacesLaws.{places-more, places-bad, places-end}
 use borrow.Author.Needs.{needs}
 use native.Mathlib.Omega.{arith}
-use Rattle.parts.proofs.shape.weights_right.Statement.{statement}
-use Rattle.parts.proofs.shape.weights_right.Tie as tie
+use Rattle.shapes.proofs.shape.weights_right.Statement.{statement}
+use Rattle.shapes.proofs.shape.weights_right.Tie as tie
 
 abbrev Inv-loop : tie.InvT-loop
 Inv-loop used weights i₀ i = (i ≤ 8) × (placesRight weightAllowed noWeight (used - i) (drop i weights) ≡ placesRight weightAllowed noWeight used weights)

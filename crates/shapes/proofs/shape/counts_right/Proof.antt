@@ -1,15 +1,15 @@
--- `parts::shape::counts_right` meets its contract. The loop's invariant: what is left of the list decides.
+-- `shapes::shape::counts_right` meets its contract. The loop's invariant: what is left of the list decides.
 use Prim.Native.Nat.{ℕ, _≤_, _-_}
 use mathlib.Core.Path.{_≡_, sym, ap, _∙_}
 use native.Mathlib.Nat.{sub-zero}
 use lib.ListN.{length, drop}
 use Rattle.limits.specs.Limits.{countAllowed}
 use Rattle.parts.specs.Part.{noCount, placesRight}
-use Rattle.parts.proofs.PlacesLaws.{places-more, places-bad, places-end}
+use Rattle.shapes.proofs.PlacesLaws.{places-more, places-bad, places-end}
 use borrow.Author.Needs.{needs}
 use native.Mathlib.Omega.{arith}
-use Rattle.parts.proofs.shape.counts_right.Statement.{statement}
-use Rattle.parts.proofs.shape.counts_right.Tie as tie
+use Rattle.shapes.proofs.shape.counts_right.Statement.{statement}
+use Rattle.shapes.proofs.shape.counts_right.Tie as tie
 
 abbrev Inv-loop : tie.InvT-loop
 Inv-loop used counts i₀ i = (i ≤ 24) × (placesRight countAllowed noCount (used - i) (drop i counts) ≡ placesRight countAllowed noCount used counts)

@@ -1,0 +1,2 @@
+// The right shape of a partial result.
+pub mod shape;
