@@ -4,9 +4,9 @@ ghost use Rattle.closings.specs.Animal.{sampleStep};
 use family::pair::Pair;
 use family::sample::Sample;
 use parts::part::Part;
-use shapes::shape::right_part;
 use refusals::Refusal;
 use samples::samples::compute_log_likelihood;
+use shapes::shape::right_part;
 
 // The log likelihood of an animal's reads under a genotype, or a refusal with zero.
 pub struct AnimalScore {

@@ -11,9 +11,9 @@ use family::sample::Sample;
 use floats::key::key;
 use marks::marks::all_marked;
 use parts::part::Part;
-use shapes::shape::right_part;
 use refusals::Refusal;
 use samples::samples::column_total;
+use shapes::shape::right_part;
 use triples::genotypes::triple_of;
 
 // The call with its score, its ground and the runner-up, if there is one; or a refusal with zeros. The part is handed back in every case.

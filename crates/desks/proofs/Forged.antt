@@ -19,12 +19,14 @@ use Rattle.refusals.specs.declared.Refusal.the-variants.{Done, Row, OtherTrio, 
 use Rattle.refusals.specs.Refusals.{numberOf}
 use Rattle.entries.specs.declared.entry.Entry.{Entry}
 use Rattle.entries.specs.Best.{In}
-use Rattle.entries.specs.Held.{heldOf, heldList, mergedHeld}
+use Rattle.entries.specs.Held.{heldOf, heldList}
+use Rattle.merges.specs.Merged.{mergedHeld}
 use Rattle.marks.specs.Marks.{isMarked, markCount, fullMarks}
 use Rattle.entries.specs.Rank.{beatsOf}
 use Rattle.search.specs.Shape.{inMarked, workRight}
 use Rattle.search.specs.Work.{Work, IsEntry, joined, rowWork, wholeWork, Within}
-use Rattle.entries.proofs.HeldLaws.{in-use-back, merged-fits}
+use Rattle.entries.proofs.HeldLaws.{in-use-back}
+use Rattle.merges.proofs.HeldLaws.{merged-fits}
 use Rattle.marks.proofs.MarksLaws.{unmarked-above}
 use Rattle.lists.specs.Lists.{numbers}
 use Rattle.search_laws.specs.Sound.{workedAll}

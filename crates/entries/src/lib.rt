@@ -1,3 +1,3 @@
-// Scored positions: which is better, the best two of them, and merging.
+// Scored positions: which is better, and the best two of them.
 pub mod entry;
 pub mod held;

@@ -32,7 +32,7 @@ use Rattle.diploid.proofs.genotype.genotype.Reads as genotype
 use Rattle.entries.proofs.entry.beats.Reads as beats
 use Rattle.entries.proofs.held.Held.nothing.Reads as held-nothing
 use Rattle.entries.proofs.held.offer.Reads as offer
-use Rattle.entries.proofs.held.merge_held.Reads as merge-held
+use Rattle.merges.proofs.merging.merge_held.Reads as merge-held
 use Rattle.marks.proofs.marks.row_marked.Reads as row-marked
 use Rattle.marks.proofs.marks.all_marked.Reads as all-marked
 use Rattle.search.proofs.shape.work_right.Reads as work-right

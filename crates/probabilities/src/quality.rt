@@ -2,11 +2,11 @@
 ghost use mathlib.Core.Path.{_≡_};
 ghost use Prim.Native.Nat.{_≤_};
 ghost use Rattle.probabilities.specs.Quality.{inUse, topOf, sumOf, wholeOf, probabilityOf, probabilities, wrongOf, qualityOf};
+use qualities::order::max;
+use qualities::order::min;
 use tens::log10::LN_TEN;
 use tens::log10::log10;
 use tens::log10::pow10;
-use qualities::order::max;
-use qualities::order::min;
 
 pub(crate) fn in_use(n: usize) -> usize
     ensures { λ r. ⌜ r ≡ inUse n ⌝ }

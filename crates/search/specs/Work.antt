@@ -9,7 +9,7 @@ use lib.Ieee.{Float}
 use lib.Signed.{ltZ}
 use Rattle.lists.specs.Lists.{numbers}
 use Rattle.entries.specs.declared.entry.Entry.{Entry}
-use Rattle.entries.specs.Held.{mergedHeld}
+use Rattle.merges.specs.Merged.{mergedHeld}
 use Rattle.entries.specs.Kept.{kept}
 use Rattle.marks.specs.Marks.{fullMarks}
 use Rattle.floats.specs.Key.{keyOf}

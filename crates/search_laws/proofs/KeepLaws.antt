@@ -12,7 +12,8 @@ use lib.Ieee.{isNan}
 use Rattle.entries.specs.declared.entry.Entry.{Entry}
 use Rattle.entries.specs.declared.held.Held.{Held}
 use Rattle.entries.specs.Best.{In}
-use Rattle.entries.specs.Held.{inUse, heldOf, heldList, holdsAt, mergedHeld}
+use Rattle.entries.specs.Held.{inUse, heldOf, heldList}
+use Rattle.merges.specs.Merged.{holdsAt, mergedHeld}
 use Rattle.marks.specs.Marks.{isMarked}
 use Rattle.search.specs.Shape.{heldCount, inMarked, scoredInMarked, workRight}
 use Rattle.search.proofs.CountLaws.{held-none, held-two}

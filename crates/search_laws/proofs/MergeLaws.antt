@@ -9,12 +9,12 @@ use lib.Ieee.{Float}
 use Rattle.entries.specs.declared.entry.Entry.{Entry}
 use Rattle.entries.specs.Best.{In, Or, Best}
 use Rattle.entries.specs.Kept.{firstAtEach}
-use Rattle.entries.specs.Held.{holdsAt, mergedHeld}
+use Rattle.merges.specs.Merged.{holdsAt, mergedHeld}
 use Rattle.entries.specs.Rank.{beatsOf}
 use Rattle.search.specs.Work.{entryAt, IsEntry}
 use Rattle.entries.proofs.BestLaws.{best-ext, best-in, best-unique, absorbed}
 use Rattle.entries.proofs.KeptLaws.{OneEach, first-in, in-first}
-use Rattle.entries.proofs.MergedLaws.{in-held-at, append-of-both, of-both-append, merged-best-first}
+use Rattle.merges.proofs.MergedLaws.{in-held-at, append-of-both, of-both-append, merged-best-first}
 use Rattle.entries.proofs.RankLaws.{ranks-apart}
 use Rattle.search.proofs.PassLaws.{ranks}
 use Rattle.search_laws.specs.Both.{Both, Ordered}

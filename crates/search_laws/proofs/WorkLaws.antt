@@ -15,7 +15,7 @@ use lib.Pow.{pow-pos, pow-lt}
 use Rattle.floats.proofs.Rounded.{or-split}
 use Rattle.entries.specs.declared.entry.Entry.{Entry}
 use Rattle.entries.specs.Best.{In, Or, Best}
-use Rattle.entries.specs.Held.{mergedHeld}
+use Rattle.merges.specs.Merged.{mergedHeld}
 use Rattle.marks.specs.Marks.{isMarked, fullMarks}
 use Rattle.entries.specs.Rank.{beatsOf}
 use Rattle.search.specs.Work.{onePass, IsEntry, Work, joined, noWork, rowEntries, allEntries, rowWork, Within}

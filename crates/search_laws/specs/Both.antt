@@ -6,7 +6,7 @@ use mathlib.Core.Path.{_≡_}
 use lib.Dec.{T}
 use Rattle.entries.specs.declared.entry.Entry.{Entry}
 use Rattle.entries.specs.Best.{In}
-use Rattle.entries.specs.Held.{holdsAt}
+use Rattle.merges.specs.Merged.{holdsAt}
 use Rattle.entries.specs.Rank.{beatsOf}
 
 -- the entries of both: all of `own`, and those of `given` at positions that `own` does not hold

@@ -3,12 +3,12 @@ ghost use mathlib.Core.Path.{_≡_};
 ghost use Rattle.search.specs.Work as work;
 ghost use Rattle.parts.specs.Part.{withWork, workIn};
 ghost use Rattle.trio.specs.Steps.{mergeStep};
-use entries::held::merge_held;
+use inputs::input::same_input;
+use merges::merging::merge_held;
 use parts::part::Part;
 use parts::part::Stepped;
-use shapes::shape::right_part;
-use inputs::input::same_input;
 use refusals::Refusal;
+use shapes::shape::right_part;
 
 // The input of `a`, with the work of both.
 pub(crate) fn joined(a: Part, b: Part) -> Part

@@ -14,8 +14,8 @@ use family::genotypes::genotype_count;
 use marks::marks::row_marked;
 use parts::part::Part;
 use parts::part::Stepped;
-use shapes::shape::right_part;
 use refusals::Refusal;
+use shapes::shape::right_part;
 use triples::score::score_at;
 
 // The best two of `many` positions from `from` on.

@@ -1,12 +1,12 @@
--- `entries::held::merge_held` meets its contract. By the count of what is given, tidied: none, one or two entries are offered.
+-- `merges::merging::merge_held` meets its contract. By the count of what is given, tidied: none, one or two entries are offered.
 use Prim.Native.Nat.{ℕ}
 use mathlib.Core.Path.{sym, ap, _∙_}
 use borrow.Author.Needs.{needs}
 use Rattle.entries.specs.Held.{heldOf, heldList, inUse}
-use Rattle.entries.proofs.MergedLaws.{offeredFresh}
-use Rattle.entries.proofs.HeldLaws.{own-normal, merge-one, merge-two, merge-tidied}
-use Rattle.entries.proofs.held.merge_held.Statement.{statement}
-use Rattle.entries.proofs.held.merge_held.Tie as tie
+use Rattle.merges.proofs.MergedLaws.{offeredFresh}
+use Rattle.merges.proofs.HeldLaws.{own-normal, merge-one, merge-two, merge-tidied}
+use Rattle.merges.proofs.merging.merge_held.Statement.{statement}
+use Rattle.merges.proofs.merging.merge_held.Tie as tie
 
 tidy-requires : tie.Need-tidy-requires
 tidy-requires c κs = search needs

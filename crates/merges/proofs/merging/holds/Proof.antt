@@ -1,8 +1,8 @@
--- `entries::held::holds` meets its contract. By the count and the two positions.
+-- `merges::merging::holds` meets its contract. By the count and the two positions.
 use borrow.Author.Tests.{eq-eqb, ne-eqb}
-use Rattle.entries.proofs.HeldLaws.{holds-first, holds-one, holds-second}
-use Rattle.entries.proofs.held.holds.Statement.{statement}
-use Rattle.entries.proofs.held.holds.Tie as tie
+use Rattle.merges.proofs.HeldLaws.{holds-first, holds-one, holds-second}
+use Rattle.merges.proofs.merging.holds.Statement.{statement}
+use Rattle.merges.proofs.merging.holds.Tie as tie
 
 returns : tie.Need-returns
 returns c = rw (c .if1 .taken)

@@ -1,7 +1,7 @@
--- `entries::held::offer_fresh` meets its contract. By whether `own` holds the position.
+-- `merges::merging::offer_fresh` meets its contract. By whether `own` holds the position.
 use borrow.Author.Needs.{needs}
-use Rattle.entries.proofs.held.offer_fresh.Statement.{statement}
-use Rattle.entries.proofs.held.offer_fresh.Tie as tie
+use Rattle.merges.proofs.merging.offer_fresh.Statement.{statement}
+use Rattle.merges.proofs.merging.offer_fresh.Tie as tie
 
 holds-requires : tie.Need-holds-requires
 holds-requires c κs = search needs

@@ -1,0 +1,3 @@
+-- What belongs to no one function of `merges`.
+pub mod MergedLaws
+pub mod HeldLaws

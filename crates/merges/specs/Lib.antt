@@ -1,0 +1,2 @@
+-- The definition that the contract of `merges` cites.
+pub mod Merged

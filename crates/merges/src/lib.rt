@@ -1,0 +1,2 @@
+// Merging what two searches hold.
+pub mod merging;
