@@ -15,7 +15,7 @@ use Rattle.floats.proofs.Ranges.{one-minus}
 use Rattle.floats.proofs.Whole.{add-whole, sub-whole}
 use Rattle.kernels.specs.Ln.{lnOf}
 use Rattle.gammas.specs.Gamma.{lnGammaOf}
-use Rattle.gammas.specs.Binomial.{lnChoose, lnPmfBy, lnPmf}
+use Rattle.binomials.specs.Binomial.{lnChoose, lnPmfBy, lnPmf}
 use Rattle.bounds.proofs.LnBounds.{within-ln, within-ln-between}
 use Rattle.bounds.proofs.GammaBounds.{within-ln-gamma}
 

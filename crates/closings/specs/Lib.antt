@@ -1,3 +1,2 @@
--- The definitions of `closings`: what closing a part gives, and one animal's score.
-pub mod Animal
+-- The definitions of `closings`: what closing a part gives.
 pub mod Closing

@@ -1,3 +1,2 @@
-// What is read off a part: the call with its ground, and the score of one animal.
-pub mod animal;
+// What is read off a part: the call with its ground.
 pub mod closing;

@@ -23,7 +23,7 @@ use Rattle.floats.proofs.Whole.{sub-whole, below-is-most}
 use Rattle.kernels.specs.Ln.{lnOf}
 use Rattle.kernels.specs.Exp.{expOf}
 use Rattle.gammas.specs.Gamma.{lnGammaOf}
-use Rattle.gammas.specs.Binomial.{lnPmf, lnPmfBy}
+use Rattle.binomials.specs.Binomial.{lnPmf, lnPmfBy}
 use Rattle.bounds.proofs.LnBounds.{within-ln, within-ln-between}
 use Rattle.bounds.proofs.ExpBounds.{exp-within, exp-of-zero}
 use Rattle.bounds.proofs.GammaBounds.{within-ln-gamma}

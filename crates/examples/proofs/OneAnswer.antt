@@ -12,9 +12,9 @@ use Rattle.kernels.proofs.exp.exp.Reads as exp
 use Rattle.tens.proofs.log10.log10.Reads as log10
 use Rattle.tens.proofs.log10.pow10.Reads as pow10
 use Rattle.gammas.proofs.gamma.ln_gamma.Reads as ln-gamma
-use Rattle.gammas.proofs.binomial.ln_choose.Reads as ln-choose
-use Rattle.gammas.proofs.binomial.ln_pmf_by.Reads as ln-pmf-by
-use Rattle.gammas.proofs.binomial.ln_pmf.Reads as ln-pmf
+use Rattle.binomials.proofs.binomial.ln_choose.Reads as ln-choose
+use Rattle.binomials.proofs.binomial.ln_pmf_by.Reads as ln-pmf-by
+use Rattle.binomials.proofs.binomial.ln_pmf.Reads as ln-pmf
 use Rattle.models.proofs.model.Mode.number.Reads as mode-number
 use Rattle.models.proofs.model.Model.default.Reads as model-default
 use Rattle.models.proofs.state.state_number.Reads as state-number
@@ -45,7 +45,7 @@ use Rattle.samples.proofs.samples.compute_log_likelihood.Reads as compute-log-l
 use Rattle.parts.proofs.part.Part.empty.Reads as part-empty
 use Rattle.shapes.proofs.shape.right_part.Reads as right-part
 use Rattle.inputs.proofs.input.same_input.Reads as same-input
-use Rattle.closings.proofs.animal.sample_score.Reads as sample-score
+use Rattle.animals.proofs.animal.sample_score.Reads as sample-score
 use Rattle.opening.proofs.opening.open_part.Reads as open-part
 use Rattle.trio.proofs.rows.row_count.Reads as row-count
 use Rattle.trio.proofs.rows.work_row.Reads as work-row

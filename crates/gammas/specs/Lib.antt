@@ -1,3 +1,2 @@
--- The definitions that the contracts of `gammas` cite.
+-- The definition that the contract of `gammas` cites.
 pub mod Gamma
-pub mod Binomial

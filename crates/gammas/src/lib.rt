@@ -1,3 +1,2 @@
-// The full log gamma and what is made of it. Each contract says the result at every argument.
-pub mod binomial;
+// The full log gamma. Its contract says the result at every argument.
 pub mod gamma;

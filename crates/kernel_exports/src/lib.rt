@@ -1,7 +1,7 @@
 // The kernels, the short log gamma and the score key for callers in other languages. Each answers every argument.
 ghost use mathlib.Core.Path.{_≡_};
 ghost use Rattle.floats.specs.Key.{keyOf};
-ghost use Rattle.gammas.specs.Binomial.{lnPmf};
+ghost use Rattle.binomials.specs.Binomial.{lnPmf};
 ghost use Rattle.kernels.specs.Exp.{expOf};
 ghost use Rattle.gammas.specs.Gamma.{lnGammaOf};
 ghost use Rattle.kernels.specs.Ln.{lnOf};
@@ -61,7 +61,7 @@ pub extern "C" fn admulfas_stirling(x: f64) -> f64
 pub extern "C" fn admulfas_ln_pmf(k: u32, n: u32, p: f64) -> f64
     ensures { λ r. ⌜ r ≡ lnPmf k n p ⌝ }
 {
-    gammas::binomial::ln_pmf(k, n, p)
+    binomials::binomial::ln_pmf(k, n, p)
 }
 
 // The key of a score.

@@ -5,7 +5,7 @@ use native.Mathlib.Omega.{arith}
 use lib.Ieee.{Float}
 use Rattle.floats.specs.F64.{_⊖_}
 use Rattle.floats.proofs.Whole.{sub-whole}
-use Rattle.gammas.specs.Binomial.{lnChoose}
+use Rattle.binomials.specs.Binomial.{lnChoose}
 use Rattle.scores.specs.Scores.{fullLnFactorial}
 
 pub choose-by-factorials : (k n : ℕ) {f g h : Float} → k ≤ n → n ≤ 3000000 → g ≡ fullLnFactorial k → h ≡ fullLnFactorial (n - k) → f ≡ fullLnFactorial n → f ⊖ g ⊖ h ≡ lnChoose k n

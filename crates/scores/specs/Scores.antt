@@ -9,7 +9,7 @@ use Rattle.floats.specs.F64.{_⊕_, _⊖_, _⊗_, nat}
 use Rattle.kernels.specs.Ln.{lnOf}
 use Rattle.kernels.specs.Exp.{expOf}
 use Rattle.gammas.specs.Gamma.{lnGammaOf}
-use Rattle.gammas.specs.Binomial.{lnChoose, lnPmf}
+use Rattle.binomials.specs.Binomial.{lnChoose, lnPmf}
 use Rattle.limits.specs.Limits.{countAllowed}
 use Rattle.models.specs.declared.model.Mode.{Mode}
 use Rattle.models.specs.declared.model.Mode.the-variants.{Beta, Bino, Phased}

@@ -40,7 +40,7 @@ pub fn binomial(line: &[u8], at: usize, text: &mut Text, out: Out) -> Out {
     if !words::done(line, p.after) {
         return write::unread(text, out);
     }
-    write::float(text, out, gammas::binomial::ln_pmf(k.is, n.is, p.is))
+    write::float(text, out, binomials::binomial::ln_pmf(k.is, n.is, p.is))
 }
 
 pub fn key(line: &[u8], at: usize, text: &mut Text, out: Out) -> Out {

@@ -1,7 +1,7 @@
 // The binomial log probability (docs/RULES.md, K7).
 ghost use mathlib.Core.Path.{_≡_};
-ghost use Rattle.gammas.specs.Binomial.{lnChoose, lnPmfBy, lnPmf};
-use crate::gamma::ln_gamma;
+ghost use Rattle.binomials.specs.Binomial.{lnChoose, lnPmfBy, lnPmf};
+use gammas::gamma::ln_gamma;
 use kernels::ln::ln;
 
 // The logarithm of the number of ways to choose k of n, by three log gammas.

@@ -7,7 +7,7 @@ use Rattle.family.specs.declared.sample.Sample.{Sample}
 use Rattle.parts.specs.declared.part.Part.{Part}
 use Rattle.parts.specs.Part.{rightPart}
 use Rattle.samples.specs.Samples.{sampleScore}
-use Rattle.closings.specs.declared.animal.AnimalScore.{AnimalScore}
+use Rattle.animals.specs.declared.animal.AnimalScore.{AnimalScore}
 
 -- the score of an animal of a part under a genotype; of a bad part, zero
 unfoldable pub sampleStep : Part → Sample → Pair → AnimalScore

@@ -1,9 +1,9 @@
--- `gammas::binomial::ln_pmf_by` meets its contract: its steps are the definition's. Assumes nothing.
+-- `binomials::binomial::ln_pmf_by` meets its contract: its steps are the definition's. Assumes nothing.
 use borrow.Author.Needs.{needs}
 use lib.Ieee.{round, ofInt, ofBits}
-use Rattle.gammas.specs.Binomial.{lnPmfBy}
-use Rattle.gammas.proofs.binomial.ln_pmf_by.Statement.{statement}
-use Rattle.gammas.proofs.binomial.ln_pmf_by.Tie as tie
+use Rattle.binomials.specs.Binomial.{lnPmfBy}
+use Rattle.binomials.proofs.binomial.ln_pmf_by.Statement.{statement}
+use Rattle.binomials.proofs.binomial.ln_pmf_by.Tie as tie
 
 int-to-float-some : tie.Need-int-to-float-some
 int-to-float-some c = search needs

@@ -1,12 +1,12 @@
--- `closings::animal::sample_score` meets its contract. By the shape of the part.
+-- `animals::animal::sample_score` meets its contract. By the shape of the part.
 use mathlib.Core.Bool.{true}
 use mathlib.Core.Path.{_≡_, sym, _∙_}
 use borrow.Author.Needs.{needs}
 use lib.Ieee.{round, ofInt, ofBits}
 use Rattle.parts.specs.Part.{rightPart}
-use Rattle.closings.specs.Animal.{sampleStep}
-use Rattle.closings.proofs.animal.sample_score.Statement.{statement}
-use Rattle.closings.proofs.animal.sample_score.Tie as tie
+use Rattle.animals.specs.Animal.{sampleStep}
+use Rattle.animals.proofs.animal.sample_score.Statement.{statement}
+use Rattle.animals.proofs.animal.sample_score.Tie as tie
 
 right : (c : tie.Then1) → rightPart (c .before .before .args .p) ≡ true
 right c = sym (c .before .right-part .ensures) ∙ c .if1 .taken

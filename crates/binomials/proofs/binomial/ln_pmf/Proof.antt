@@ -1,7 +1,7 @@
--- `gammas::binomial::ln_pmf` meets its contract: it hands its own coefficient over. Assumes nothing.
+-- `binomials::binomial::ln_pmf` meets its contract: it hands its own coefficient over. Assumes nothing.
 use borrow.Author.Needs.{needs}
-use Rattle.gammas.proofs.binomial.ln_pmf.Statement.{statement}
-use Rattle.gammas.proofs.binomial.ln_pmf.Tie as tie
+use Rattle.binomials.proofs.binomial.ln_pmf.Statement.{statement}
+use Rattle.binomials.proofs.binomial.ln_pmf.Tie as tie
 
 ln-choose-requires : tie.Need-ln-choose-requires
 ln-choose-requires c κs = search needs

@@ -1,6 +1,6 @@
 // The score of one animal of a part, for whoever checks a call by hand (docs/RULES.md, T2).
 ghost use mathlib.Core.Path.{_≡_};
-ghost use Rattle.closings.specs.Animal.{sampleStep};
+ghost use Rattle.animals.specs.Animal.{sampleStep};
 use family::pair::Pair;
 use family::sample::Sample;
 use parts::part::Part;

@@ -1,0 +1,2 @@
+-- The definition that the contract of `animals` cites.
+pub mod Animal

@@ -1,0 +1,2 @@
+// The score of one animal of a part.
+pub mod animal;

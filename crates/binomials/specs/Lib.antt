@@ -1,0 +1,2 @@
+-- The definitions that the contracts of `binomials` cite.
+pub mod Binomial
