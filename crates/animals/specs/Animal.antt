@@ -5,7 +5,7 @@ use Rattle.refusals.specs.declared.Refusal.the-variants.{Done, BadPart}
 use Rattle.family.specs.declared.pair.Pair.{Pair}
 use Rattle.family.specs.declared.sample.Sample.{Sample}
 use Rattle.parts.specs.declared.part.Part.{Part}
-use Rattle.parts.specs.Part.{rightPart}
+use Rattle.shapes.specs.Right.{rightPart}
 use Rattle.samples.specs.Samples.{sampleScore}
 use Rattle.animals.specs.declared.animal.AnimalScore.{AnimalScore}
 

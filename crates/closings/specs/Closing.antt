@@ -16,7 +16,8 @@ use Rattle.family.specs.declared.ground.Ground.the-variants.{NoGround, Won, Tie
 use Rattle.family.specs.declared.sample.Sample.the-variants.{Child, Father, Mother}
 use Rattle.family.specs.Genotypes.{pair}
 use Rattle.parts.specs.declared.part.Part.{Part}
-use Rattle.parts.specs.Part.{rowCount, rightPart}
+use Rattle.parts.specs.Part.{rowCount}
+use Rattle.shapes.specs.Right.{rightPart}
 use Rattle.samples.specs.Samples.{columnTotal}
 use Rattle.triples.specs.Genotypes.{tripleOf}
 use Rattle.closings.specs.declared.closing.Closed.{Closed}

@@ -10,8 +10,9 @@ use Rattle.refusals.specs.Refusals.{numberOf}
 use Rattle.search.specs.Work.{noWork}
 use Rattle.parts.specs.declared.part.Part.{Part}
 use Rattle.parts.specs.declared.part.Stepped.{Stepped}
-use Rattle.parts.specs.Part.{withWork, rightPart, freshPart}
-use Rattle.parts.proofs.RightLaws.{right-input}
+use Rattle.parts.specs.Part.{withWork, freshPart}
+use Rattle.shapes.specs.Right.{rightPart}
+use Rattle.shapes.proofs.RightLaws.{right-input}
 use Rattle.opening.specs.Opening.{openStep}
 use Rattle.trio.specs.Steps.{scoreIn, rowsIn}
 use Rattle.closings.specs.Closing.{refusedClosing, closeStep}

@@ -40,7 +40,9 @@ use Rattle.family.specs.declared.sample.Sample.the-variants.{Child}
 use Rattle.parts.specs.declared.part.Part.{Part}
 use Rattle.family.specs.Genotypes.{genotypeCount}
 use Rattle.triples.specs.Genotypes.{genotypeAt, rowWidth, tripleAt, tripleOf}
-use Rattle.parts.specs.Part.{weightAllowed, inputRight, sameInput, rowCount, workIn, rightPart, freshPart, emptyPart, withWork, gives}
+use Rattle.parts.specs.Part.{weightAllowed, rowCount, workIn, freshPart, emptyPart, withWork, gives}
+use Rattle.shapes.specs.Right.{inputRight, rightPart}
+use Rattle.inputs.specs.Same.{sameInput}
 use Rattle.samples.specs.Samples.{columnTotal}
 use Rattle.trio.specs.Steps.{scoreIn, rowsIn, rowStep, mergeStep}
 use Rattle.closings.specs.Closing.{unread, closedAs, refusedClosing, closeStep}

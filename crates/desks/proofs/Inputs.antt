@@ -12,8 +12,9 @@ use lib.ListN.{length, getD, List·getD-eq-default}
 use lib.Ieee.{nan, isNan}
 use Rattle.parts.specs.declared.part.Part.{Part}
 use Rattle.limits.specs.Limits.{countAllowed}
-use Rattle.parts.specs.Part.{noCount, weightAllowed, noWeight, placesRight, inputRight}
-use Rattle.parts.proofs.RightLaws.{few-clusters}
+use Rattle.parts.specs.Part.{weightAllowed}
+use Rattle.shapes.specs.Right.{noCount, noWeight, placesRight, inputRight}
+use Rattle.shapes.proofs.RightLaws.{few-clusters}
 use Rattle.trio.specs.Steps.{scoreIn}
 use Rattle.desks.specs.Accepted.{Accepted}
 use Rattle.desks.proofs.ScoreBounds.{score-number}

@@ -23,7 +23,8 @@ use Rattle.family.proofs.GenotypesLaws.{genotypes-some, genotypes-few}
 use Rattle.parts.specs.declared.part.Stepped.{Stepped}
 use Rattle.family.specs.Genotypes.{genotypeCount}
 use Rattle.limits.specs.Limits.{countAllowed}
-use Rattle.parts.specs.Part.{noCount, weightAllowed, noWeight, placesRight, inputRight, freshPart, emptyPart, rightPart, gives}
+use Rattle.parts.specs.Part.{weightAllowed, freshPart, emptyPart, gives}
+use Rattle.shapes.specs.Right.{noCount, noWeight, placesRight, inputRight, rightPart}
 use Rattle.lists.specs.Every.{every}
 use Rattle.opening.specs.Opening.{openStep}
 

@@ -22,8 +22,10 @@ use Rattle.search_laws.proofs.WorkLaws.{none-sound, row-sound, joined-sound, so
 use Rattle.parts.specs.declared.part.Part.{Part}
 use Rattle.parts.specs.declared.part.Stepped.{Stepped}
 use Rattle.triples.specs.Genotypes.{rowWidth}
-use Rattle.parts.specs.Part.{sameNumbers, inputRight, sameInput, rowCount, workIn, withWork, rightPart, gives}
-use Rattle.parts.proofs.RightLaws.{right-input}
+use Rattle.parts.specs.Part.{rowCount, workIn, withWork, gives}
+use Rattle.shapes.specs.Right.{inputRight, rightPart}
+use Rattle.inputs.specs.Same.{sameNumbers, sameInput}
+use Rattle.shapes.proofs.RightLaws.{right-input}
 use Rattle.trio.specs.Steps.{scoreIn, rowStep, mergeStep}
 use Rattle.closings.specs.Closing.{closedAs, refusedClosing, closeStep}
 use Rattle.desks.specs.Call.{onePassCall}

@@ -11,7 +11,8 @@ use lib.Dec.{eqb}
 use lib.Ieee.{isNan}
 use Rattle.search.specs.Work.{noWork}
 use Rattle.parts.specs.declared.part.Part.{Part}
-use Rattle.parts.specs.Part.{rowCount, withWork, rightPart}
+use Rattle.parts.specs.Part.{rowCount, withWork}
+use Rattle.shapes.specs.Right.{rightPart}
 use Rattle.trio.specs.Steps.{scoreIn, rowsIn, rowStep}
 use Rattle.closings.specs.Closing.{closeStep}
 use Rattle.desks.specs.Call.{onePassCall, workedTo}

@@ -24,7 +24,7 @@ use Rattle.lists.specs.Lists.{numbers, padded}
 use Rattle.lists.proofs.PaddedLaws.{padded-at}
 use Rattle.samples.specs.Samples.{inUse, reads, sum, columnTotal}
 use Rattle.parts.specs.Part.{rowCount, freshPart}
-use Rattle.parts.proofs.RightLaws.{right-input}
+use Rattle.shapes.proofs.RightLaws.{right-input}
 use Rattle.opening.specs.Opening.{openStep}
 use Rattle.trio.specs.Steps.{scoreIn}
 use Rattle.closings.specs.Closing.{unread, groundOf, closedAs}

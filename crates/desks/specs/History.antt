@@ -11,7 +11,9 @@ use Rattle.entries.specs.Rank.{beatsOf}
 use Rattle.search.specs.Work.{Within}
 use Rattle.parts.specs.declared.part.Part.{Part}
 use Rattle.triples.specs.Genotypes.{rowWidth}
-use Rattle.parts.specs.Part.{rowCount, sameInput, rightPart, gives}
+use Rattle.parts.specs.Part.{rowCount, gives}
+use Rattle.shapes.specs.Right.{rightPart}
+use Rattle.inputs.specs.Same.{sameInput}
 use Rattle.trio.specs.Steps.{scoreIn, rowStep, mergeStep}
 use Rattle.closings.specs.Closing.{closeStep, refusedClosing}
 use Rattle.desks.specs.Call.{onePassCall}

@@ -7,7 +7,7 @@ use native.Mathlib.Numerals.{add-one}
 use borrow.Author.Tests.{eq-eqb, ne-eqb}
 use lib.ListN.{length, getD, drop, drop-of-length-le}
 use lib.Seq.{drop-cons}
-use Rattle.parts.specs.Part.{sameNumbers}
+use Rattle.inputs.specs.Same.{sameNumbers}
 
 module _ (a b : List ℕ) (d i : ℕ) where
   module _ (ha : i < length a) (hb : i < length b) where

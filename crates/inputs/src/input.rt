@@ -2,7 +2,7 @@
 ghost use mathlib.Core.Path.{_≡_};
 ghost use mathlib.Core.List.{map};
 ghost use lib.Ieee.{binary64, toBits};
-ghost use Rattle.parts.specs.Part.{sameNumbers, sameInput};
+ghost use Rattle.inputs.specs.Same.{sameNumbers, sameInput};
 use floats::bits::bits;
 use parts::part::Part;
 

@@ -1,2 +1,3 @@
 -- What belongs to no one function of `shapes`.
 pub mod PlacesLaws
+pub mod RightLaws

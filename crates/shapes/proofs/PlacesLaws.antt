@@ -9,7 +9,7 @@ use borrow.Author.Tests.{ltb-true, ltb-false}
 use lib.Dec.{ltb}
 use lib.ListN.{length, getD, drop, drop-of-length-le}
 use lib.Seq.{drop-cons}
-use Rattle.parts.specs.Part.{placesRight}
+use Rattle.shapes.specs.Right.{placesRight}
 
 module _ {A : Type 0} (inUse unused : A → Bool) (d : A) (l : List A) (used i : ℕ) where
   -- the test at place i, then the rest

@@ -2,7 +2,8 @@
 ghost use mathlib.Core.Path.{_≡_};
 ghost use mathlib.Core.Bool.{cond};
 ghost use Rattle.limits.specs.Limits.{countAllowed};
-ghost use Rattle.parts.specs.Part.{noCount, weightAllowed, noWeight, placesRight, rightPart};
+ghost use Rattle.parts.specs.Part.{weightAllowed};
+ghost use Rattle.shapes.specs.Right.{noCount, noWeight, placesRight, rightPart};
 use family::genotypes::genotype_count;
 use floats::bits::bits;
 use limits::counts::count_allowed;

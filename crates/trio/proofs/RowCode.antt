@@ -12,7 +12,8 @@ use Rattle.search.specs.Work.{Work, joined, rowWork}
 use Rattle.search_laws.proofs.BestCode.{pass-back}
 use Rattle.parts.specs.declared.part.Part.{Part}
 use Rattle.triples.specs.Genotypes.{rowWidth}
-use Rattle.parts.specs.Part.{rowCount, workIn, withWork, rightPart, gives}
+use Rattle.parts.specs.Part.{rowCount, workIn, withWork, gives}
+use Rattle.shapes.specs.Right.{rightPart}
 use Rattle.trio.specs.Steps.{scoreIn, rowStep}
 
 -- the end of a row, of at most 36

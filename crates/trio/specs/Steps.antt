@@ -7,7 +7,9 @@ use Rattle.refusals.specs.declared.Refusal.the-variants.{Done, Row, OtherTrio, 
 use Rattle.search.specs.Work.{joined, rowWork}
 use Rattle.parts.specs.declared.part.Part.{Part}
 use Rattle.parts.specs.declared.part.Stepped.{Stepped}
-use Rattle.parts.specs.Part.{sameInput, rowCount, workIn, withWork, rightPart, gives}
+use Rattle.parts.specs.Part.{rowCount, workIn, withWork, gives}
+use Rattle.shapes.specs.Right.{rightPart}
+use Rattle.inputs.specs.Same.{sameInput}
 use Rattle.triples.specs.Genotypes.{rowWidth}
 use Rattle.triples.specs.Score.{scoreOf}
 

@@ -3,7 +3,7 @@ use mathlib.Core.Bool.{true}
 use mathlib.Core.Path.{_≡_, sym, _∙_}
 use borrow.Author.Needs.{needs}
 use lib.Ieee.{round, ofInt, ofBits}
-use Rattle.parts.specs.Part.{rightPart}
+use Rattle.shapes.specs.Right.{rightPart}
 use Rattle.animals.specs.Animal.{sampleStep}
 use Rattle.animals.proofs.animal.sample_score.Statement.{statement}
 use Rattle.animals.proofs.animal.sample_score.Tie as tie

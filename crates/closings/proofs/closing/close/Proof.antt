@@ -6,9 +6,10 @@ use native.Mathlib.Omega.{arith}
 use borrow.Author.Needs.{needs}
 use lib.Dec.{eqb}
 use Rattle.marks.specs.Marks.{fullMarks}
-use Rattle.parts.specs.Part.{rowCount, rightPart}
+use Rattle.parts.specs.Part.{rowCount}
+use Rattle.shapes.specs.Right.{rightPart}
 use Rattle.closings.specs.Closing.{closeStep}
-use Rattle.parts.proofs.RightLaws.{right-input, few-clusters}
+use Rattle.shapes.proofs.RightLaws.{right-input, few-clusters}
 use Rattle.closings.proofs.closing.close.Statement.{statement}
 use Rattle.closings.proofs.closing.close.Tie as tie
 

@@ -2,7 +2,7 @@
 use Prim.Native.Nat.{_≤_, _-_}
 use mathlib.Core.Path.{_≡_, _∙_}
 use lib.ListN.{length, drop}
-use Rattle.parts.specs.Part.{sameNumbers}
+use Rattle.inputs.specs.Same.{sameNumbers}
 use Rattle.inputs.proofs.SameLaws.{same-differ, same-more, same-end}
 use borrow.Author.Needs.{needs}
 use native.Mathlib.Omega.{arith}

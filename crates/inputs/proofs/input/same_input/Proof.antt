@@ -1,7 +1,7 @@
 -- `inputs::input::same_input` meets its contract. By each test in turn.
 use mathlib.Core.Path.{sym, _∙_}
 use borrow.Author.Tests.{eq-eqb, ne-eqb}
-use Rattle.parts.specs.Part.{sameInput}
+use Rattle.inputs.specs.Same.{sameInput}
 use borrow.Author.Needs.{needs}
 use Rattle.inputs.proofs.input.same_input.Statement.{statement}
 use Rattle.inputs.proofs.input.same_input.Tie as tie

@@ -4,7 +4,7 @@ use mathlib.Core.List.{List, map}
 use mathlib.Core.Path.{_≡_, sym, _∙_}
 use lib.Ieee.{Float, binary64, toBits, nan}
 use lib.ListN.{length, drop, length-map, List·getD-map}
-use Rattle.parts.specs.Part.{sameNumbers}
+use Rattle.inputs.specs.Same.{sameNumbers}
 use Rattle.inputs.proofs.SameLaws.{same-differ, same-more, same-end}
 use borrow.Author.Needs.{needs}
 use native.Mathlib.Omega.{arith}

@@ -4,7 +4,7 @@ use mathlib.Core.Path.{_≡_, sym, ap, _∙_}
 use native.Mathlib.Nat.{sub-zero}
 use lib.ListN.{length, drop}
 use Rattle.limits.specs.Limits.{countAllowed}
-use Rattle.parts.specs.Part.{noCount, placesRight}
+use Rattle.shapes.specs.Right.{noCount, placesRight}
 use Rattle.shapes.proofs.PlacesLaws.{places-more, places-bad, places-end}
 use borrow.Author.Needs.{needs}
 use native.Mathlib.Omega.{arith}

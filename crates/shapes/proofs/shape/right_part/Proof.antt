@@ -7,7 +7,7 @@ use borrow.Author.Tests.{le-leb, lt-leb}
 use lib.Dec.{leb}
 use Rattle.search.specs.Shape.{workRight}
 use Rattle.limits.specs.Limits.{countAllowed}
-use Rattle.parts.specs.Part.{noCount, placesRight, inputRight, rightPart}
+use Rattle.shapes.specs.Right.{noCount, placesRight, inputRight, rightPart}
 use Rattle.shapes.proofs.shape.right_part.Statement.{statement}
 use Rattle.shapes.proofs.shape.right_part.Tie as tie
 

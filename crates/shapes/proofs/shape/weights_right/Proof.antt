@@ -4,7 +4,8 @@ use mathlib.Core.Path.{_≡_, sym, ap, _∙_}
 use native.Mathlib.Nat.{sub-zero}
 use lib.Ieee.{nan}
 use lib.ListN.{length, drop}
-use Rattle.parts.specs.Part.{weightAllowed, noWeight, placesRight}
+use Rattle.parts.specs.Part.{weightAllowed}
+use Rattle.shapes.specs.Right.{noWeight, placesRight}
 use Rattle.shapes.proofs.PlacesLaws.{places-more, places-bad, places-end}
 use borrow.Author.Needs.{needs}
 use native.Mathlib.Omega.{arith}

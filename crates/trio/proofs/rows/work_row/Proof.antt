@@ -5,8 +5,9 @@ use mathlib.Core.Path.{_≡_, sym, subst, _∙_}
 use native.Mathlib.Omega.{arith}
 use borrow.Author.Needs.{needs}
 use borrow.Author.Tests.{le-ltb}
-use Rattle.parts.specs.Part.{rowCount, rightPart}
-use Rattle.parts.proofs.RightLaws.{right-input, few-clusters}
+use Rattle.parts.specs.Part.{rowCount}
+use Rattle.shapes.specs.Right.{rightPart}
+use Rattle.shapes.proofs.RightLaws.{right-input, few-clusters}
 use Rattle.trio.specs.Steps.{rowStep}
 use Rattle.trio.proofs.RowCode.{row-done}
 use Rattle.family.proofs.GenotypesLaws.{genotypes-few}

@@ -6,8 +6,9 @@ use mathlib.Mathlib.Data.Bool.Basic.{and-elim-left, and-elim-right}
 use borrow.Author.Tests.{leb-true}
 use lib.Dec.{leb}
 use Rattle.search.specs.Shape.{workRight}
 use Rattle.parts.specs.declared.part.Part.{Part}
-use Rattle.parts.specs.Part.{inputRight, rowCount, rightPart}
+use Rattle.parts.specs.Part.{rowCount}
+use Rattle.shapes.specs.Right.{inputRight, rightPart}
 
 module _ (p : Part) where
   pub right-input : rightPart p ≡ true → inputRight p ≡ true

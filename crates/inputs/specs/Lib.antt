@@ -1,0 +1,2 @@
+-- The definition that the contract of `inputs` cites.
+pub mod Same

@@ -1,0 +1,2 @@
+-- The definition that the contract of `shapes` cites.
+pub mod Right
