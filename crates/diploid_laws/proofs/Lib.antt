@@ -7,4 +7,5 @@ pub mod WinnerLaws
 pub mod QualityBounds
 pub mod Accepted
 pub mod Picks
+pub mod Ordered
 pub mod AnyPick
