@@ -3,14 +3,13 @@
 -- same one is taken twice; sq takes a size. Assumes nothing.
 use mathlib.Core.Path.{_≡_, refl, sym, ap, _∙_, subst}
 use mathlib.Core.Logic.{_⊎_, inl, inr}
-use mathlib.Core.Bool.{Bool, true, false, not, _&&_, cond, true≢false}
+use mathlib.Core.Bool.{Bool, true, false, not, _&&_, cond}
 use mathlib.Core.List.{List}
 use Prim.Native.Nat.{ℕ, zero, suc, _+_, _^_, _≤_, _<_}
 use native.Mathlib.Omega.{arith}
-use lib.IntN.{pos}
 use lib.Dec.{T, eqb, lit≤, leb→le}
 use lib.Ieee.{Float, nan, inf, fin, binary64, size, round, neg, sum, add, sub, mul, div, lt, le, ofInt, ofBits, fits}
-use lib.Ieee.Fits.{and-l, and-r, add-fits, sub-fits, mul-fits, div-fits, ofInt-fits}
+use lib.Ieee.Fits.{and-l, and-r, add-fits, sub-fits, mul-fits, div-fits}
 use Rattle.floats.specs.F64.{_⊕_, _⊖_, _⊗_, nat}
 use Rattle.floats.specs.Apart.{exponent, significand}
 use Rattle.floats.specs.Within.{Within}
@@ -35,51 +34,19 @@ use Rattle.scores.specs.Scores.{fraction, oneWay, eitherWay, phasedScores, scor
 use Rattle.qualities.specs.Quality.{inTens, wholeOf, normalised, minusTen, gapOf, qualsOf}
 use Rattle.tables.specs.Calibration.{calibrated}
 use Rattle.diploid.specs.Genotype.{winner, blank, called, answered, genotypeBy, genotypeOf}
-use Rattle.floats.proofs.Zeros.{zeroOf, Number, Alike, same, zeros, alike-equal, alike-sym, alike-trans, alike-number, add-alike, sub-alike, zeros-sum}
+use Rattle.floats.proofs.Zeros.{zeroOf, Number, Alike, same, zeros, alike-sym, alike-trans, alike-number, add-alike, sub-alike, zeros-sum}
 use Rattle.diploid_laws.proofs.ScoreBounds.{larger-is-max, scores-within, way-within}
 use Rattle.diploid_laws.proofs.QualityBounds.{one, in-tens-within, in-tens-fit, whole-steps, whole-within, less-whole, times-ten-within, first-times-ten-within, absolute-not-below}
-use Rattle.diploid_laws.proofs.Picks.{chosen-max, chosen-min, larger-alike, smaller-alike, larger-number, smaller-number, pow10-alike, size-alike, AlikeScores, gap-same}
+use Rattle.diploid_laws.proofs.Picks.{chosen-max, zero-number, max-alike, min-alike, cap-same, larger-alike, smaller-alike, larger-number, smaller-number, pow10-alike, size-alike, AlikeScores, gap-same}
 
 -- ---- the qualities, by any max and any min
 
-alike-of : (x y : Float) → x ≡ y → Alike x y
-alike-of x y e = alike-equal e
-
-zero-number : Number (nat 0)
-zero-number = record { is-finite = unfold ofInt round in tt; is-f64 = ofInt-fits binary64 (pos 0) }
-
-thousand-number : Number (nat 1000)
-thousand-number = record { is-finite = unfold ofInt round in tt; is-f64 = ofInt-fits binary64 (pos 1000) }
-
--- what is alike to a number that is no zero is that number
-abbrev isZero : Float → Bool
-isZero nan = false
-isZero (inf s) = false
-isZero (fin s m e) = eqb m 0
-
-alike-not-zero : {x y : Float} → Alike x y → isZero x ≡ false → x ≡ y
-alike-not-zero same h = refl
-alike-not-zero (zeros s t) h = absurd (true≢false h)
-
-equal-of : (x y : Float) → x ≡ y → x ≡ y
-equal-of x y e = e
-
 module _ (max min : Pick) (is-max : IsMax max) (is-min : IsMin min) where
-  max-alike : (a b : Float) → Number a → Number b → Alike (max a b) (larger a b)
-  max-alike a b n k = chosen-max Alike alike-of max is-max a b n k (λ h. h)
-
-  min-alike : (a b : Float) → Number a → Number b → Alike (min a b) (smaller a b)
-  min-alike a b n k = chosen-min Alike alike-of min is-min a b n k (λ h. h)
-
-  -- a cap of 1000 is no zero
-  cap-same : (x : Float) → Number x → min x (nat 1000) ≡ smaller x (nat 1000)
-  cap-same x n = chosen-min (λ (x y : Float). x ≡ y) equal-of min is-min x (nat 1000) n thousand-number (λ h. alike-not-zero h (unfold ofInt round in refl))
-
   top-alike : (a b c : Float) → Number a → Number b → Number c → Alike (max (max a b) c) (larger (larger a b) c)
   top-alike a b c A B C =
-      let h = max-alike a b A B in
+      let h = max-alike max is-max a b A B in
       let n = alike-number (alike-sym h) (larger-number a b A B) in
-      alike-trans (max-alike (max a b) c n C) (larger-alike h same)
+      alike-trans (max-alike max is-max (max a b) c n C) (larger-alike h same)
 
   module _ (s : Scores) (given : EachScore (Within (2 ^ 45)) s) where
     abbrev l : Scores
@@ -129,7 +96,7 @@ module _ (max min : Pick) (is-max : IsMax max) (is-min : IsMin min) where
     normal-alike x n w =
         let h = sub-alike same wholes n (alike-number (alike-sym wholes) whole-number) in
         let k : Number (x ⊖ wholeOf larger l) = record { is-finite = less-whole s given x w .is-finite; is-f64 = sub-fits binary64 x (wholeOf larger l) } in
-        alike-trans (min-alike (x ⊖ wholeOf max l) (nat 0) (alike-number (alike-sym h) k) zero-number) (smaller-alike h same)
+        alike-trans (min-alike min is-min (x ⊖ wholeOf max l) (nat 0) (alike-number (alike-sym h) k) zero-number) (smaller-alike h same)
 
     abbrev n′ : Scores
     n′ = normalised max min l
@@ -181,10 +148,10 @@ module _ (max min : Pick) (is-max : IsMax max) (is-min : IsMin min) where
     }
 
     gq-same : min (minusTen ⊗ gapOf n′) (nat 1000) ≡ smaller (minusTen ⊗ gapOf n) (nat 1000)
-    gq-same = ap (λ (z : Float). min (minusTen ⊗ z) (nat 1000)) gaps ∙ cap-same (minusTen ⊗ gapOf n) raw-number
+    gq-same = ap (λ (z : Float). min (minusTen ⊗ z) (nat 1000)) gaps ∙ cap-same min is-min (minusTen ⊗ gapOf n) raw-number
 
     sq-same : min (absolute (minusTen ⊗ n′ .homref)) (nat 1000) ≡ smaller (absolute (minusTen ⊗ n .homref)) (nat 1000)
-    sq-same = ap (λ (z : Float). min z (nat 1000)) (sym (size-alike (normals .ref-alike))) ∙ cap-same (absolute (minusTen ⊗ n .homref)) size-number
+    sq-same = ap (λ (z : Float). min z (nat 1000)) (sym (size-alike (normals .ref-alike))) ∙ cap-same min is-min (absolute (minusTen ⊗ n .homref)) size-number
 
     pub quals-any : qualsOf max min s ≡ qualsOf larger smaller s
     unfolding qualsOf

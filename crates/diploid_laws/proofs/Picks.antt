@@ -3,10 +3,12 @@
 use mathlib.Core.Path.{_≡_, refl, sym, ap, _∙_, subst}
 use mathlib.Core.Logic.{_⊎_, inl, inr}
 use mathlib.Core.Bool.{Bool, true, false, cond, true≢false}
-use lib.Dec.{T}
-use lib.Ieee.{Float, round, mul, lt, ofInt}
+use lib.IntN.{pos}
+use lib.Dec.{T, eqb}
+use lib.Ieee.{Float, nan, inf, fin, binary64, round, mul, lt, ofInt}
+use lib.Ieee.Fits.{ofInt-fits}
 use lib.Ieee.Scale.{finite}
-use Rattle.floats.specs.F64.{_⊖_, _⊗_}
+use Rattle.floats.specs.F64.{_⊖_, _⊗_, nat}
 use Rattle.floats.proofs.Ranges.{le-not-lt}
 use Rattle.tens.specs.Log10.{pow10Of}
 use Rattle.qualities.specs.declared.scores.Scores.{Scores}
@@ -14,7 +16,7 @@ use Rattle.qualities.specs.Order.{Pick, IsMax, IsMin, larger, smaller, absolute
 use Rattle.scores.specs.Scores.{EachScore}
 use Rattle.qualities.specs.Quality.{minusTen, first, second, gapOf}
 use Rattle.floats.proofs.Differences.{less-itself}
-use Rattle.floats.proofs.Zeros.{zeroOf, Number, Alike, same, zeros, alike-number, lt-alike, neither-below, sub-alike-below}
+use Rattle.floats.proofs.Zeros.{zeroOf, Number, Alike, same, zeros, alike-equal, alike-number, lt-alike, neither-below, sub-alike-below}
 use Rattle.diploid_laws.proofs.QualityBounds.{pow10-zero}
 use Rattle.diploid_laws.proofs.Signs.{lt-itself}
 use Rattle.diploid_laws.proofs.Largest.{tied-or-below}
@@ -36,7 +38,7 @@ module _ (R : Float → Float → Type 0) (of-equal : (x y : Float) → x ≡ y 
       (elim (is-max a b (n .is-finite) (k .is-finite)) [ inl p ↦ inl (p .0, le-not-lt b a (p .1)) | inr p ↦ inr (p .0, le-not-lt a b (p .1)) ])
       (λ u v. f (neither-below b a k n v u))
 
-  pub chosen-min : (min : Pick) → IsMin min → (a b : Float) → Number a → Number b → (Alike b a → R b a) → R (min a b) (smaller a b)
+  chosen-min : (min : Pick) → IsMin min → (a b : Float) → Number a → Number b → (Alike b a → R b a) → R (min a b) (smaller a b)
   chosen-min min is-min a b n k f =
       chosen (min a b) a b (lt b a) (lt a b)
       (elim (is-min a b (n .is-finite) (k .is-finite)) [ inl p ↦ inl (p .0, le-not-lt a b (p .1)) | inr p ↦ inr (p .0, le-not-lt b a (p .1)) ])
@@ -65,6 +67,45 @@ smaller-number a b n k = go (lt b a)
     go : (t : Bool) → Number (cond t b a)
     go true = k
     go false = n
+
+-- ---- what any max and any min give: the crate's own but for a zero's sign, and the same where the second number is no zero
+
+abbrev pub isZero : Float → Bool
+isZero nan = false
+isZero (inf s) = false
+isZero (fin s m e) = eqb m 0
+
+alike-not-zero : {x y : Float} → Alike x y → isZero x ≡ false → x ≡ y
+alike-not-zero same h = refl
+alike-not-zero (zeros s t) h = absurd (true≢false h)
+
+alike-of : (x y : Float) → x ≡ y → Alike x y
+alike-of x y e = alike-equal e
+
+equal-of : (x y : Float) → x ≡ y → x ≡ y
+equal-of x y e = e
+
+module _ (max : Pick) (is-max : IsMax max) where
+  pub max-alike : (a b : Float) → Number a → Number b → Alike (max a b) (larger a b)
+  max-alike a b n k = chosen-max Alike alike-of max is-max a b n k (λ h. h)
+
+  pub max-same : (a b : Float) → Number a → Number b → isZero b ≡ false → max a b ≡ larger a b
+  max-same a b n k z = chosen-max (λ (x y : Float). x ≡ y) equal-of max is-max a b n k (λ h. alike-not-zero h z)
+
+pub zero-number : Number (nat 0)
+zero-number = record { is-finite = unfold ofInt round in tt; is-f64 = ofInt-fits binary64 (pos 0) }
+
+thousand-number : Number (nat 1000)
+thousand-number = record { is-finite = unfold ofInt round in tt; is-f64 = ofInt-fits binary64 (pos 1000) }
+
+module _ (min : Pick) (is-min : IsMin min) where
+  pub min-alike : (a b : Float) → Number a → Number b → Alike (min a b) (smaller a b)
+  min-alike a b n k = chosen-min Alike alike-of min is-min a b n k (λ h. h)
+
+  -- a cap of 1000 is no zero
+  pub cap-same : (x : Float) → Number x → min x (nat 1000) ≡ smaller x (nat 1000)
+  cap-same x n =
+      chosen-min (λ (x y : Float). x ≡ y) equal-of min is-min x (nat 1000) n thousand-number (λ h. alike-not-zero h (unfold ofInt round in refl))
 
 -- ---- the functions that do not see a zero's sign
 

@@ -10,6 +10,7 @@ use Rattle.refusals.specs.declared.Refusal.the-variants.{Done, TooMany, Count, 
 use Rattle.limits.specs.Limits.{countsAllowed}
 use Rattle.models.specs.declared.params.Params.{Params}
 use Rattle.lists.specs.Over.{placed}
+use Rattle.qualities.specs.Order.{Pick, larger, smaller}
 use Rattle.probabilities.specs.Quality.{probabilities, qualityOf}
 use Rattle.alleles.specs.Alleles.{totalOf, alone, somaticIn}
 use Rattle.alleles.specs.declared.pair.Pair.{Pair}
@@ -51,10 +52,10 @@ flagsOver counts g = placed (replicate 8 false) (somaticIn counts g)
 unfoldable pub flagsOf : List ℕ → Pair → List Bool
 flagsOf counts g = flagsOver counts g (length counts)
 
--- what is read off the hypothesis that wins
-abbrev pub answerOf : List ℕ → Choice → MosaicResult
-answerOf counts choice =
-    let probs = probabilities (choice .posteriors) (choice .count) in
+-- what is read off the hypothesis that wins, by a max and a min
+abbrev pub answerOf : Pick → Pick → List ℕ → Choice → MosaicResult
+answerOf max min counts choice =
+    let probs = probabilities max min (choice .posteriors) (choice .count) in
     record {
       refusal = Done;
       ploidy = ploidyOf (choice .pair);
@@ -64,29 +65,29 @@ answerOf counts choice =
       seen = length (seenAlleles counts);
       observed = padded 8 0 (seenAlleles counts);
       posterior = choice .posterior;
-      quality = qualityOf probs (choice .count) (choice .best);
+      quality = qualityOf min probs (choice .count) (choice .best);
       hypotheses = choice .count;
       probabilities = probs;
     }
 
-unfoldable pub calledOf : Edition → Params → List ℕ → MosaicResult
-calledOf e p counts = answerOf counts (chosen e p counts)
+unfoldable pub calledOf : Pick → Pick → Edition → Params → List ℕ → MosaicResult
+calledOf max min e p counts = answerOf max min counts (chosen e p counts)
 
 -- R11: no call of a total below the least depth, or where no allele is seen, which is a total of 0 (`none-seen`, mosaic_laws/proofs/Answers.antt)
-abbrev pub callOf : Edition → Params → List ℕ → MosaicResult
-callOf e p counts = cond (ltb (totalOf counts) (p .depth) || eqb (totalOf counts) 0) (blank NoCall) (calledOf e p counts)
+abbrev pub callOf : Pick → Pick → Edition → Params → List ℕ → MosaicResult
+callOf max min e p counts = cond (ltb (totalOf counts) (p .depth) || eqb (totalOf counts) 0) (blank NoCall) (calledOf max min e p counts)
 
 -- O1: too many alleles, then the parameters, then the counts, then R11
-unfoldable pub genotypeBy : Edition → Params → List ℕ → MosaicResult
-genotypeBy e p counts =
+unfoldable pub genotypeBy : Pick → Pick → Edition → Params → List ℕ → MosaicResult
+genotypeBy max min e p counts =
     cond (leb (length counts) 8)
     (cond (paramsAllowed p)
     (cond (countsAllowed counts)
-    (callOf e p counts)
+    (callOf max min e p counts)
     (blank Count))
     (blank Model))
     (blank TooMany)
 
--- the first edition's
+-- the first edition's, by the crate's own max and min
 abbrev pub genotypeOf : Params → List ℕ → MosaicResult
-genotypeOf = genotypeBy first
+genotypeOf = genotypeBy larger smaller first

@@ -4,6 +4,7 @@ ghost use mathlib.Core.Bool.{true};
 ghost use Prim.Native.Nat.{_≤_, _<_};
 ghost use lib.ListN.{length};
 ghost use Rattle.limits.specs.Limits.{countsAllowed};
+ghost use Rattle.qualities.specs.Order.{larger, smaller};
 ghost use Rattle.hypotheses.specs.Edition.{first};
 ghost use Rattle.mosaic.specs.Genotype.{blank, ploidyOf, germlineOf, flagsOf, answerOf, callOf, genotypeOf};
 ghost use Rattle.mosaic.specs.Inner.{listStep, listedBy};
@@ -128,7 +129,7 @@ fn list_alleles(counts: &[u32]) -> Alleles
 // What is read off the hypothesis that wins.
 fn answer(counts: &[u32], choice: Choice) -> MosaicResult
     requires { ⌜ length (now counts) ≤ 8 ⌝ }
-    ensures { λ r. ⌜ r ≡ answerOf (now (counts .entry)) choice ⌝ }
+    ensures { λ r. ⌜ r ≡ answerOf larger smaller (now (counts .entry)) choice ⌝ }
 {
     let n = choice.count;
     let posteriors = choice.posteriors;
@@ -156,7 +157,7 @@ fn answer(counts: &[u32], choice: Choice) -> MosaicResult
 
 fn call(params: Params, counts: &[u32]) -> MosaicResult
     requires { ⌜ (length (now counts) ≤ 8) × (countsAllowed (now counts) ≡ true) ⌝ }
-    ensures { λ r. ⌜ r ≡ callOf first params (now (counts .entry)) ⌝ }
+    ensures { λ r. ⌜ r ≡ callOf larger smaller first params (now (counts .entry)) ⌝ }
 {
     let depth = total(counts);
     if depth < params.depth {

@@ -18,6 +18,7 @@ use Rattle.floats.proofs.Bounds.{within-more, positive-not-below}
 use Rattle.refusals.specs.declared.Refusal.{Refusal}
 use Rattle.refusals.specs.declared.Refusal.the-variants.{TooMany, Count, Model, NoCall}
 use Rattle.limits.specs.Limits.{countsAllowed}
+use Rattle.qualities.specs.Order.{larger, smaller}
 use Rattle.probabilities.specs.Quality.{wholeOf, probabilityOf, probabilities}
 use Rattle.probabilities.proofs.InUse.{in-use-all}
 use Rattle.lists.specs.Lists.{numbers, passing}
@@ -160,23 +161,23 @@ module _ (p : Params) (counts : List ℕ) (ok : Accepted p counts) where
       (sym (List·getD-append m (replicate (36 - length m) (nat 0)) nan i (rw (length-map (hypotheses counts) posterior) h) ∙ map-at posterior (hypotheses counts) (pair 0 0) nan i h))
       (each-within i h)
 
-  chance-at : (i : ℕ) → i < n → getD (probabilities posts n) i nan ≡ probabilityOf (wholeOf posts n) (getD posts i nan)
+  chance-at : (i : ℕ) → i < n → getD (probabilities larger smaller posts n) i nan ≡ probabilityOf smaller (wholeOf larger posts n) (getD posts i nan)
   unfolding probabilities
-  chance-at i h = rw (in-use-all n (at-most-36 counts)) (placed-at (replicate 36 (nat 0)) (λ i. probabilityOf (wholeOf posts n) (getD posts i nan)) nan n (at-most-36 counts) i h)
+  chance-at i h = rw (in-use-all n (at-most-36 counts)) (placed-at (replicate 36 (nat 0)) (λ i. probabilityOf smaller (wholeOf larger posts n) (getD posts i nan)) nan n (at-most-36 counts) i h)
 
-  chance-beyond : (i : ℕ) → n ≤ i → i < 36 → getD (probabilities posts n) i nan ≡ nat 0
+  chance-beyond : (i : ℕ) → n ≤ i → i < 36 → getD (probabilities larger smaller posts n) i nan ≡ nat 0
   unfolding probabilities
   chance-beyond i h m =
       rw (in-use-all n (at-most-36 counts))
-      (placed-beyond (replicate 36 (nat 0)) (λ i. probabilityOf (wholeOf posts n) (getD posts i nan)) nan n i h ∙ getD-replicate 36 i (nat 0) nan m)
+      (placed-beyond (replicate 36 (nat 0)) (λ i. probabilityOf smaller (wholeOf larger posts n) (getD posts i nan)) nan n i h ∙ getD-replicate 36 i (nat 0) nan m)
 
-  chance-there : 0 < n → (i : ℕ) → i < n → Chance 2 (getD (probabilities posts n) i nan)
+  pub chance-there : 0 < n → (i : ℕ) → i < n → Chance 2 (getD (probabilities larger smaller posts n) i nan)
   chance-there some i h = subst (Chance 2) (sym (chance-at i h)) (chance posts n some (at-most-36 counts) posteriors-within i h)
 
-  chance-each : 0 < n → (i : ℕ) → i < 36 → Chance 2 (getD (probabilities posts n) i nan)
+  chance-each : 0 < n → (i : ℕ) → i < 36 → Chance 2 (getD (probabilities larger smaller posts n) i nan)
   chance-each some i m = go (ltb i n) refl
     where
-      go : (t : Bool) → ltb i n ≡ t → Chance 2 (getD (probabilities posts n) i nan)
+      go : (t : Bool) → ltb i n ≡ t → Chance 2 (getD (probabilities larger smaller posts n) i nan)
       go true e = chance-there some i (ltb-true i n e)
       go false e = subst (Chance 2) (sym (chance-beyond i (ltb-false i n e) m)) (chance-more nothing (lit≤ tt))
 
@@ -189,13 +190,13 @@ module _ (p : Params) (counts : List ℕ) (ok : Accepted p counts) where
           record { not-negative = positive-not-below (vafAt (foundOf first p counts g .vafs) i) (f .0 .above-zero); of-somatic = λ q. (f .0 .above-zero, f .1); of-other = λ q. absurd (true≢false q) }
       go false e = subst (VafOf false) (sym (found-rest counts (ok .few) g first p i m e)) nothing-here
 
-  pub finite-answer : 0 < totalOf counts → FiniteAnswer (calledOf first p counts)
+  pub finite-answer : 0 < totalOf counts → FiniteAnswer (calledOf larger smaller first p counts)
   unfolding calledOf
   finite-answer read =
       let some = some-hypothesis counts (ok .few) read in
       let few = at-most-36 counts in
       let best = winner posts n in
-      let probs = probabilities posts n in
+      let probs = probabilities larger smaller posts n in
       let m = low n best some (winner-low posts n (pred n) (omega arith)) in
       record {
         posterior-is = each-within best m;
@@ -226,7 +227,7 @@ every-answer p counts f h =
     go (leb (length counts) 8) (paramsAllowed p) (countsAllowed counts) (ltb (totalOf counts) (p .depth)) (eqb (totalOf counts) 0) refl refl refl refl
   where
     go : (a b c d e : Bool) → leb (length counts) 8 ≡ a → paramsAllowed p ≡ b → countsAllowed counts ≡ c → eqb (totalOf counts) 0 ≡ e
-        → FiniteAnswer (cond a (cond b (cond c (cond (d || e) (blank NoCall) (calledOf first p counts)) (blank Count)) (blank Model)) (blank TooMany))
+        → FiniteAnswer (cond a (cond b (cond c (cond (d || e) (blank NoCall) (calledOf larger smaller first p counts)) (blank Count)) (blank Model)) (blank TooMany))
     go false b c d e q r s t = blank-finite TooMany
     go true false c d e q r s t = blank-finite Model
     go true true false d e q r s t = blank-finite Count

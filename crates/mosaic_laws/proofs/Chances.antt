@@ -47,10 +47,10 @@ module _ (l : List Float) (n : ℕ) (some : 0 < n) (few : n ≤ 36) (given : (i 
   abbrev ten : ℕ → Float
   ten i = inTens (getD l i nan)
 
-  ten-within : (i : ℕ) → i < n → Within (2 ^ 47) (ten i)
+  pub ten-within : (i : ℕ) → i < n → Within (2 ^ 47) (ten i)
   ten-within i h = within-div (given i h) ten-above (lit≤ tt)
 
-  ten-fits : (i : ℕ) → T (fits binary64 (ten i))
+  pub ten-fits : (i : ℕ) → T (fits binary64 (ten i))
   ten-fits i = div-fits binary64 (getD l i nan) (lnOf (nat 10))
 
   -- ---- the largest
@@ -85,7 +85,7 @@ module _ (l : List Float) (n : ℕ) (some : 0 < n) (few : n ≤ 36) (given : (i 
       go true e = record { at = k; at-in = omega arith; is-it = refl; none-above = λ i q. split (λ i. lt (ten k) (ten i) ≡ false) i q (lt-itself (ten k)) (λ r. through i r e) }
       go false e = record { at = h .at; at-in = omega (arith, h .at-in); is-it = t-is; none-above = λ i q. split (λ i. lt t (ten i) ≡ false) i q e (h .none-above i) }
 
-  top-first : Top 1 (topOf l 1)
+  top-first : Top 1 (topOf larger l 1)
   top-first = rw (under-finite (ten 0) (ten-within 0 some .is-finite)) (record { at = 0; at-in = lit< tt; is-it = refl; none-above = only })
     where
       only : (i : ℕ) → i < 1 → lt (ten 0) (ten i) ≡ false
@@ -95,19 +95,19 @@ module _ (l : List Float) (n : ℕ) (some : 0 < n) (few : n ≤ 36) (given : (i 
           beyond : (i : ℕ) → suc i < 1 → ⊥
           beyond i h = omega arith
 
-  top-at : (k : ℕ) → suc k ≤ n → Top (suc k) (topOf l (suc k))
+  top-at : (k : ℕ) → suc k ≤ n → Top (suc k) (topOf larger l (suc k))
   top-at zero h = top-first
-  top-at (suc k) h = top-more (suc k) h (topOf l (suc k)) (top-at k (omega arith))
+  top-at (suc k) h = top-more (suc k) h (topOf larger l (suc k)) (top-at k (omega arith))
 
   abbrev top : Float
-  top = topOf l n
+  top = topOf larger l n
 
   top-is : Top n top
   top-is = go n some refl
     where
       go : (m : ℕ) → 0 < m → n ≡ m → Top n top
       go zero h e = absurd (not-suc-le-zero h)
-      go (suc m) h e = subst (λ (k : ℕ). Top k (topOf l k)) (sym e) (top-at m (omega arith))
+      go (suc m) h e = subst (λ (k : ℕ). Top k (topOf larger l k)) (sym e) (top-at m (omega arith))
 
   top-within : Within (2 ^ 47) top
   top-within = subst (Within (2 ^ 47)) (sym (top-is .is-it)) (ten-within (top-is .at) (top-is .at-in))
@@ -154,17 +154,20 @@ module _ (l : List Float) (n : ℕ) (some : 0 < n) (few : n ≤ 36) (given : (i 
   sum-fits zero = ofInt-fits binary64 (pos 0)
   sum-fits (suc k) = add-fits binary64 (sumOf l top k) (pow10Of (ten k ⊖ top))
 
-  whole-within : Within (2 ^ 48) (wholeOf l n)
+  pub log-within : Within (2 ^ 12) (log10Of (sumOf l top n))
+  log-within = within-log10 (sumOf l top n) (sum-fits n) (sum-above n (omega arith) (top-is .at-in) .is-positive)
+
+  pub whole-within : Within (2 ^ 48) (wholeOf larger l n)
   unfolding wholeOf
-  whole-within = within-more (within-add top-within (within-log10 (sumOf l top n) (sum-fits n) (sum-above n (omega arith) (top-is .at-in) .is-positive)) (lit≤ tt)) (lit≤ tt)
+  whole-within = within-more (within-add top-within log-within (lit≤ tt)) (lit≤ tt)
 
   -- ---- the probabilities, and the quality
 
-  pub chance : (i : ℕ) → i < n → Chance 2 (probabilityOf (wholeOf l n) (getD l i nan))
+  pub chance : (i : ℕ) → i < n → Chance 2 (probabilityOf smaller (wholeOf larger l n) (getD l i nan))
   unfolding probabilityOf
   chance i h =
-      let s = smaller-zero (ten i ⊖ wholeOf l n) (within-sub (ten-within i h) whole-within (lit≤ tt)) in
-      let r = pow10-within (smaller (ten i ⊖ wholeOf l n) (nat 0)) (s .0) (s .1) (lit≤ tt) in
+      let s = smaller-zero (ten i ⊖ wholeOf larger l n) (within-sub (ten-within i h) whole-within (lit≤ tt)) in
+      let r = pow10-within (smaller (ten i ⊖ wholeOf larger l n) (nat 0)) (s .0) (s .1) (lit≤ tt) in
       record { within = r .0; not-negative = r .1 }
 
 -- of chances, all but one, and the quality that they make
@@ -182,18 +185,20 @@ module _ (ps : List Float) (n : ℕ) (few : n ≤ 36) (chances : (i : ℕ) → i
   wrong-fits zero = ofInt-fits binary64 (pos 0)
   wrong-fits (suc k) = either (λ v. T (fits binary64 v)) (not (eqb k best)) (wrongOf ps best k ⊕ getD ps k nan) (wrongOf ps best k) (λ e. add-fits binary64 (wrongOf ps best k) (getD ps k nan)) (λ e. wrong-fits k)
 
-  pub quality-within : Within (2 ^ 16) (qualityBy (wrongOf ps best n))
+  -- −10·log10 of a sum above 0
+  pub raw-within : lt (nat 0) (wrongOf ps best n) ≡ true → Within (2 ^ 16) (whole (negsuc 9) ⊗ log10Of (wrongOf ps best n))
+  raw-within e =
+      let p = positive-by-test (wrongOf ps best n) (wrong-chance n (omega arith) .within .is-finite) (unfold ofInt in e) in
+      within-more (within-mul (within-whole (negsuc 9) 10 (lit≤ tt) (lit≤ tt)) (within-log10 (wrongOf ps best n) (wrong-fits n) p) (lit≤ tt)) (lit≤ tt)
+
+  pub quality-within : Within (2 ^ 16) (qualityBy smaller (wrongOf ps best n))
   unfolding qualityBy
   quality-within =
       let w = wrongOf ps best n in
-      let c = wrong-chance n (omega arith) in
       let thousand = within-whole (pos 1000) (2 ^ 16) (lit≤ tt) (lit≤ tt) in
       within-div
       (either (Within (2 ^ 16)) (lt (nat 0) w) (smaller (whole (negsuc 9) ⊗ log10Of w) (nat 1000)) (nat 1000)
-      (λ e.
-      let p = positive-by-test w (c .within .is-finite) (unfold ofInt in e) in
-      let v = within-more (within-mul (within-whole (negsuc 9) 10 (lit≤ tt) (lit≤ tt)) (within-log10 w (wrong-fits n) p) (lit≤ tt)) (lit≤ tt) in
-      either (Within (2 ^ 16)) (lt (nat 1000) (whole (negsuc 9) ⊗ log10Of w)) (nat 1000) (whole (negsuc 9) ⊗ log10Of w) (λ t. thousand) (λ t. v))
+      (λ e. either (Within (2 ^ 16)) (lt (nat 1000) (whole (negsuc 9) ⊗ log10Of w)) (nat 1000) (whole (negsuc 9) ⊗ log10Of w) (λ t. thousand) (λ t. raw-within e))
       (λ e. thousand))
       (above-whole 10 (lit< tt) (lit≤ tt))
       (lit≤ tt)

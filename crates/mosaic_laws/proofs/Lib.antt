@@ -8,6 +8,8 @@ pub mod Places
 pub mod Finite
 pub mod Chances
 pub mod Answers
+pub mod OneLess
+pub mod AnyPick
 pub mod Winner
 pub mod Steps
 pub mod Count

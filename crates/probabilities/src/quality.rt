@@ -1,6 +1,7 @@
 // The probability of every hypothesis, and the quality of the winner (docs/RULES.md, M7).
 ghost use mathlib.Core.Path.{_≡_};
 ghost use Prim.Native.Nat.{_≤_};
+ghost use Rattle.qualities.specs.Order.{larger, smaller};
 ghost use Rattle.probabilities.specs.Quality.{inUse, topOf, sumOf, wholeOf, probabilityOf, probabilities, wrongOf, qualityOf};
 use qualities::order::max;
 use qualities::order::min;
@@ -17,7 +18,7 @@ pub(crate) fn in_use(n: usize) -> usize
 // The largest of the first n, as a decimal logarithm.
 fn top(posteriors: [f64; 36], n: usize) -> f64
     requires { ⌜ n ≤ 36 ⌝ }
-    ensures { λ r. ⌜ r ≡ topOf posteriors n ⌝ }
+    ensures { λ r. ⌜ r ≡ topOf larger posteriors n ⌝ }
 {
     let mut largest = -1.0 / 0.0;
     let mut i = 0;
@@ -44,21 +45,21 @@ fn sum(posteriors: [f64; 36], n: usize, largest: f64) -> f64
 
 fn whole(posteriors: [f64; 36], n: usize) -> f64
     requires { ⌜ n ≤ 36 ⌝ }
-    ensures { λ r. ⌜ r ≡ wholeOf posteriors n ⌝ }
+    ensures { λ r. ⌜ r ≡ wholeOf larger posteriors n ⌝ }
 {
     let largest = top(posteriors, n);
     largest + log10(sum(posteriors, n, largest))
 }
 
 fn probability(posterior: f64, log10_sum: f64) -> f64
-    ensures { λ r. ⌜ r ≡ probabilityOf «log10_sum» posterior ⌝ }
+    ensures { λ r. ⌜ r ≡ probabilityOf smaller «log10_sum» posterior ⌝ }
 {
     pow10(min(posterior / LN_TEN - log10_sum, 0.0))
 }
 
 // Of the first n, zeros after them.
 pub fn all_probabilities(posteriors: [f64; 36], n: usize) -> [f64; 36]
-    ensures { λ r. ⌜ r ≡ probabilities posteriors n ⌝ }
+    ensures { λ r. ⌜ r ≡ probabilities larger smaller posteriors n ⌝ }
 {
     let count = in_use(n);
     let log10_sum = whole(posteriors, count);
@@ -89,7 +90,7 @@ fn wrong(probabilities: [f64; 36], n: usize, best: usize) -> f64
 
 // Of the one at the place `best`, by the probabilities of the first n.
 pub fn quality(probabilities: [f64; 36], n: usize, best: usize) -> f64
-    ensures { λ r. ⌜ r ≡ qualityOf probabilities n best ⌝ }
+    ensures { λ r. ⌜ r ≡ qualityOf smaller probabilities n best ⌝ }
 {
     let p = wrong(probabilities, in_use(n), best);
     if p > 0.0 {

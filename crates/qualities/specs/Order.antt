@@ -1,13 +1,14 @@
 -- The larger and the smaller of two numbers, and a number's size. Definitions only (RULES.md, G2, G4).
-use mathlib.Core.Bool.{false, cond}
+use mathlib.Core.Bool.{true, false, cond}
 use mathlib.Core.Path.{_≡_}
 use mathlib.Core.Logic.{_⊎_}
 use lib.Dec.{T}
 use lib.Ieee.{Float, nan, inf, fin, lt, le}
 use lib.Ieee.Scale.{finite}
 
--- The larger and the smaller as this crate takes them. Where two zeros of unlike sign meet, Rust does not say which of them its max and min give, so
--- diploid's definitions stand over any `Pick`, and a law says that no answer depends on it (`genotype-any`, diploid_laws/proofs/AnyPick.antt).
+-- The larger and the smaller as this crate takes them. Where two zeros of unlike sign meet, Rust does not say which of them its max and min give, so the
+-- definitions of diploid and of mosaic's M7 stand over any `Pick`, and laws say that no answer depends on it (`genotype-any`,
+-- diploid_laws/proofs/AnyPick.antt; `mosaic-any`, mosaic_laws/proofs/AnyPick.antt).
 abbrev pub Pick : Type 0
 Pick = Float → Float → Float
 
@@ -17,6 +18,10 @@ IsMax max = (a b : Float) → T (finite a) → T (finite b) → ((max a b ≡ a)
 
 abbrev pub IsMin : Pick → Type 0
 IsMin min = (a b : Float) → T (finite a) → T (finite b) → ((min a b ≡ a) × T (le a b)) ⊎ ((min a b ≡ b) × T (le b a))
+
+-- of minus infinity, from which a fold may start, and a finite number a max gives the number
+abbrev pub FromLeast : Pick → Type 0
+FromLeast max = (x : Float) → T (finite x) → max (inf true) x ≡ x
 
 abbrev pub larger : Float → Float → Float
 larger a b = cond (lt a b) b a

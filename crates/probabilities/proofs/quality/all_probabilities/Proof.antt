@@ -2,6 +2,7 @@
 use mathlib.Core.Path.{_≡_, refl}
 use Prim.Native.Nat.{_≤_, _-_}
 use lib.Ieee.{ofInt, ofBits}
+use Rattle.qualities.specs.Order.{smaller}
 use Rattle.probabilities.specs.Quality.{probabilitiesOver, probabilities}
 use Rattle.probabilities.proofs.InUse.{in-use-low}
 use borrow.Author.Needs.{needs}
@@ -11,7 +12,7 @@ use Rattle.probabilities.proofs.quality.all_probabilities.Statement.{st
 use Rattle.probabilities.proofs.quality.all_probabilities.Tie as tie
 
 abbrev Inv-loop : tie.InvT-loop
-Inv-loop n posteriors count log10-sum all₀ i₀ all i = (i ≤ count) × (count ≤ 36) × (all ≡ probabilitiesOver posteriors log10-sum i)
+Inv-loop n posteriors count log10-sum all₀ i₀ all i = (i ≤ count) × (count ≤ 36) × (all ≡ probabilitiesOver smaller posteriors log10-sum i)
 
 abbrev μ-loop : tie.MeasureT-loop
 μ-loop n posteriors count log10-sum all₀ i₀ all i = count - i

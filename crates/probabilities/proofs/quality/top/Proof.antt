@@ -3,6 +3,7 @@ use mathlib.Core.Path.{_≡_, refl, ap, _∙_}
 use Prim.Native.Nat.{_≤_, _-_}
 use lib.Ieee.{div, neg, round, ofBits}
 use Rattle.tens.proofs.Log10Laws.{ln-ten}
+use Rattle.qualities.specs.Order.{larger}
 use Rattle.probabilities.specs.Quality.{topOf}
 use borrow.Author.Needs.{needs}
 use native.Mathlib.Omega.{arith}
@@ -11,7 +12,7 @@ use Rattle.probabilities.proofs.quality.top.Statement.{statement}
 use Rattle.probabilities.proofs.quality.top.Tie as tie
 
 abbrev Inv-loop : tie.InvT-loop
-Inv-loop n posteriors largest₀ i₀ largest i = (i ≤ n) × (largest ≡ topOf posteriors i)
+Inv-loop n posteriors largest₀ i₀ largest i = (i ≤ n) × (largest ≡ topOf larger posteriors i)
 
 abbrev μ-loop : tie.MeasureT-loop
 μ-loop n posteriors largest₀ i₀ largest i = n - i
@@ -39,7 +40,7 @@ loop-again : tie.Need-loop-again Inv-loop μ-loop
 loop-again c = (search needs, rw (add-one, c .max .ensures, c .before .before .loop .inv .1, ln-ten))
 
 returns : tie.Need-returns Inv-loop μ-loop
-returns c = let a = c .before .before .args in let e : c .before .loop .i ≡ a .n = omega arith in c .before .loop .inv .1 ∙ ap (topOf (a .t1)) e
+returns c = let a = c .before .before .args in let e : c .before .loop .i ≡ a .n = omega arith in c .before .loop .inv .1 ∙ ap (topOf larger (a .t1)) e
 
 pub top-spec : {M : Type 1} → statement M
 top-spec =
