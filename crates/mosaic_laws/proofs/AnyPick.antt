@@ -139,7 +139,7 @@ module _ (max min : Pick) (is-max : IsMax max) (from-least : FromLeast max) (is-
       let few = at-most-36 counts in
       rw (probabilities-any posts n some few (posteriors-within p counts ok), in-use-all n few, quality-any probs n few (chance-there p counts ok some) (winner posts n))
 
-  -- refusals do not come to a pick
+  -- of any counts and of parameters that are f64, as the struct's fields are; refusals do not come to a pick
   pub mosaic-any : (p : Params) (counts : List ℕ) → T (fits binary64 (p .alpha)) → T (fits binary64 (p .beta)) → genotypeBy max min first p counts ≡ genotypeOf p counts
   unfolding genotypeBy
   mosaic-any p counts f h =

@@ -35,7 +35,7 @@ first n = larger (larger (n .homref) (n .het)) (n .homalt)
 abbrev pub second : Scores → Float
 second n = larger (smaller (n .homref) (n .het)) (smaller (larger (n .homref) (n .het)) (n .homalt))
 
--- the second largest less the largest
+-- the second largest less the largest (in terms of order: `two-largest`, diploid_laws/proofs/Ordered.antt)
 unfoldable pub gapOf : Scores → Float
 gapOf n = second n ⊖ first n
 
