@@ -15,7 +15,7 @@ pub fn unreadable(text: &mut [u8], at: usize, number: u64) -> usize {
 
 // The number and the name of a refusal.
 fn refused(text: &mut [u8], at: usize, refusal: Refusal) -> usize {
-    let name = refusals::name(refusal);
+    let name = refusal_names::name(refusal);
     let numbered = lay_whole(text, at, refusals::number(refusal) as u64);
     let to_name = lay(text, numbered, b"\t");
     lay(text, to_name, field(&name, 0, 0))

@@ -7,7 +7,7 @@ use lib.ListN.{length, getD, replicate}
 use lib.Ieee.{Float, nan, inf, lt, le}
 use Rattle.floats.specs.F64.{_⊕_, _⊖_, _⊗_, _⊘_, nat, decimal}
 use Rattle.kernels.specs.Ln.{lnOf}
-use Rattle.qualities.specs.Order.{larger}
+use Rattle.picks.specs.Order.{larger}
 use Rattle.lists.specs.Over.{over, placed}
 use Rattle.alleles.specs.Alleles.{somaticIn, alone}
 use Rattle.alleles.specs.declared.pair.Pair.{Pair}

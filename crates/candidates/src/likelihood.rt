@@ -8,7 +8,7 @@ use crate::order::gained;
 use alleles::counts::somatic;
 use alleles::pair::Pair;
 use alleles::pair::alone;
-use qualities::order::max;
+use picks::order::max;
 
 // The somatic VAFs, summed.
 pub(crate) fn mass(counts: &[u32], g: Pair, vafs: [f64; 8]) -> f64

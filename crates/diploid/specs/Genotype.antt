@@ -15,7 +15,7 @@ use Rattle.models.specs.declared.state.State.the-variants.{Ref, Het, Hom, Non}
 use Rattle.diploid.specs.declared.genotype.GenotypeResult.{GenotypeResult}
 use Rattle.tables.specs.Tables.{tableAllowed}
 use Rattle.diploid.specs.Allowed.{modelAllowed}
-use Rattle.qualities.specs.Order.{Pick, larger, smaller}
+use Rattle.picks.specs.Order.{Pick, larger, smaller}
 use Rattle.scores.specs.declared.scores.Scored.{Scored}
 use Rattle.scores.specs.declared.scores.Scored.the-variants.{Beyond, Unread, Are}
 use Rattle.scores.specs.Scores.{scoredBy}

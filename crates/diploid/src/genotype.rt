@@ -1,6 +1,6 @@
 // The diploid genotype at every input.
 ghost use mathlib.Core.Path.{_≡_};
-ghost use Rattle.qualities.specs.Order.{larger, smaller};
+ghost use Rattle.picks.specs.Order.{larger, smaller};
 ghost use Rattle.diploid.specs.Genotype.{winner, blank, called, answered, genotypeOf};
 use crate::allowed::model_allowed;
 use floats::key::at_most;

@@ -17,7 +17,7 @@ use Rattle.qualities.specs.declared.scores.Scores.{Scores}
 use Rattle.tables.specs.Tables.{Entry, entries, tableAllowed}
 use Rattle.limits.specs.Limits.{inRange, allFit}
 use Rattle.diploid.specs.Allowed.{modelAllowed}
-use Rattle.qualities.specs.Order.{larger, smaller}
+use Rattle.picks.specs.Order.{larger, smaller}
 use Rattle.scores.specs.Scores.{ThreeEach, EachScore, scoresOf}
 use Rattle.qualities.specs.Quality.{Quality, qualsOf}
 use Rattle.tables.specs.Calibration.{Divides}

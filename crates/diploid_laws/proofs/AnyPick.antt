@@ -28,10 +28,10 @@ use Rattle.diploid.specs.declared.genotype.GenotypeResult.{GenotypeResult}
 use Rattle.limits.specs.Limits.{countAllowed}
 use Rattle.diploid.specs.Allowed.{modelAllowed}
 use Rattle.tables.specs.Tables.{tableAllowed}
-use Rattle.qualities.specs.Order.{Pick, IsMax, IsMin, larger, smaller, absolute}
+use Rattle.picks.specs.Order.{Pick, IsMax, IsMin, larger, smaller}
 use Rattle.scores.specs.declared.scores.Scored.the-variants.{Beyond, Unread, Are}
 use Rattle.scores.specs.Scores.{fraction, oneWay, eitherWay, phasedScores, scoresBy, scoresOf, scoredBy, ThreeEach, EachScore}
-use Rattle.qualities.specs.Quality.{inTens, wholeOf, normalised, minusTen, gapOf, qualsOf}
+use Rattle.qualities.specs.Quality.{absolute, inTens, wholeOf, normalised, minusTen, gapOf, qualsOf}
 use Rattle.tables.specs.Calibration.{calibrated}
 use Rattle.diploid.specs.Genotype.{winner, blank, called, answered, genotypeBy, genotypeOf}
 use Rattle.floats.proofs.Zeros.{zeroOf, Number, Alike, same, zeros, alike-sym, alike-trans, alike-number, add-alike, sub-alike, zeros-sum}

@@ -4,7 +4,7 @@ use mathlib.Core.Logic.{_⊎_, inl, inr}
 use mathlib.Core.Bool.{Bool, true, false, cond, true≢false}
 use lib.Ieee.{Float, lt}
 use Rattle.qualities.specs.declared.scores.Scores.{Scores}
-use Rattle.qualities.specs.Order.{larger, smaller}
+use Rattle.picks.specs.Order.{larger, smaller}
 use Rattle.qualities.specs.Quality.{first, second}
 use Rattle.diploid_laws.proofs.Signs.{lt-itself, lt-not-back}
 

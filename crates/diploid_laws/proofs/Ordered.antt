@@ -7,7 +7,7 @@ use lib.Ieee.{Float, lt, le}
 use Rattle.floats.proofs.Differences.{not-below}
 use Rattle.floats.proofs.Zeros.{Number, Alike, same, alike-sym, alike-trans, alike-number, lt-alike, neither-below}
 use Rattle.qualities.specs.declared.scores.Scores.{Scores}
-use Rattle.qualities.specs.Order.{larger, smaller}
+use Rattle.picks.specs.Order.{larger, smaller}
 use Rattle.qualities.specs.Quality.{first, second}
 use Rattle.scores.specs.Scores.{EachScore}
 use Rattle.diploid_laws.proofs.Signs.{lt-not-back}

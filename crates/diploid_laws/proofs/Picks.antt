@@ -12,9 +12,9 @@ use Rattle.floats.specs.F64.{_⊖_, _⊗_, nat}
 use Rattle.floats.proofs.Ranges.{le-not-lt}
 use Rattle.tens.specs.Log10.{pow10Of}
 use Rattle.qualities.specs.declared.scores.Scores.{Scores}
-use Rattle.qualities.specs.Order.{Pick, IsMax, IsMin, larger, smaller, absolute}
+use Rattle.picks.specs.Order.{Pick, IsMax, IsMin, larger, smaller}
 use Rattle.scores.specs.Scores.{EachScore}
-use Rattle.qualities.specs.Quality.{minusTen, first, second, gapOf}
+use Rattle.qualities.specs.Quality.{absolute, minusTen, first, second, gapOf}
 use Rattle.floats.proofs.Differences.{less-itself}
 use Rattle.floats.proofs.Zeros.{zeroOf, Number, Alike, same, zeros, alike-equal, alike-number, lt-alike, neither-below, sub-alike-below}
 use Rattle.diploid_laws.proofs.QualityBounds.{pow10-zero}

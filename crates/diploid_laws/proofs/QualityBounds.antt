@@ -22,9 +22,9 @@ use Rattle.tens.proofs.Log10Laws.{ln-ten}
 use Rattle.bounds.proofs.Log10Bounds.{within-log10}
 use Rattle.bounds.proofs.ExpBounds.{exp-within, exp-of-zero}
 use Rattle.qualities.specs.declared.scores.Scores.{Scores}
-use Rattle.qualities.specs.Order.{larger, smaller, absolute}
+use Rattle.picks.specs.Order.{larger, smaller}
 use Rattle.scores.specs.Scores.{EachScore}
-use Rattle.qualities.specs.Quality.{Quality, inTens, wholeOf, normalised, minusTen, first, second, gapOf, qualsOf}
+use Rattle.qualities.specs.Quality.{absolute, Quality, inTens, wholeOf, normalised, minusTen, first, second, gapOf, qualsOf}
 use Rattle.diploid_laws.proofs.ScoreBounds.{Fits}
 use Rattle.floats.proofs.Differences.{nought, less-itself, add-either, not-below}
 use Rattle.floats.proofs.Zeros.{zeroOf}

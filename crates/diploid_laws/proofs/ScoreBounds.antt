@@ -33,7 +33,7 @@ use Rattle.models.specs.declared.model.Mode.the-variants.{Beta, Bino, Phased}
 use Rattle.models.specs.declared.model.Model.{Model}
 use Rattle.limits.specs.Limits.{inRange, allIn}
 use Rattle.diploid.specs.Allowed.{modelAllowed}
-use Rattle.qualities.specs.Order.{Pick, IsMax, larger, IsMin, smaller}
+use Rattle.picks.specs.Order.{Pick, IsMax, larger, IsMin, smaller}
 use Rattle.scores.specs.Scores.{fraction, mean, precision, betaLnPmf, betaScore, binoScore, oneWay, eitherWay, phasedScores, scoresBy, scoresOf, ThreeEach, EachScore}
 use Rattle.floats.proofs.Differences.{nought, less-itself, less-larger, add-either, not-below}
 

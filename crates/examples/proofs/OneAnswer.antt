@@ -2,7 +2,7 @@
 -- A crate that comes adds its public functions here. Assumes nothing.
 use mathlib.Core.Path.{_≡_, sym, _∙_}
 use Rattle.refusals.proofs.number.Reads as number
-use Rattle.refusals.proofs.name.Reads as name
+use Rattle.refusal_names.proofs.name.Reads as name
 use Rattle.floats.proofs.key.key.Reads as key
 use Rattle.floats.proofs.key.at_most.Reads as at-most
 use Rattle.floats.proofs.key.below.Reads as below
@@ -24,8 +24,8 @@ use Rattle.limits.proofs.counts.count_allowed.Reads as count-allowed
 use Rattle.limits.proofs.counts.counts_allowed.Reads as counts-allowed
 use Rattle.tables.proofs.allowed.table_allowed.Reads as table-allowed
 use Rattle.tables.proofs.calibration.calibrate_gq.Reads as calibrate-gq
-use Rattle.qualities.proofs.order.max.Reads as max
-use Rattle.qualities.proofs.order.min.Reads as min
+use Rattle.picks.proofs.order.max.Reads as max
+use Rattle.picks.proofs.order.min.Reads as min
 use Rattle.qualities.proofs.quality.genotype_quals.Reads as genotype-quals
 use Rattle.scores.proofs.scores.genotype_scores.Reads as genotype-scores
 use Rattle.diploid.proofs.genotype.genotype.Reads as genotype

@@ -10,7 +10,7 @@ use Rattle.refusals.specs.declared.Refusal.the-variants.{Done, TooMany, Count, 
 use Rattle.limits.specs.Limits.{countsAllowed}
 use Rattle.models.specs.declared.params.Params.{Params}
 use Rattle.lists.specs.Over.{placed}
-use Rattle.qualities.specs.Order.{Pick, larger, smaller}
+use Rattle.picks.specs.Order.{Pick, larger, smaller}
 use Rattle.probabilities.specs.Quality.{probabilities, qualityOf}
 use Rattle.alleles.specs.Alleles.{totalOf, alone, somaticIn}
 use Rattle.alleles.specs.declared.pair.Pair.{Pair}

@@ -4,7 +4,7 @@ ghost use mathlib.Core.Bool.{true};
 ghost use Prim.Native.Nat.{_≤_, _<_};
 ghost use lib.ListN.{length};
 ghost use Rattle.limits.specs.Limits.{countsAllowed};
-ghost use Rattle.qualities.specs.Order.{larger, smaller};
+ghost use Rattle.picks.specs.Order.{larger, smaller};
 ghost use Rattle.hypotheses.specs.Edition.{first};
 ghost use Rattle.mosaic.specs.Genotype.{blank, ploidyOf, germlineOf, flagsOf, answerOf, callOf, genotypeOf};
 ghost use Rattle.mosaic.specs.Inner.{listStep, listedBy};

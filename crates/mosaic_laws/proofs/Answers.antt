@@ -18,7 +18,7 @@ use Rattle.floats.proofs.Bounds.{within-more, positive-not-below}
 use Rattle.refusals.specs.declared.Refusal.{Refusal}
 use Rattle.refusals.specs.declared.Refusal.the-variants.{TooMany, Count, Model, NoCall}
 use Rattle.limits.specs.Limits.{countsAllowed}
-use Rattle.qualities.specs.Order.{larger, smaller}
+use Rattle.picks.specs.Order.{larger, smaller}
 use Rattle.probabilities.specs.Quality.{wholeOf, probabilityOf, probabilities}
 use Rattle.probabilities.proofs.InUse.{in-use-all}
 use Rattle.lists.specs.Lists.{numbers, passing}

@@ -21,7 +21,7 @@ use Rattle.tens.specs.Log10.{log10Of, pow10Of}
 use Rattle.refusals.specs.declared.Refusal.the-variants.{TooMany, Count, Model, NoCall}
 use Rattle.limits.specs.Limits.{countsAllowed}
 use Rattle.models.specs.declared.params.Params.{Params}
-use Rattle.qualities.specs.Order.{Pick, IsMax, IsMin, FromLeast, larger, smaller}
+use Rattle.picks.specs.Order.{Pick, IsMax, IsMin, FromLeast, larger, smaller}
 use Rattle.diploid_laws.proofs.Picks.{zero-number, max-alike, max-same, min-alike, cap-same, larger-alike, smaller-alike, larger-number, pow10-alike}
 use Rattle.lists.proofs.OverLaws.{over-same}
 use Rattle.probabilities.specs.Quality.{inTens, topOf, sumOf, wholeOf, probabilityOf, probabilities, wrongOf, qualityBy}

@@ -21,7 +21,7 @@ use Rattle.tens.specs.Log10.{log10Of, pow10Of}
 use Rattle.bounds.proofs.Log10Bounds.{within-log10}
 use Rattle.diploid_laws.proofs.Signs.{lt-itself, lt-not-back, not-below-trans, difference-not-above, not-below-add}
 use Rattle.diploid_laws.proofs.QualityBounds.{one-above, pow10-within, pow10-zero, ten-above, smaller-zero}
-use Rattle.qualities.specs.Order.{larger, smaller}
+use Rattle.picks.specs.Order.{larger, smaller}
 use Rattle.probabilities.specs.Quality.{inTens, topOf, sumOf, wholeOf, probabilityOf, wrongOf, qualityBy}
 use Rattle.mosaic_laws.proofs.Terms.{either}
 use Rattle.mosaic_laws.proofs.Sums.{grows}

@@ -25,7 +25,7 @@ use Rattle.stirlings.specs.Stirling.{pi, stirlingFromOne, stirlingOf, lnFactori
 use Rattle.mosaic.specs.Allowed.{paramsAllowed}
 use Rattle.limits.specs.Limits.{inRange}
 use Rattle.alleles.specs.Alleles.{alone}
-use Rattle.qualities.specs.Order.{larger}
+use Rattle.picks.specs.Order.{larger}
 use Rattle.candidates.specs.Shares.{germlineShare, gainOf}
 use Rattle.sites.specs.Site.{densityOf, forOne, forTwo}
 use Rattle.models.specs.declared.params.Params.{Params}

@@ -9,7 +9,7 @@ use lib.Ieee.{Float, nan, inf, lt}
 use Rattle.floats.specs.F64.{_⊕_, _⊖_, _⊗_, _⊘_, nat, whole}
 use Rattle.kernels.specs.Ln.{lnOf}
 use Rattle.tens.specs.Log10.{log10Of, pow10Of}
-use Rattle.qualities.specs.Order.{Pick}
+use Rattle.picks.specs.Order.{Pick}
 use Rattle.lists.specs.Over.{over, placed}
 
 -- how many places are in use: n, or all 36 where n is more

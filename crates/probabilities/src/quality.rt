@@ -1,10 +1,10 @@
 // The probability of every hypothesis, and the quality of the winner (docs/RULES.md, M7).
 ghost use mathlib.Core.Path.{_≡_};
 ghost use Prim.Native.Nat.{_≤_};
-ghost use Rattle.qualities.specs.Order.{larger, smaller};
+ghost use Rattle.picks.specs.Order.{larger, smaller};
 ghost use Rattle.probabilities.specs.Quality.{inUse, topOf, sumOf, wholeOf, probabilityOf, probabilities, wrongOf, qualityOf};
-use qualities::order::max;
-use qualities::order::min;
+use picks::order::max;
+use picks::order::min;
 use tens::log10::LN_TEN;
 use tens::log10::log10;
 use tens::log10::pow10;

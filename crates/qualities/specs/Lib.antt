@@ -1,3 +1,2 @@
 -- The definitions that the contracts of `qualities` cite.
-pub mod Order
 pub mod Quality

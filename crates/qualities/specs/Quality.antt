@@ -1,13 +1,20 @@
 -- The qualities, from the three scores. Definitions only (RULES.md, G4).
+use mathlib.Core.Bool.{false}
 use lib.IntN.{pos, negℤ}
-use lib.Ieee.{Float}
+use lib.Ieee.{Float, nan, inf, fin}
 use Rattle.floats.specs.F64.{_⊕_, _⊖_, _⊗_, _⊘_, whole, nat}
 use Rattle.floats.specs.Within.{Within, NotBelow}
 use Rattle.kernels.specs.Ln.{lnOf}
 use Rattle.tens.specs.Log10.{log10Of, pow10Of}
 use Rattle.qualities.specs.declared.scores.Scores.{Scores}
 use Rattle.qualities.specs.declared.quality.Quals.{Quals}
-use Rattle.qualities.specs.Order.{Pick, larger, smaller, absolute}
+use Rattle.picks.specs.Order.{Pick, larger, smaller}
+
+-- a number's size
+abbrev pub absolute : Float → Float
+absolute nan = nan
+absolute (inf s) = inf false
+absolute (fin s m e) = fin false m e
 
 -- the three as decimal logarithms
 unfoldable pub inTens : Scores → Scores

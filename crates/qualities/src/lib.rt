@@ -1,4 +1,3 @@
 // The qualities of a genotype, from the scores of its three states.
-pub mod order;
 pub mod quality;
 pub mod scores;

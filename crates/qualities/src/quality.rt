@@ -1,11 +1,10 @@
 // The qualities gq and sq, from the three scores.
 ghost use mathlib.Core.Path.{_≡_};
-ghost use Rattle.qualities.specs.Order.{larger, smaller};
-ghost use Rattle.qualities.specs.Quality.{inTens, wholeOf, normalised, gapOf, qualsOf};
-use crate::order::abs;
-use crate::order::max;
-use crate::order::min;
+ghost use Rattle.picks.specs.Order.{larger, smaller};
+ghost use Rattle.qualities.specs.Quality.{absolute, inTens, wholeOf, normalised, gapOf, qualsOf};
 use crate::scores::Scores;
+use picks::order::max;
+use picks::order::min;
 use tens::log10::LN_TEN;
 use tens::log10::log10;
 use tens::log10::pow10;
@@ -13,6 +12,12 @@ use tens::log10::pow10;
 pub struct Quals {
     pub gq: f64,
     pub sq: f64,
+}
+
+fn abs(x: f64) -> f64
+    ensures { λ r. ⌜ r ≡ absolute x ⌝ }
+{
+    if x <= 0.0 { 0.0 - x } else { x }
 }
 
 // The three as decimal logarithms.

@@ -1,6 +1,6 @@
-// The refusals: one enum for every crate, with its numbers and names.
+// The refusals: one enum for every crate, with its numbers.
 ghost use mathlib.Core.Path.{_≡_};
-ghost use Rattle.refusals.specs.Refusals.{numberOf, nameOf};
+ghost use Rattle.refusals.specs.Refusals.{numberOf};
 
 // Done, or why a step was refused.
 pub enum Refusal {
@@ -37,26 +37,5 @@ pub fn number(r: Refusal) -> u32
         Refusal::NotComplete => 10,
         Refusal::NoCall => 11,
         Refusal::BadPart => 12,
-    }
-}
-
-// Its name, filled up with zero bytes to the length of the longest.
-pub fn name(r: Refusal) -> [u8; 11]
-    ensures { λ n. ⌜ n ≡ nameOf r ⌝ }
-{
-    match r {
-        Refusal::Done => *b"done\0\0\0\0\0\0\0",
-        Refusal::NoCluster => *b"NoCluster\0\0",
-        Refusal::TooMany => *b"TooMany\0\0\0\0",
-        Refusal::Shape => *b"Shape\0\0\0\0\0\0",
-        Refusal::Count => *b"Count\0\0\0\0\0\0",
-        Refusal::Weight => *b"Weight\0\0\0\0\0",
-        Refusal::Model => *b"Model\0\0\0\0\0\0",
-        Refusal::Table => *b"Table\0\0\0\0\0\0",
-        Refusal::Row => *b"Row\0\0\0\0\0\0\0\0",
-        Refusal::OtherTrio => *b"OtherTrio\0\0",
-        Refusal::NotComplete => *b"NotComplete",
-        Refusal::NoCall => *b"NoCall\0\0\0\0\0",
-        Refusal::BadPart => *b"BadPart\0\0\0\0",
     }
 }

@@ -15,7 +15,7 @@ use Rattle.models.specs.declared.model.Mode.{Mode}
 use Rattle.models.specs.declared.model.Mode.the-variants.{Beta, Bino, Phased}
 use Rattle.models.specs.declared.model.Model.{Model}
 use Rattle.qualities.specs.declared.scores.Scores.{Scores}
-use Rattle.qualities.specs.Order.{Pick}
+use Rattle.picks.specs.Order.{Pick}
 use Rattle.scores.specs.declared.scores.Scored.{Scored}
 use Rattle.scores.specs.declared.scores.Scored.the-variants.{Beyond, Unread, Are}
 

@@ -4,7 +4,7 @@ ghost use Prim.Native.Nat.{_+_, _-_, _<_, _≤_};
 ghost use Rattle.floats.specs.F64.{_⊕_};
 ghost use Rattle.kernels.specs.Ln.{lnOf};
 ghost use Rattle.binomials.specs.Binomial.{lnChoose, lnPmf};
-ghost use Rattle.qualities.specs.Order.{larger};
+ghost use Rattle.picks.specs.Order.{larger};
 ghost use Rattle.scores.specs.Scores.{fraction, betaLnPmf, betaScore, betaScores, binoScore, binoScores, fullLnFactorial, oneWay, eitherWay, phasedScores, scoresOf, scoredBy};
 use crate::counts::counts_allowed;
 use binomials::binomial::ln_choose;
@@ -14,7 +14,7 @@ use kernels::exp::exp;
 use kernels::ln::ln;
 use models::model::Mode;
 use models::model::Model;
-use qualities::order::max;
+use picks::order::max;
 use qualities::scores::Scores;
 
 // What three counts score: nothing where one is beyond its limit, or where there are no reads.

@@ -2,7 +2,7 @@
 use mathlib.Core.Path.{_≡_, refl}
 use Prim.Native.Nat.{_≤_, _-_}
 use lib.Ieee.{ofInt, ofBits}
-use Rattle.qualities.specs.Order.{smaller}
+use Rattle.picks.specs.Order.{smaller}
 use Rattle.probabilities.specs.Quality.{probabilitiesOver, probabilities}
 use Rattle.probabilities.proofs.InUse.{in-use-low}
 use borrow.Author.Needs.{needs}

@@ -3,7 +3,7 @@ use mathlib.Core.Path.{_≡_, refl, ap, _∙_}
 use Prim.Native.Nat.{_≤_, _-_}
 use lib.Ieee.{div, neg, round, ofBits}
 use Rattle.tens.proofs.Log10Laws.{ln-ten}
-use Rattle.qualities.specs.Order.{larger}
+use Rattle.picks.specs.Order.{larger}
 use Rattle.probabilities.specs.Quality.{topOf}
 use borrow.Author.Needs.{needs}
 use native.Mathlib.Omega.{arith}

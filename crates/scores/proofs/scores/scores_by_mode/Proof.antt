@@ -6,7 +6,7 @@ use Rattle.models.specs.declared.model.Mode.{Mode}
 use Rattle.models.specs.declared.model.Mode.the-variants.{Beta, Bino, Phased}
 use Rattle.models.specs.declared.model.Model.{Model}
 use Rattle.qualities.specs.declared.scores.Scores.{Scores}
-use Rattle.qualities.specs.Order.{larger}
+use Rattle.picks.specs.Order.{larger}
 use Rattle.scores.specs.Scores.{scoresBy}
 use Rattle.scores.proofs.scores.scores_by_mode.Statement.{statement}
 use Rattle.scores.proofs.scores.scores_by_mode.Tie as tie

@@ -1,8 +1,8 @@
--- `refusals::name` meets its contract: each arm has the bytes of the name that the definition gives its case. Assumes nothing.
+-- `refusal_names::name` meets its contract: each arm has the bytes of the name that the definition gives its case. Assumes nothing.
 use mathlib.Core.Path.{refl}
 use borrow.Author.Needs.{needs}
-use Rattle.refusals.proofs.name.Statement.{statement}
-use Rattle.refusals.proofs.name.Tie as tie
+use Rattle.refusal_names.proofs.name.Statement.{statement}
+use Rattle.refusal_names.proofs.name.Tie as tie
 
 enum-told : tie.Need-enum-told
 enum-told c = search needs

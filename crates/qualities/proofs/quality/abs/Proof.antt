@@ -1,4 +1,4 @@
--- `qualities::order::abs` meets its contract: 0.0 − x is exact, and never −0.0. Assumes nothing.
+-- `qualities::quality::abs` meets its contract: 0.0 − x is exact, and never −0.0. Assumes nothing.
 use mathlib.Core.Path.{_≡_, refl, sym, subst}
 use mathlib.Core.Bool.{true, false, true≢false}
 use Prim.Native.Nat.{zero, suc}
@@ -6,10 +6,10 @@ use lib.Dec.{T, eqb·suc-zero}
 use lib.Ieee.{Float, nan, inf, fin, binary64, round, neg, sum, add, sub, le, fits, ofBits}
 use Rattle.floats.specs.F64.{_⊖_}
 use Rattle.floats.proofs.Floats.{eq-zero, lt-zero}
-use Rattle.qualities.specs.Order.{absolute}
+use Rattle.qualities.specs.Quality.{absolute}
 use Rattle.floats.proofs.Zeros.{zeroOf, zero-fits, zero-plus}
-use Rattle.qualities.proofs.order.abs.Statement.{statement}
-use Rattle.qualities.proofs.order.abs.Tie as tie
+use Rattle.qualities.proofs.quality.abs.Statement.{statement}
+use Rattle.qualities.proofs.quality.abs.Tie as tie
 
 below : (x : Float) → T (fits binary64 x) → le x (zeroOf false) ≡ true → zeroOf false ⊖ x ≡ absolute x
 unfolding le sub neg

@@ -1,9 +1,9 @@
--- The larger and the smaller of two numbers, and a number's size. Definitions only (RULES.md, G2, G4).
-use mathlib.Core.Bool.{true, false, cond}
+-- The larger and the smaller of two numbers. Definitions only (RULES.md, G2, G4).
+use mathlib.Core.Bool.{true, cond}
 use mathlib.Core.Path.{_≡_}
 use mathlib.Core.Logic.{_⊎_}
 use lib.Dec.{T}
-use lib.Ieee.{Float, nan, inf, fin, lt, le}
+use lib.Ieee.{Float, inf, lt, le}
 use lib.Ieee.Scale.{finite}
 
 -- The larger and the smaller as this crate takes them. Where two zeros of unlike sign meet, Rust does not say which of them its max and min give, so the
@@ -28,8 +28,3 @@ larger a b = cond (lt a b) b a
 
 abbrev pub smaller : Float → Float → Float
 smaller a b = cond (lt b a) b a
-
-abbrev pub absolute : Float → Float
-absolute nan = nan
-absolute (inf s) = inf false
-absolute (fin s m e) = fin false m e

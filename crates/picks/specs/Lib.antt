@@ -1,0 +1,2 @@
+-- The definitions that the contracts of `picks` cite.
+pub mod Order

@@ -1,0 +1,2 @@
+// The larger and the smaller of two numbers.
+pub mod order;

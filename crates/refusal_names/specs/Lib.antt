@@ -1,0 +1,2 @@
+-- The definition that the contract of `refusal_names` cites.
+pub mod Names
