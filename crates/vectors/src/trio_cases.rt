@@ -8,7 +8,7 @@ use crate::words;
 use crate::write;
 use crate::write::Out;
 use crate::write::Text;
-use closings::animal;
+use animals::animal;
 use closings::closing::Closed;
 use family::ground;
 use family::pair::Pair;
