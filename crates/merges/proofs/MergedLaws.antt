@@ -8,14 +8,14 @@ use mathlib.Mathlib.Data.Bool.Basic.{or-inr}
 use borrow.Author.Tests.{eqb-true, eqb-false, eq-eqb, ne-eqb, not-true}
 use lib.Dec.{T, eqb}
 use Rattle.entries.specs.declared.entry.Entry.{Entry}
-use Rattle.entries.specs.Best.{In, Or, Rest, Best, Ranks, allOffered}
+use Rattle.entries.specs.Best.{In, Or, Rest, Best, allOffered}
 use Rattle.entries.specs.Rank.{beatsOf}
 use Rattle.entries.specs.Kept.{without, firstAtEach, kept}
 use Rattle.entries.specs.Held.{inUse}
 use Rattle.merges.specs.Merged.{holdsAt, fresh, mergedHeld}
 use Rattle.entries.proofs.BestLaws.{passing-in, in-passing, Fresh, best-ext, best-in, best-unique, all-offered-best}
 use Rattle.entries.proofs.RankLaws.{ranks-apart}
-use Rattle.entries.proofs.KeptLaws.{without-in, in-without, OneEach, best-kept, first-in, first-one}
+use Rattle.entries.proofs.KeptLaws.{without-in, in-without, best-kept, first-one}
 
 -- ---- what is held, and what is fresh to it
 
