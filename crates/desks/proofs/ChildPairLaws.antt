@@ -9,8 +9,8 @@ use lib.ListN.{length}
 use Rattle.lists.proofs.PassingLaws.{passing-length}
 use Rattle.family.specs.declared.pair.Pair.{Pair}
 use Rattle.family.specs.Genotypes.{pair}
-use Rattle.mendel.specs.Mendel.{ordered, samePair, among, withoutPair, distinct, childPairs}
-use Rattle.mendel.proofs.MendelLaws.{same-is, among-without}
+use Rattle.mendel.specs.Mendel.{ordered, samePair, among, distinct, childPairs}
+use Rattle.mendel.proofs.MendelLaws.{same-is, withoutPair, among-without}
 use Rattle.desks.specs.ChildPairs.{noRepeat}
 
 -- ---- the same pairs are among them

@@ -61,6 +61,6 @@ genotypeBy max min m table ref alt1 alt2 =
     (blank Table))
     (blank BadModel)
 
--- the answer, with this crate's own max and min
+-- the answer, by `larger` and `smaller`
 abbrev pub genotypeOf : Model → List Float → ℕ → ℕ → ℕ → GenotypeResult
 genotypeOf = genotypeBy larger smaller

@@ -1,5 +1,5 @@
--- The largest of three and the next, in terms of order: `second` is the second largest, so that `gapOf` is the second largest less the largest. Assumes
--- nothing.
+-- The largest of three and the next, in terms of order: `second` is the second largest, so that `gapOf` is the second largest less the largest,
+-- but for the sign of a zero. Assumes nothing.
 use mathlib.Core.Path.{_≡_, refl, sym, _∙_, subst}
 use mathlib.Core.Bool.{Bool, true, false, cond, true≢false}
 use lib.Dec.{T}

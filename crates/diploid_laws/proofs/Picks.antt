@@ -1,4 +1,4 @@
--- Any max and any min beside the crate's own: alike but for a zero's sign, which neither a power of ten, nor a size, nor the difference of the two largest
+-- Any max and any min beside `larger` and `smaller`: alike but for a zero's sign, which neither a power of ten, nor a size, nor the difference of the two largest
 -- sees. Assumes nothing.
 use mathlib.Core.Path.{_≡_, refl, sym, ap, _∙_, subst}
 use mathlib.Core.Logic.{_⊎_, inl, inr}
@@ -21,7 +21,7 @@ use Rattle.diploid_laws.proofs.QualityBounds.{pow10-zero}
 use Rattle.diploid_laws.proofs.Signs.{lt-itself}
 use Rattle.diploid_laws.proofs.Largest.{tied-or-below}
 
--- ---- a pick and the crate's own
+-- ---- a pick beside `larger` or `smaller`
 
 -- r is a where b is not above it, or b where a is not above it: related to the crate's choice, where the two are related if neither is above the other
 module _ (R : Float → Float → Type 0) (of-equal : (x y : Float) → x ≡ y → R x y) where
@@ -68,7 +68,7 @@ smaller-number a b n k = go (lt b a)
     go true = k
     go false = n
 
--- ---- what any max and any min give: the crate's own but for a zero's sign, and the same where the second number is no zero
+-- ---- what any max and any min give: `larger` and `smaller` but for a zero's sign, and the same where the second number is no zero
 
 abbrev pub isZero : Float → Bool
 isZero nan = false

@@ -253,7 +253,7 @@ either-way-within {n} max a b is-max A B l = ⊎-elim by-first by-second (is-max
     by-second h =
         let x = less-larger a b (A .is-finite) (B .is-finite) (h .1) in unfold eitherWay in rw (h .0, less-itself b (B .is-finite)) (within-add B (joined-within (a ⊖ b) x) l)
 
--- the crate's own max is a max, and its min a min
+-- `larger` is a max, and `smaller` a min
 pub larger-is-max : IsMax larger
 larger-is-max a b f g = go (lt a b) refl
   where

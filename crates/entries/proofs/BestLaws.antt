@@ -7,7 +7,7 @@ use mathlib.Core.Path.{_≡_, refl, sym, ap, subst, _∙_}
 use lib.Dec.{T}
 use lib.ListN.{take}
 use Rattle.lists.specs.Lists.{passing}
-use Rattle.entries.specs.Best.{In, Or, Rest, IsBest, Best, offered, allOffered, Ranks}
+use Rattle.entries.specs.Best.{In, Or, Rest, IsBest, Best, offered, Ranks}
 
 -- ---- membership
 
@@ -48,6 +48,11 @@ module _ {A : Type 0} where
   fresh-under (a ∷ l) h g s f = (λ i. f .0 (s a i), fresh-under l (a ∷ h) (a ∷ g) (λ x. ⊎-elim (λ e. inl e) (λ i. inr (s x i))) (f .1))
 
 module _ {A : Type 0} (beats : A → A → Bool) where
+  -- h once a list has been offered to it, its first element first
+  abbrev pub allOffered : ℕ → List A → List A → List A
+  allOffered k h [] = h
+  allOffered k h (a ∷ more) = allOffered k (offered beats k a h) more
+
   -- ---- a set may be replaced by an equal one
 
   pub best-ext : (k : ℕ) (S U : A → Type 0) → ((x : A) → S x → U x) → ((x : A) → U x → S x) → (h : List A) → Best beats k S h → Best beats k U h
@@ -145,13 +150,13 @@ module _ {A : Type 0} (beats : A → A → Bool) where
     -- ---- offering a list
 
     pub all-offered-best : (k : ℕ) (l : List A) (S : A → Type 0) (h : List A) → ((x : A) → S x → Good x) → ((x : A) → In l x → Good x) → Best beats k S h → Fresh h l
-        → Best beats k (Or S (In l)) (allOffered beats k h l)
+        → Best beats k (Or S (In l)) (allOffered k h l)
     all-offered-best k [] S h gs gl b f = best-ext k S (Or S (In [])) (λ x s. inl s) (λ x. ⊎-elim (λ s. s) absurd) h b
     all-offered-best k (a ∷ l) S h gs gl b f =
         best-ext k (Or (Or S (λ x. x ≡ a)) (In l)) (Or S (In (a ∷ l)))
         (λ x. ⊎-elim (⊎-elim (λ s. inl s) (λ e. inr (inl e))) (λ i. inr (inr i)))
         (λ x. ⊎-elim (λ s. inl (inl s)) (⊎-elim (λ e. inl (inr e)) (λ i. inr i)))
-        (allOffered beats k (offered beats k a h) l)
+        (allOffered k (offered beats k a h) l)
         (all-offered-best k l (Or S (λ x. x ≡ a)) (offered beats k a h)
         (λ x. ⊎-elim (gs x) (λ e. gl x (inl e))) (λ x i. gl x (inr i)) (offered-best k S a h gs (gl a (inl refl)) b (f .0))
         (fresh-under l (a ∷ h) (offered beats k a h) (offered-in k a h) (f .1)))

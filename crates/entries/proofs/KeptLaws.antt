@@ -9,7 +9,7 @@ use lib.Dec.{T, eqb}
 use Rattle.entries.specs.declared.entry.Entry.{Entry}
 use Rattle.entries.specs.Best.{In, Rest, IsBest, Best}
 use Rattle.entries.specs.Rank.{beatsOf}
-use Rattle.entries.specs.Kept.{without, firstAtEach, passed, kept}
+use Rattle.entries.specs.Kept.{without, firstAtEach, keptOf, kept}
 use Rattle.entries.proofs.BestLaws.{passing-in, in-passing, best-ext}
 use Rattle.entries.proofs.RankLaws.{beats-transitive, ranks-apart}
 
@@ -44,24 +44,24 @@ module _ (replaces : Entry → Entry → Bool) where
   AllFair [] = Unit {0}
   AllFair (a ∷ l) = ((x : Entry) → In l x → Fair a x) × AllFair l
 
-  pub passed-best : (l : List Entry) (b : Entry) → AllFair (b ∷ l) → IsBest beatsOf (In (b ∷ l)) (passed replaces b l)
-  passed-best [] b f = (inl refl, λ x. ⊎-elim (λ e. inl e) absurd)
-  passed-best (e ∷ l) b f = go (replaces e b) refl (passed-best l b (λ x i. f .0 x (inr i), f .1 .1)) (passed-best l e (f .1))
+  pub kept-of-best : (l : List Entry) (b : Entry) → AllFair (b ∷ l) → IsBest beatsOf (In (b ∷ l)) (keptOf replaces b l)
+  kept-of-best [] b f = (inl refl, λ x. ⊎-elim (λ e. inl e) absurd)
+  kept-of-best (e ∷ l) b f = go (replaces e b) refl (kept-of-best l b (λ x i. f .0 x (inr i), f .1 .1)) (kept-of-best l e (f .1))
     where
       fair : Fair b e
       fair = f .0 e (inl refl)
 
-      go : (t : Bool) → replaces e b ≡ t → IsBest beatsOf (In (b ∷ l)) (passed replaces b l) → IsBest beatsOf (In (e ∷ l)) (passed replaces e l)
-          → IsBest beatsOf (In (b ∷ e ∷ l)) (passed replaces (cond t e b) l)
+      go : (t : Bool) → replaces e b ≡ t → IsBest beatsOf (In (b ∷ l)) (keptOf replaces b l) → IsBest beatsOf (In (e ∷ l)) (keptOf replaces e l)
+          → IsBest beatsOf (In (b ∷ e ∷ l)) (keptOf replaces (cond t e b) l)
       go true q stays goes = (
         inr (goes .0),
-        λ x. ⊎-elim (λ a. inr (best-beats (In (e ∷ l)) (passed replaces e l) goes e x (inl refl) (subst (λ (z : Entry). T (beatsOf e z)) (sym a) (fair .better q)))) (goes .1 x),
+        λ x. ⊎-elim (λ a. inr (best-beats (In (e ∷ l)) (keptOf replaces e l) goes e x (inl refl) (subst (λ (z : Entry). T (beatsOf e z)) (sym a) (fair .better q)))) (goes .1 x),
       )
       go false q stays goes = (
         ⊎-elim (λ a. inl a) (λ i. inr (inr i)) (stays .0),
         λ x. ⊎-elim (λ a. stays .1 x (inl a))
             (⊎-elim (λ a. ⊎-elim (λ c. stays .1 x (inl (a ∙ c)))
-            (λ t. inr (best-beats (In (b ∷ l)) (passed replaces b l) stays b x (inl refl) (subst (λ (z : Entry). T (beatsOf b z)) (sym a) t))) (fair .no-better q))
+            (λ t. inr (best-beats (In (b ∷ l)) (keptOf replaces b l) stays b x (inl refl) (subst (λ (z : Entry). T (beatsOf b z)) (sym a) t))) (fair .no-better q))
             (λ i. stays .1 x (inr i))),
       )
 
@@ -77,9 +77,9 @@ module _ (replaces : Entry → Entry → Bool) where
   kept-best zero l one f = tt
   kept-best (suc k) [] one f = λ x i. i
   kept-best (suc k) (e ∷ l) one f =
-      let p = passed replaces e l in
+      let p = keptOf replaces e l in
       let others = without (p .position) (e ∷ l) in
-      let b = passed-best l e f in (
+      let b = kept-of-best l e f in (
         b,
         best-ext beatsOf k (In others) (Rest (In (e ∷ l)) p)
             (λ x i. (without-in (p .position) (e ∷ l) x i .0, λ c. without-in (p .position) (e ∷ l) x i .1 (ap (λ (z : Entry). z .position) (sym c))))

@@ -40,11 +40,6 @@ module _ {A : Type 0} (beats : A → A → Bool) where
   offered (suc k) a [] = a ∷ []
   offered (suc k) a (b ∷ h) = cond (beats a b) (a ∷ take k (b ∷ h)) (b ∷ offered k a h)
 
-  -- the same for a list, its first element first
-  abbrev pub allOffered : ℕ → List A → List A → List A
-  allOffered k h [] = h
-  allOffered k h (a ∷ more) = allOffered k (offered k a h) more
-
 -- beats is a strict order, and of any two of the set that are not equal one beats the other
 pub record Ranks {A : Type 0} (Good : A → Type 0) (beats : A → A → Bool) : Type 0 where
   pub irreflexive : (a : A) → T (beats a a) → ⊥

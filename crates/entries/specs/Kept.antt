@@ -6,26 +6,23 @@ use lib.Dec.{eqb}
 use Rattle.lists.specs.Lists.{passing, distinctBy}
 use Rattle.entries.specs.declared.entry.Entry.{Entry}
 
-abbrev pub samePosition : Entry → Entry → Bool
-samePosition a b = eqb (a .position) (b .position)
+-- each position of a list once: of entries at one position the first stays
+abbrev pub firstAtEach : List Entry → List Entry
+firstAtEach l = distinctBy (λ a b. eqb (a .position) (b .position)) l
 
 -- the entries that are not at position p
 abbrev pub without : ℕ → List Entry → List Entry
 without p l = passing (λ e. not (eqb p (e .position))) l
 
--- each position of a list once: of entries at one position the first stays
-abbrev pub firstAtEach : List Entry → List Entry
-firstAtEach l = distinctBy samePosition l
-
--- when an entry replaces the one kept so far
+-- by a test of two entries: whether the first replaces the second, which was kept so far
 module _ (replaces : Entry → Entry → Bool) where
-  -- b, the kept entry, once the list has been passed
-  abbrev pub passed : Entry → List Entry → Entry
-  passed b [] = b
-  passed b (e ∷ l) = passed (cond (replaces e b) e b) l
+  -- what one pass over b and then the list keeps
+  abbrev pub keptOf : Entry → List Entry → Entry
+  keptOf b [] = b
+  keptOf b (e ∷ l) = keptOf (cond (replaces e b) e b) l
 
   -- what one pass keeps, then what a pass over the other positions keeps, and so on, k in all
   abbrev pub kept : ℕ → List Entry → List Entry
   kept zero l = []
   kept (suc k) [] = []
-  kept (suc k) (e ∷ l) = passed e l ∷ kept k (without (passed e l .position) (e ∷ l))
+  kept (suc k) (e ∷ l) = keptOf e l ∷ kept k (without (keptOf e l .position) (e ∷ l))

@@ -6,13 +6,14 @@ use lib.Dec.{eqb}
 use lib.Ieee.{binary64, toBits}
 use Rattle.parts.specs.declared.part.Part.{Part}
 
--- the same cluster number, the same counts, and the same weights bit for bit
+-- the same list
 abbrev pub sameNumbers : List ℕ → List ℕ → Bool
 sameNumbers [] [] = true
 sameNumbers [] (y ∷ ys) = false
 sameNumbers (x ∷ xs) [] = false
 sameNumbers (x ∷ xs) (y ∷ ys) = eqb x y && sameNumbers xs ys
 
+-- R9: the same cluster number, the same counts, and the same weights bit for bit
 unfoldable pub sameInput : Part → Part → Bool
 sameInput a b =
     eqb (a .clusters) (b .clusters)

@@ -12,7 +12,8 @@ use lib.Seq.{length-take-le, drop-cons, getD-take}
 use Rattle.lists.proofs.PassingLaws.{passing-append}
 use Rattle.family.specs.declared.pair.Pair.{Pair}
 use Rattle.family.specs.Genotypes.{pair}
-use Rattle.mendel.specs.Mendel.{samePair, among, withoutPair, distinct, pushed}
+use Rattle.lists.specs.Lists.{passing}
+use Rattle.mendel.specs.Mendel.{samePair, among, distinct, pushed}
 
 -- the test tells equal pairs
 pub same-is : (p q : Pair) → samePair p q ≡ true → p ≡ q
@@ -21,6 +22,10 @@ same-is p q e =
     let l = eqb-true (p .low) (q .low) (parts .0) in
     let h = eqb-true (p .high) (q .high) (parts .1) in
     ap (λ x. record { low = x; high = p .high }) l ∙ ap (λ x. record { low = q .low; high = x }) h
+
+-- the list without p
+abbrev pub withoutPair : Pair → List Pair → List Pair
+withoutPair p l = passing (λ q. not (samePair p q)) l
 
 -- to leave out q is to keep every other p
 pub among-without : (p q : Pair) (l : List Pair) → samePair q p ≡ false → among p (withoutPair q l) ≡ among p l

@@ -5,7 +5,7 @@ use mathlib.Core.List.{List, [], _∷_, _++_}
 use lib.Dec.{eqb, leb}
 use lib.ListN.{length, take}
 use lib.Ieee.{Float}
-use Rattle.lists.specs.Lists.{passing, distinctBy}
+use Rattle.lists.specs.Lists.{distinctBy}
 use Rattle.floats.specs.F64.{_⊘_, nat, decimal}
 use Rattle.kernels.specs.Ln.{lnOf}
 use Rattle.family.specs.declared.pair.Pair.{Pair}
@@ -23,10 +23,6 @@ samePair p q = eqb (p .low) (q .low) && eqb (p .high) (q .high)
 abbrev pub among : Pair → List Pair → Bool
 among p [] = false
 among p (q ∷ l) = samePair q p || among p l
-
--- the list without p
-abbrev pub withoutPair : Pair → List Pair → List Pair
-withoutPair p l = passing (λ q. not (samePair p q)) l
 
 -- each pair of a list once, where it first stands
 abbrev pub distinct : List Pair → List Pair

@@ -7,8 +7,9 @@ use mathlib.Core.Path.{_≡_, refl, sym, ap, ap₂, _∙_}
 use lib.Dec.{eqb}
 use Rattle.entries.specs.declared.entry.Entry.{Entry}
 use Rattle.entries.specs.declared.held.Held.{Held}
-use Rattle.entries.specs.Best.{offered, allOffered}
-use Rattle.entries.specs.Kept.{without, firstAtEach, passed, kept}
+use Rattle.entries.specs.Best.{offered}
+use Rattle.entries.proofs.BestLaws.{allOffered}
+use Rattle.entries.specs.Kept.{without, firstAtEach, keptOf, kept}
 use Rattle.entries.specs.Held.{heldOf, heldList, inUse}
 use Rattle.entries.specs.Rank.{beatsOf}
 use Rattle.entries.proofs.HeldLaws.{kept-whole}
@@ -42,7 +43,7 @@ merged-fits a b = go (firstAtEach (a ++ b))
   where
     go : (l : List Entry) → heldList (heldOf (kept beatsOf 2 l)) ≡ kept beatsOf 2 l
     go [] = refl
-    go (e ∷ l) = one-fits (passed beatsOf e l) (without (passed beatsOf e l .position) (e ∷ l))
+    go (e ∷ l) = one-fits (keptOf beatsOf e l) (without (keptOf beatsOf e l .position) (e ∷ l))
 
 pub tidy-none : heldOf [] ≡ heldOf (mergedHeld [] [])
 unfolding mergedHeld

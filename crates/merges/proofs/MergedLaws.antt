@@ -8,12 +8,13 @@ use mathlib.Mathlib.Data.Bool.Basic.{or-inr}
 use borrow.Author.Tests.{eqb-true, eqb-false, eq-eqb, ne-eqb, not-true}
 use lib.Dec.{T, eqb}
 use Rattle.entries.specs.declared.entry.Entry.{Entry}
-use Rattle.entries.specs.Best.{In, Or, Rest, Best, allOffered}
+use Rattle.lists.specs.Lists.{passing}
+use Rattle.entries.specs.Best.{In, Or, Rest, Best}
 use Rattle.entries.specs.Rank.{beatsOf}
 use Rattle.entries.specs.Kept.{without, firstAtEach, kept}
 use Rattle.entries.specs.Held.{inUse}
-use Rattle.merges.specs.Merged.{holdsAt, fresh, mergedHeld}
-use Rattle.entries.proofs.BestLaws.{passing-in, in-passing, Fresh, best-ext, best-in, best-unique, all-offered-best}
+use Rattle.merges.specs.Merged.{holdsAt, mergedHeld, Both}
+use Rattle.entries.proofs.BestLaws.{allOffered, passing-in, in-passing, Fresh, best-ext, best-in, best-unique, all-offered-best}
 use Rattle.entries.proofs.RankLaws.{ranks-apart}
 use Rattle.entries.proofs.KeptLaws.{without-in, in-without, best-kept, first-one}
 
@@ -48,7 +49,10 @@ held-same l m f g p = go (holdsAt l p) (holdsAt m p) refl refl
     go false true d e = absurd (clash m l g e d)
     go false false d e = d ∙ sym e
 
--- what is fresh is of the list, at a position that `own` does not hold
+-- the entries of bs at positions that `own` does not hold
+abbrev pub fresh : List Entry → List Entry → List Entry
+fresh own bs = passing (λ b. not (holdsAt own (b .position))) bs
+
 fresh-in : (own l : List Entry) (x : Entry) → In (fresh own l) x → In l x × (holdsAt own (x .position) ≡ false)
 fresh-in own l x i =
     let p = passing-in (λ (e : Entry). not (holdsAt own (e .position))) l x i in
@@ -59,11 +63,7 @@ in-fresh own l x i e = in-passing (λ (y : Entry). not (holdsAt own (y .position
 
 -- ---- one at each position, of two lists in a row
 
--- the entries of both: the first at each position of `own`, and of `given` those at positions that `own` does not hold
-abbrev pub OfBoth : List Entry → List Entry → Entry → Type 0
-OfBoth own given x = In (firstAtEach own) x ⊎ (In (firstAtEach given) x × (holdsAt own (x .position) ≡ false))
-
-pub append-of-both : (a b : List Entry) (x : Entry) → In (firstAtEach (a ++ b)) x → OfBoth a b x
+pub append-of-both : (a b : List Entry) (x : Entry) → In (firstAtEach (a ++ b)) x → Both a b x
 append-of-both [] b x i = inr (i, refl)
 append-of-both (e ∷ a) b x (inl q) = inl (inl q)
 append-of-both (e ∷ a) b x (inr i) =
@@ -71,7 +71,7 @@ append-of-both (e ∷ a) b x (inr i) =
     ⊎-elim (λ j. inl (inr (in-without (e .position) (firstAtEach a) x j (w .1))))
     (λ j. inr (j .0, rw (ne-eqb (e .position) (x .position) (w .1)) (j .1))) (append-of-both a b x (w .0))
 
-pub of-both-append : (a b : List Entry) (x : Entry) → OfBoth a b x → In (firstAtEach (a ++ b)) x
+pub of-both-append : (a b : List Entry) (x : Entry) → Both a b x → In (firstAtEach (a ++ b)) x
 of-both-append [] b x (inl i) = absurd i
 of-both-append [] b x (inr i) = i .0
 of-both-append (e ∷ a) b x (inl (inl q)) = inl q
@@ -84,10 +84,25 @@ of-both-append (e ∷ a) b x (inr i) = go (eqb (e .position) (x .position)) refl
     go true q h r = absurd (true≢false h)
     go false q h r = inr (in-without (e .position) (firstAtEach (a ++ b)) x (r h) (eqb-false (e .position) (x .position) q))
 
--- merging takes the best two of these
+-- ---- merging takes the best two of these, whatever is held
+
 pub merged-best-first : (a b : List Entry) → Best beatsOf 2 (In (firstAtEach (a ++ b))) (mergedHeld a b)
 unfolding mergedHeld
 merged-best-first a b = best-kept 2 (firstAtEach (a ++ b)) (first-one (a ++ b))
+
+module _ (a b : List Entry) where
+  -- both lists have one entry at a position
+  pub both-one : (x y : Entry) → Both a b x → Both a b y → x .position ≡ y .position → x ≡ y
+  both-one x y i j p = first-one (a ++ b) x y (of-both-append a b x i) (of-both-append a b y j) p
+
+  pub merged-two-best : Best beatsOf 2 (Both a b) (mergedHeld a b)
+  merged-two-best = best-ext beatsOf 2 (In (firstAtEach (a ++ b))) (Both a b) (append-of-both a b) (of-both-append a b) (mergedHeld a b) (merged-best-first a b)
+
+  -- and no other list is that
+  pub merged-only : (l : List Entry) → Best beatsOf 2 (Both a b) l → l ≡ mergedHeld a b
+  merged-only l p = best-unique beatsOf (Both a b) (ranks-apart (Both a b) both-one) 2 (Both a b) l (mergedHeld a b) p merged-two-best
+
+-- ---- the positions held
 
 without-holds : (l : List Entry) (q p : ℕ) → q ≢ p → holdsAt (without q l) p ≡ holdsAt l p
 without-holds [] q p n = refl

@@ -1,2 +1,2 @@
--- The definition that the contract of `merges` cites.
+-- The definitions of `merges`: what merging holds.
 pub mod Merged

@@ -88,6 +88,6 @@ genotypeBy max min e p counts =
     (blank Model))
     (blank TooMany)
 
--- the first edition's, by the crate's own max and min
+-- the first edition's, by `larger` and `smaller`
 abbrev pub genotypeOf : Params → List ℕ → MosaicResult
 genotypeOf = genotypeBy larger smaller first

@@ -41,7 +41,7 @@ use Rattle.mosaic_laws.proofs.Least.{under-finite}
 use Rattle.mosaic_laws.proofs.Chances.{Chance, ten-within, ten-fits, log-within, whole-within, raw-within}
 use Rattle.mosaic_laws.proofs.Answers.{some-hypothesis, posteriors-within, chance-there}
 
--- `larger` is such a max, as it is an `IsMax` (`larger-is-max`, diploid_laws/proofs/ScoreBounds.antt)
+-- what is asked of a max holds of `larger`: `FromLeast` here, `IsMax` by `larger-is-max` (diploid_laws/proofs/ScoreBounds.antt)
 pub larger-from-least : FromLeast larger
 larger-from-least x f = rw (under-finite x f)
 

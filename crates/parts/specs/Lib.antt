@@ -1,2 +1,2 @@
--- The definitions of `parts`: a part and its right shape.
+-- The definitions of `parts`: a part, its input and its work.
 pub mod Part

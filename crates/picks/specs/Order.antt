@@ -1,4 +1,4 @@
--- The larger and the smaller of two numbers. Definitions only (RULES.md, G2, G4).
+-- The larger and the smaller of two numbers. Definitions only (RULES.md, G2, G4, M3, M7).
 use mathlib.Core.Bool.{true, cond}
 use mathlib.Core.Path.{_≡_}
 use mathlib.Core.Logic.{_⊎_}
@@ -6,16 +6,15 @@ use lib.Dec.{T}
 use lib.Ieee.{Float, inf, lt, le}
 use lib.Ieee.Scale.{finite}
 
--- The larger and the smaller as this crate takes them. Where two zeros of unlike sign meet, Rust does not say which of them its max and min give, so the
--- definitions of diploid and of mosaic's M7 stand over any `Pick`, and laws say that no answer depends on it (`genotype-any`,
--- diploid_laws/proofs/AnyPick.antt; `mosaic-any`, mosaic_laws/proofs/AnyPick.antt).
+-- what gives one of two numbers
 abbrev pub Pick : Type 0
 Pick = Float → Float → Float
 
--- a `Pick` that is a max, as Rust's is (whose fold starts from minus infinity, which no score equals): of two finite numbers it gives one that the other is not above; and one that is a min: that the other is not below
+-- a max, as Rust's is: of two finite numbers one that the other is not above
 abbrev pub IsMax : Pick → Type 0
 IsMax max = (a b : Float) → T (finite a) → T (finite b) → ((max a b ≡ a) × T (le b a)) ⊎ ((max a b ≡ b) × T (le a b))
 
+-- a min, likewise: one that the other is not below
 abbrev pub IsMin : Pick → Type 0
 IsMin min = (a b : Float) → T (finite a) → T (finite b) → ((min a b ≡ a) × T (le a b)) ⊎ ((min a b ≡ b) × T (le b a))
 
@@ -23,6 +22,9 @@ IsMin min = (a b : Float) → T (finite a) → T (finite b) → ((min a b ≡ a)
 abbrev pub FromLeast : Pick → Type 0
 FromLeast max = (x : Float) → T (finite x) → max (inf true) x ≡ x
 
+-- The larger and the smaller, as the contracts take them. Where two zeros of unlike sign meet, Rust does not say which of them its max and min give, so the
+-- definitions of diploid and of mosaic's M7 stand over any `Pick`, and laws say that no answer depends on it (`genotype-any`,
+-- diploid_laws/proofs/AnyPick.antt; `mosaic-any`, mosaic_laws/proofs/AnyPick.antt).
 abbrev pub larger : Float → Float → Float
 larger a b = cond (lt a b) b a
 

@@ -1,2 +1,2 @@
--- The definitions that the contracts of `refusals` cite.
+-- The definition that the contract of `refusals` cites.
 pub mod Refusals

@@ -15,7 +15,7 @@ use Rattle.floats.specs.Key.{keyOf}
 use Rattle.entries.specs.Rank.{beatsOf}
 use Rattle.search.specs.Work.{notBelow, onePass, entryAt, IsEntry, entriesFrom}
 use Rattle.entries.proofs.BestLaws.{Fresh}
-use Rattle.entries.proofs.KeptLaws.{Fair, AllFair, kept-best}
+use Rattle.entries.proofs.KeptLaws.{OneEach, Fair, AllFair, kept-best}
 use Rattle.entries.proofs.RankLaws.{ranks-apart, larger-beats, later-beats}
 
 -- ---- the entries of one score function
@@ -74,7 +74,7 @@ rising-above (e ∷ l) p r x (inl q) = omega (arith, r .0, ap (λ (y : Entry). y
 rising-above (e ∷ l) p r x (inr i) = omega (arith, r .0, rising-above l (suc (e .position)) (r .1) x i)
 
 -- entries at one position are one entry
-rising-one : (l : List Entry) (p : ℕ) → Rising p l → (x y : Entry) → In l x → In l y → x .position ≡ y .position → x ≡ y
+rising-one : (l : List Entry) (p : ℕ) → Rising p l → OneEach l
 rising-one [] p r x y i j q = absurd i
 rising-one (e ∷ l) p r x y (inl a) (inl b) q = a ∙ sym b
 rising-one (e ∷ l) p r x y (inl a) (inr j) q = absurd (omega (arith, rising-above l (suc (e .position)) (r .1) y j, ap (λ (z : Entry). z .position) a))

@@ -20,7 +20,7 @@ use Rattle.floats.specs.Key.{keyOf}
 abbrev pub notBelow : Entry → Entry → Bool
 notBelow e b = not (ltZ (keyOf (e .score)) (keyOf (b .score)))
 
--- the best k, as one pass for each keeps them
+-- the best, which one pass keeps; then the runner-up, which a pass over the other positions keeps; and so on, k in all
 abbrev pub onePass : ℕ → List Entry → List Entry
 onePass k l = kept notBelow k l
 

@@ -7,12 +7,12 @@ use native.Mathlib.Nat.{add-zero, sub-zero}
 use native.Mathlib.Omega.{arith}
 use lib.Ieee.{Float}
 use Rattle.entries.specs.declared.held.Held.{Held}
-use Rattle.entries.specs.Best.{In, Or, offered, allOffered}
+use Rattle.entries.specs.Best.{In, Or, offered}
 use Rattle.entries.specs.Held.{heldOf, heldList}
 use Rattle.entries.specs.Rank.{beatsOf}
 use Rattle.search.specs.Work.{onePass, entryAt, IsEntry, entriesFrom}
 use Rattle.entries.proofs.HeldLaws.{kept-whole}
-use Rattle.entries.proofs.BestLaws.{best-ext, best-unique, all-offered-best}
+use Rattle.entries.proofs.BestLaws.{allOffered, best-ext, best-unique, all-offered-best}
 use Rattle.search.proofs.PassLaws.{entries-lie, entries-fresh, entries-rise, one-pass-best, ranks}
 use Rattle.search_laws.proofs.ShapeLaws.{held-back}
 

@@ -13,13 +13,15 @@ use Rattle.entries.specs.declared.entry.Entry.{Entry}
 use Rattle.entries.specs.declared.held.Held.{Held}
 use Rattle.entries.specs.Best.{In}
 use Rattle.entries.specs.Held.{inUse, heldOf, heldList}
-use Rattle.merges.specs.Merged.{holdsAt, mergedHeld}
+use Rattle.merges.specs.Merged.{holdsAt, mergedHeld, Both}
 use Rattle.marks.specs.Marks.{isMarked}
 use Rattle.search.specs.Shape.{heldCount, inMarked, scoredInMarked, workRight}
 use Rattle.search.proofs.CountLaws.{held-none, held-two}
-use Rattle.search_laws.specs.Both.{Both, Ordered}
+use Rattle.search_laws.specs.Ordered.{Ordered}
+use Rattle.entries.proofs.KeptLaws.{first-in, in-first}
+use Rattle.merges.proofs.MergedLaws.{both-one, merged-two-best}
 use Rattle.search_laws.proofs.WordLaws.{marked-or}
-use Rattle.search_laws.proofs.MergeLaws.{both-one, merged-two-best}
+use Rattle.search_laws.proofs.MergeLaws.{ordered-one}
 use Rattle.search_laws.proofs.ShapeLaws.{Shaped, right-shaped, marked-holds, Fills, best-right}
 
 -- ---- the entries in use
@@ -59,12 +61,18 @@ module _ (rows m k : ℕ) (a b : Held) (s : Shaped rows m a) (t : Shaped rows k 
   second-marked : m ≡ 0 → bitOr m k ≢ 0 → k ≢ 0
   second-marked z n e = n (ap₂ bitOr z e)
 
+  first-of : (e : Entry) → In (heldList a) e → Both (heldList a) (heldList b) e
+  first-of e i = inl (in-first (heldList a) (ordered-one (heldList a) (s .ordered)) e i)
+
+  second-of : m ≡ 0 → (e : Entry) → In (heldList b) e → Both (heldList a) (heldList b) e
+  second-of z e i = inr (in-first (heldList b) (ordered-one (heldList b) (t .ordered)) e i, none-held z (e .position))
+
   has-one : bitOr m k ≢ 0 → (e : Entry) × Both (heldList a) (heldList b) e
   has-one n = go (ℕ-discrete m 0)
     where
       go : Dec (m ≡ 0) → (e : Entry) × Both (heldList a) (heldList b) e
-      go (yes z) = (b .first, inr (first-held (b .count) (b .first) (b .second) (marked-holds t (second-marked z n)), none-held z (b .first .position)))
-      go (no z) = (a .first, inl (first-held (a .count) (a .first) (a .second) (marked-holds s z)))
+      go (yes z) = (b .first, second-of z (b .first) (first-held (b .count) (b .first) (b .second) (marked-holds t (second-marked z n))))
+      go (no z) = (a .first, first-of (a .first) (first-held (a .count) (a .first) (a .second) (marked-holds s z)))
 
   abbrev Two : Type 0
   Two = (d : Entry) × (e : Entry) × Both (heldList a) (heldList b) d × Both (heldList a) (heldList b) e × (d .position ≢ e .position)
@@ -76,17 +84,17 @@ module _ (rows m k : ℕ) (a b : Held) (s : Shaped rows m a) (t : Shaped rows k 
       go (yes z) =
           let c : 2 ≤ b .count = omega (arith, t .counted ∙ held-two rows k o (t .below) (second-marked z n)) in
           let d = second-held (b .count) (b .first) (b .second) c (t .ordered) in
-          (b .first, b .second, inr (first-held (b .count) (b .first) (b .second) (omega arith), none-held z (b .first .position)), inr (d .0, none-held z (b .second .position)), d .1)
+          (b .first, b .second, second-of z (b .first) (first-held (b .count) (b .first) (b .second) (omega arith)), second-of z (b .second) (d .0), d .1)
       go (no z) =
           let c : 2 ≤ a .count = omega (arith, s .counted ∙ held-two rows m o (s .below) z) in
           let d = second-held (a .count) (a .first) (a .second) c (s .ordered) in
-          (a .first, a .second, inl (first-held (a .count) (a .first) (a .second) (omega arith)), inl (d .0), d .1)
+          (a .first, a .second, first-of (a .first) (first-held (a .count) (a .first) (a .second) (omega arith)), first-of (a .second) (d .0), d .1)
 
   both-fills : Fills rows (bitOr m k) (Both (heldList a) (heldList b))
   both-fills =
       record {
-        scored = λ e. ⊎-elim (λ i. scored-first e (s .scored e i)) (λ i. scored-second e (t .scored e (i .0)));
-        apart = both-one (heldList a) (heldList b) (s .ordered) (t .ordered);
+        scored = λ e. ⊎-elim (λ i. scored-first e (s .scored e (first-in (heldList a) e i))) (λ i. scored-second e (t .scored e (first-in (heldList b) e (i .0))));
+        apart = both-one (heldList a) (heldList b);
         one = has-one;
         two = has-two;
       }
@@ -97,4 +105,4 @@ joined-right rows m k a b p q =
     let s = right-shaped rows m a p in
     let t = right-shaped rows k b q in
     best-right (both-fills rows m k a b s t) (s .some) (s .few) (or-lt rows m k (s .below) (t .below)) (mergedHeld (heldList a) (heldList b))
-    (merged-two-best (heldList a) (heldList b) (s .ordered) (t .ordered))
+    (merged-two-best (heldList a) (heldList b))

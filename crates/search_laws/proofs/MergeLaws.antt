@@ -1,6 +1,5 @@
 -- Merging two lists of entries: the best two of both.
 use Prim.Native.Nat.{ℕ}
-use mathlib.Core.Bool.{false, true≢false}
 use mathlib.Core.List.{List, [], _∷_, _++_}
 use mathlib.Core.Logic.{inl, inr, ⊎-elim}
 use mathlib.Core.Path.{_≡_, refl, sym, ap, subst, _∙_}
@@ -9,15 +8,14 @@ use lib.Ieee.{Float}
 use Rattle.entries.specs.declared.entry.Entry.{Entry}
 use Rattle.entries.specs.Best.{In, Or, Best}
 use Rattle.entries.specs.Kept.{firstAtEach}
-use Rattle.merges.specs.Merged.{holdsAt, mergedHeld}
+use Rattle.merges.specs.Merged.{mergedHeld}
 use Rattle.entries.specs.Rank.{beatsOf}
 use Rattle.search.specs.Work.{entryAt, IsEntry}
-use Rattle.entries.proofs.BestLaws.{best-ext, best-in, best-unique, absorbed}
+use Rattle.entries.proofs.BestLaws.{best-ext, best-in, absorbed}
 use Rattle.entries.proofs.KeptLaws.{OneEach, first-in, in-first}
-use Rattle.merges.proofs.MergedLaws.{in-held-at, append-of-both, of-both-append, merged-best-first}
-use Rattle.entries.proofs.RankLaws.{ranks-apart}
+use Rattle.merges.proofs.MergedLaws.{merged-best-first}
 use Rattle.search.proofs.PassLaws.{ranks}
-use Rattle.search_laws.specs.Both.{Both, Ordered}
+use Rattle.search_laws.specs.Ordered.{Ordered}
 
 -- ---- the best two of two sets of entries of one score function
 
@@ -71,7 +69,7 @@ ordered-best (a ∷ b ∷ []) o = (
 ordered-best (a ∷ b ∷ c ∷ l) o = absurd o
 
 -- and has one entry at a position
-ordered-one : (l : List Entry) → Ordered l → (x y : Entry) → In l x → In l y → x .position ≡ y .position → x ≡ y
+pub ordered-one : (l : List Entry) → Ordered l → OneEach l
 ordered-one [] o x y i j p = absurd i
 ordered-one (a ∷ []) o x y (inl d) (inl e) p = d ∙ sym e
 ordered-one (a ∷ []) o x y (inl d) (inr j) p = absurd j
@@ -84,23 +82,3 @@ ordered-one (a ∷ b ∷ []) o x y (inr (inl d)) (inr (inr j)) p = absurd j
 ordered-one (a ∷ b ∷ []) o x y (inl d) (inr (inr j)) p = absurd j
 ordered-one (a ∷ b ∷ []) o x y (inr (inr i)) j p = absurd i
 ordered-one (a ∷ b ∷ c ∷ l) o x y i j p = absurd o
-
-module _ (a b : List Entry) (oa : Ordered a) (ob : Ordered b) where
-  -- both lists have one entry at a position
-  pub both-one : (x y : Entry) → Both a b x → Both a b y → x .position ≡ y .position → x ≡ y
-  both-one x y (inl i) (inl j) p = ordered-one a oa x y i j p
-  both-one x y (inl i) (inr j) p = absurd (true≢false (sym (in-held-at a x i) ∙ ap (holdsAt a) p ∙ j .1))
-  both-one x y (inr i) (inl j) p = absurd (true≢false (sym (in-held-at a y j) ∙ ap (holdsAt a) (sym p) ∙ i .1))
-  both-one x y (inr i) (inr j) p = ordered-one b ob x y (i .0) (j .0) p
-
-  -- merging keeps the best two by distinct position, and at a shared position the first list's entry
-  pub merged-two-best : Best beatsOf 2 (Both a b) (mergedHeld a b)
-  merged-two-best =
-      best-ext beatsOf 2 (In (firstAtEach (a ++ b))) (Both a b)
-      (λ x i. ⊎-elim (λ j. inl (first-in a x j)) (λ j. inr (first-in b x (j .0), j .1)) (append-of-both a b x i))
-      (λ x i. of-both-append a b x (⊎-elim (λ j. inl (in-first a (ordered-one a oa) x j)) (λ j. inr (in-first b (ordered-one b ob) x (j .0), j .1)) i))
-      (mergedHeld a b) (merged-best-first a b)
-
-  -- and no other list is that
-  pub merged-only : (l : List Entry) → Best beatsOf 2 (Both a b) l → l ≡ mergedHeld a b
-  merged-only l p = best-unique beatsOf (Both a b) (ranks-apart (Both a b) both-one) 2 (Both a b) l (mergedHeld a b) p merged-two-best

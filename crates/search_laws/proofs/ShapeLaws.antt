@@ -24,7 +24,7 @@ use Rattle.search.specs.Shape.{isNoEntry, unusedZero, heldCount, inMarked, scor
 use Rattle.search.specs.Work.{entryAt, Work, Within}
 use Rattle.search.proofs.CountLaws.{held-none, held-one, held-two}
 use Rattle.marks.proofs.MarksLaws.{marked-none, some-marked, unmarked-above}
-use Rattle.search_laws.specs.Both.{Ordered}
+use Rattle.search_laws.specs.Ordered.{Ordered}
 use Rattle.search_laws.specs.Sound.{Sound}
 
 -- ---- what the right shape says

@@ -1,3 +1,3 @@
--- What the laws of searching speak of: the entries of two lists, and sound work.
-pub mod Both
+-- What the laws of searching speak of: lists in order, and sound work.
+pub mod Ordered
 pub mod Sound
