@@ -9,12 +9,12 @@ use crate::trio::Input;
 use crate::trio_cases::{input, plain};
 
 /// Cases whose registers the model keeps.
-struct Session<'a> {
+struct Dialogue<'a> {
     cases: &'a mut Cases,
     desks: Desks,
 }
 
-impl Session<'_> {
+impl Dialogue<'_> {
     fn take(&mut self, step: Step) {
         let answer = self.desks.answer(&step);
         self.cases.add(step.question(), answer);
@@ -33,44 +33,44 @@ impl Session<'_> {
 }
 
 /// Registers of all zeros: every step refuses them.
-fn at_the_start(session: &mut Session) {
-    session.all((0..10).map(Step::Show));
-    session.all([Step::Row(3, 0), Step::Row(3, 99), Step::Merge(3, 4), Step::Merge(3, 3), Step::Close(3), Step::Copy(4, 3), Step::Show(3)]);
+fn at_the_start(dialogue: &mut Dialogue) {
+    dialogue.all((0..10).map(Step::Show));
+    dialogue.all([Step::Row(3, 0), Step::Row(3, 99), Step::Merge(3, 4), Step::Merge(3, 3), Step::Close(3), Step::Copy(4, 3), Step::Show(3)]);
 }
 
 /// Eight clusters have a row 35 and no row 36, and a part that is merged with itself stays as it was (X12).
-fn rows_of_eight(session: &mut Session) {
+fn rows_of_eight(dialogue: &mut Dialogue) {
     let eight: Vec<u32> = (0..24).map(|i| i * 5 % 13).collect();
-    session.take(Step::Open(0, plain(8, &eight)));
-    session.all([35, 36, 64, u32::MAX, 0, 35].map(|row| Step::Row(0, row)));
-    session.all([Step::Show(0), Step::Merge(0, 0), Step::Show(0), Step::Close(0), Step::Show(0)]);
+    dialogue.take(Step::Open(0, plain(8, &eight)));
+    dialogue.all([35, 36, 64, u32::MAX, 0, 35].map(|row| Step::Row(0, row)));
+    dialogue.all([Step::Show(0), Step::Merge(0, 0), Step::Show(0), Step::Close(0), Step::Show(0)]);
 }
 
 /// All rows in falling order, closing each time; then again, which changes nothing.
-fn closing(session: &mut Session) {
+fn closing(dialogue: &mut Dialogue) {
     let two = plain(2, &[8, 9, 1, 1, 7, 9]);
-    session.take(Step::Open(1, two.clone()));
+    dialogue.take(Step::Open(1, two.clone()));
     for row in [2, 1, 0, 0, 2, 3] {
-        session.all([Step::Row(1, row), Step::Close(1), Step::Show(1)]);
+        dialogue.all([Step::Row(1, row), Step::Close(1), Step::Show(1)]);
     }
-    session.all([Step::Open(2, plain(1, &[1, 2, 3])), Step::Close(2), Step::Row(2, 0), Step::Close(2), Step::Show(2), Step::Row(2, 1)]);
+    dialogue.all([Step::Open(2, plain(1, &[1, 2, 3])), Step::Close(2), Step::Row(2, 0), Step::Close(2), Step::Show(2), Step::Row(2, 1)]);
     for counts in [[4, 3, 0, 2, 1, 0], [5; 6], [0; 6]] {
-        session.worked(3, &plain(2, &counts));
-        session.all([Step::Close(3), Step::Show(3)]);
+        dialogue.worked(3, &plain(2, &counts));
+        dialogue.all([Step::Close(3), Step::Show(3)]);
     }
 }
 
 /// Groupings of the same rows give the same part.
-fn groupings(session: &mut Session) {
+fn groupings(dialogue: &mut Dialogue) {
     let three = plain(3, &[10, 10, 10, 10, 10, 10, 0, 0, 0]);
-    session.all((0..6).map(|r| Step::Open(r, three.clone())));
-    session.all((0..6).map(|r| Step::Row(r, r as u32)));
-    session.all([(0, 1), (2, 3), (0, 2), (5, 4), (0, 0), (5, 0), (5, 5)].map(|(r, s)| Step::Merge(r, s)));
-    session.all([Step::Show(0), Step::Close(0), Step::Show(5), Step::Close(5), Step::Merge(0, 5), Step::Close(0), Step::Show(0)]);
+    dialogue.all((0..6).map(|r| Step::Open(r, three.clone())));
+    dialogue.all((0..6).map(|r| Step::Row(r, r as u32)));
+    dialogue.all([(0, 1), (2, 3), (0, 2), (5, 4), (0, 0), (5, 0), (5, 5)].map(|(r, s)| Step::Merge(r, s)));
+    dialogue.all([Step::Show(0), Step::Close(0), Step::Show(5), Step::Close(5), Step::Merge(0, 5), Step::Close(0), Step::Show(0)]);
 }
 
 /// Parts of other trios, and of one whose weights differ in a zero's sign alone; 12 of either part before 9.
-fn other_trios(session: &mut Session) {
+fn other_trios(dialogue: &mut Dialogue) {
     let first = input(2, &[4, 4, 4, 3, 3, 3], &[0.0, 1.0]);
     let others = [
         input(2, &[4, 4, 4, 3, 3, 3], &[-0.0, 1.0]),
@@ -79,13 +79,13 @@ fn other_trios(session: &mut Session) {
         input(3, &[4, 4, 4, 3, 3, 3, 0, 0, 0], &[0.0, 1.0, 0.0]),
         input(1, &[4, 4, 4], &[0.0]),
     ];
-    session.worked(0, &first);
+    dialogue.worked(0, &first);
     for other in others {
-        session.take(Step::Open(1, other));
-        session.all([Step::Merge(0, 1), Step::Merge(1, 0), Step::Row(1, 0), Step::Merge(0, 1), Step::Show(0), Step::Show(1)]);
+        dialogue.take(Step::Open(1, other));
+        dialogue.all([Step::Merge(0, 1), Step::Merge(1, 0), Step::Row(1, 0), Step::Merge(0, 1), Step::Show(0), Step::Show(1)]);
     }
-    session.take(Step::Open(1, plain(9, &[])));
-    session.all([Step::Show(1), Step::Merge(0, 1), Step::Merge(1, 0), Step::Close(1), Step::Row(1, 0), Step::Row(1, 9), Step::Close(0)]);
+    dialogue.take(Step::Open(1, plain(9, &[])));
+    dialogue.all([Step::Show(1), Step::Merge(0, 1), Step::Merge(1, 0), Step::Close(1), Step::Row(1, 0), Step::Row(1, 9), Step::Close(0)]);
 }
 
 /// A part with one thing changed.
@@ -130,33 +130,33 @@ fn small_forged_parts(one: &Part, none: &Part) -> Vec<Part> {
     all
 }
 
-fn forged(session: &mut Session) {
-    session.worked(0, &plain(2, &[4, 4, 4, 3, 3, 3]));
-    session.take(Step::Show(0));
-    let sound = session.desks.registers[0].part();
+fn forged(dialogue: &mut Dialogue) {
+    dialogue.worked(0, &plain(2, &[4, 4, 4, 3, 3, 3]));
+    dialogue.take(Step::Show(0));
+    let sound = dialogue.desks.registers[0].part();
     for part in forged_parts(&sound) {
-        session.all([Step::Part(1, part), Step::Row(1, 7), Step::Close(1), Step::Merge(1, 0), Step::Show(1)]);
+        dialogue.all([Step::Part(1, part), Step::Row(1, 7), Step::Close(1), Step::Merge(1, 0), Step::Show(1)]);
     }
-    session.worked(0, &plain(1, &[4, 4, 4]));
-    session.take(Step::Open(2, plain(1, &[4, 4, 4])));
-    let (one, none) = (session.desks.registers[0].part(), session.desks.registers[2].part());
+    dialogue.worked(0, &plain(1, &[4, 4, 4]));
+    dialogue.take(Step::Open(2, plain(1, &[4, 4, 4])));
+    let (one, none) = (dialogue.desks.registers[0].part(), dialogue.desks.registers[2].part());
     for part in small_forged_parts(&one, &none) {
-        session.all([Step::Part(1, part), Step::Close(1), Step::Row(1, 0), Step::Show(1)]);
+        dialogue.all([Step::Part(1, part), Step::Close(1), Step::Row(1, 0), Step::Show(1)]);
     }
 }
 
 /// Parts of the right shape that hold poor triples: at a shared position the first part's entry stays, though its score be the lower.
-fn poor_triples(session: &mut Session) {
-    session.worked(0, &plain(2, &[4, 4, 4, 3, 3, 3]));
-    let sound = session.desks.registers[0].part();
+fn poor_triples(dialogue: &mut Dialogue) {
+    dialogue.worked(0, &plain(2, &[4, 4, 4, 3, 3, 3]));
+    let sound = dialogue.desks.registers[0].part();
     let poor = [
         with(&sound, |part| part.scores = [-5000.0, -6000.0]),
         with(&sound, |part| (part.positions, part.scores) = ([3, 1], [-1.0, -2.0])),
         with(&sound, |part| (part.positions[1], part.scores) = (0, [-1.0, -1.0])),
     ];
     for part in poor {
-        session.all([Step::Part(1, part), Step::Copy(2, 0), Step::Close(1), Step::Merge(1, 0), Step::Show(1), Step::Close(1)]);
-        session.all([
+        dialogue.all([Step::Part(1, part), Step::Copy(2, 0), Step::Close(1), Step::Merge(1, 0), Step::Show(1), Step::Close(1)]);
+        dialogue.all([
             Step::Part(1, part),
             Step::Merge(2, 1),
             Step::Show(2),
@@ -165,18 +165,18 @@ fn poor_triples(session: &mut Session) {
             Step::Show(1),
             Step::Row(1, 2),
         ]);
-        session.all([Step::Show(1), Step::Close(1)]);
+        dialogue.all([Step::Show(1), Step::Close(1)]);
     }
     // the first part's entry at position 1 goes out, and the second's does not come in for it
     let first = with(&sound, |part| (part.positions, part.scores) = ([3, 1], [-1.0, -2.0]));
     let second = with(&sound, |part| (part.positions, part.scores) = ([5, 1], [-0.5, -0.7]));
-    session.all([Step::Part(1, first), Step::Part(2, second), Step::Merge(1, 2), Step::Show(1), Step::Merge(2, 1), Step::Show(2)]);
+    dialogue.all([Step::Part(1, first), Step::Part(2, second), Step::Merge(1, 2), Step::Show(1), Step::Merge(2, 1), Step::Show(2)]);
 }
 
 /// Each good line with one word wrong, left out or put in: no register changes.
-fn unreadable(session: &mut Session) {
-    session.worked(0, &plain(1, &[4, 4, 4]));
-    let part = session.desks.registers[0].part();
+fn unreadable(dialogue: &mut Dialogue) {
+    dialogue.worked(0, &plain(1, &[4, 4, 4]));
+    let part = dialogue.desks.registers[0].part();
     let steps = [Step::Open(0, plain(1, &[5, 5, 5])), Step::Copy(0, 1), Step::Row(0, 0), Step::Merge(0, 0), Step::Close(0), Step::Show(0)];
     for good in steps.iter().map(Step::question).chain([Step::Part(0, part).question()]) {
         let words: Vec<&str> = good.split(' ').collect();
@@ -185,14 +185,14 @@ fn unreadable(session: &mut Session) {
             for wrong in ["", "x", "18446744073709551616"] {
                 let mut line = words.clone();
                 line[at] = wrong;
-                session.take(Step::Unreadable(line.join(" ")));
+                dialogue.take(Step::Unreadable(line.join(" ")));
             }
-            session.take(Step::Unreadable(words[..at].join(" ")));
+            dialogue.take(Step::Unreadable(words[..at].join(" ")));
         }
-        session.take(Step::Unreadable(good.replacen(" 0", " 10", 1)));
-        session.all(["G 0", "G ", " G"].map(|line| Step::Unreadable(line.replace('G', &good))));
+        dialogue.take(Step::Unreadable(good.replacen(" 0", " 10", 1)));
+        dialogue.all(["G 0", "G ", " G"].map(|line| Step::Unreadable(line.replace('G', &good))));
     }
-    session.all([
+    dialogue.all([
         Step::Unreadable("merge 0 10".to_string()),
         Step::Unreadable("copy 0 4294967295".to_string()),
         Step::Show(0),
@@ -201,19 +201,19 @@ fn unreadable(session: &mut Session) {
 }
 
 pub fn write(cases: &mut Cases) {
-    let mut session = Session { cases, desks: Desks::new() };
-    at_the_start(&mut session);
-    rows_of_eight(&mut session);
-    closing(&mut session);
-    groupings(&mut session);
-    other_trios(&mut session);
-    forged(&mut session);
-    poor_triples(&mut session);
-    unreadable(&mut session);
+    let mut dialogue = Dialogue { cases, desks: Desks::new() };
+    at_the_start(&mut dialogue);
+    rows_of_eight(&mut dialogue);
+    closing(&mut dialogue);
+    groupings(&mut dialogue);
+    other_trios(&mut dialogue);
+    forged(&mut dialogue);
+    poor_triples(&mut dialogue);
+    unreadable(&mut dialogue);
     let random = &mut Random::new(63);
     for _ in 0..6 {
-        for (question, answer) in histories::history(random, &mut session.desks) {
-            session.cases.add(question, answer);
+        for (question, answer) in histories::history(random, &mut dialogue.desks) {
+            dialogue.cases.add(question, answer);
         }
     }
 }
