@@ -35,7 +35,15 @@ impl Dialogue<'_> {
 /// Registers of all zeros: every step refuses them.
 fn at_the_start(dialogue: &mut Dialogue) {
     dialogue.all((0..10).map(Step::Show));
-    dialogue.all([Step::Row(3, 0), Step::Row(3, 99), Step::Merge(3, 4), Step::Merge(3, 3), Step::Close(3), Step::Copy(4, 3), Step::Show(3)]);
+    dialogue.all([
+        Step::Row(3, 0),
+        Step::Row(3, 99),
+        Step::Merge(3, 4),
+        Step::Merge(3, 3),
+        Step::Close(3),
+        Step::Copy(4, 3),
+        Step::Show(3),
+    ]);
 }
 
 /// Eight clusters have a row 35 and no row 36, and a part that is merged with itself stays as it was (X12).
