@@ -19,7 +19,7 @@ use Rattle.floats.proofs.Differences.{less-itself}
 use Rattle.floats.proofs.Zeros.{zeroOf, Number, Alike, same, zeros, alike-equal, alike-number, lt-alike, neither-below, sub-alike-below}
 use Rattle.diploid_laws.proofs.QualityBounds.{pow10-zero}
 use Rattle.diploid_laws.proofs.Signs.{lt-itself}
-use Rattle.diploid_laws.proofs.Largest.{tied-or-below}
+use Rattle.diploid_laws.proofs.Largest.{either-of, tied-or-below}
 
 -- ---- a pick beside `larger` or `smaller`
 
@@ -55,18 +55,10 @@ pub smaller-alike : {a b c d : Float} → Alike a c → Alike b d → Alike (sma
 smaller-alike {a} {b} {c} {d} h k = subst (λ (t : Bool). Alike (smaller a b) (cond t d c)) (lt-alike k h) (alike-either (lt b a) h k)
 
 pub larger-number : (a b : Float) → Number a → Number b → Number (larger a b)
-larger-number a b n k = go (lt a b)
-  where
-    go : (t : Bool) → Number (cond t b a)
-    go true = k
-    go false = n
+larger-number a b n k = either-of Number (lt a b) a b n k
 
 pub smaller-number : (a b : Float) → Number a → Number b → Number (smaller a b)
-smaller-number a b n k = go (lt b a)
-  where
-    go : (t : Bool) → Number (cond t b a)
-    go true = k
-    go false = n
+smaller-number a b n k = either-of Number (lt b a) a b n k
 
 -- ---- what any max and any min give: `larger` and `smaller` but for a zero's sign, and the same where the second number is no zero
 
