@@ -15,7 +15,7 @@ use lib.Ieee.{Float, nan, inf, binary64, sum as sumOf, add, sub, div, neg, lt, l
 use lib.Ieee.Fits.{and-l, and-r, add-fits, sub-fits, div-fits}
 use lib.Ieee.Scale.{finite}
 use lib.Ieee.Positive.{positive}
-use Rattle.floats.specs.F64.{_⊕_, _⊖_, _⊘_, nat, decimal}
+use Rattle.floats.specs.F64.{_⊕_, _⊖_, _⊘_, nat, decimal, sumFrom}
 use Rattle.floats.specs.Within.{Within, NotBelow, Low, least, finite-low}
 use Rattle.floats.proofs.Floats.{eqb-zero}
 use Rattle.floats.proofs.Bounds.{within-more, within-whole, within-fraction, within-add, above-fraction, above-add}
@@ -29,7 +29,7 @@ use Rattle.family.specs.Numbers.{sampleNumber}
 use Rattle.family.specs.Genotypes.{pairsWith, pairsFrom, genotypes, pair}
 use Rattle.triples.specs.Genotypes.{genotypeAt}
 use Rattle.lists.specs.Lists.{numbers}
-use Rattle.samples.specs.Samples.{inUse, clusters, reads, sum, columnTotal, sumFrom, logBinomial, expectation, expectationTotal, clusterTerm, sampleScore}
+use Rattle.samples.specs.Samples.{inUse, clusters, reads, sum, columnTotal, logBinomial, expectation, expectationTotal, clusterTerm, sampleScore}
 use Rattle.parts.specs.Part.{weightAllowed}
 use Rattle.samples.proofs.SampleLaws.{in-use, sample-below, count-at-most}
 use Rattle.desks.specs.Accepted.{Accepted}

@@ -36,6 +36,11 @@ ratio a b = round binary64 false a b
 abbrev pub decimal : ℕ → ℕ → Float
 decimal digits places = ratio digits (10 ^ places)
 
+-- a running sum, from x on, left to right
+abbrev pub sumFrom : Float → List Float → Float
+sumFrom x [] = x
+sumFrom x (y ∷ l) = sumFrom (x ⊕ y) l
+
 -- the f64 nearest to 1 / n, for each n of a list
 abbrev pub reciprocals : List ℕ → List Float
 reciprocals [] = []

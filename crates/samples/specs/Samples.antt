@@ -6,7 +6,7 @@ use lib.Dec.{eqb, leb, ltb}
 use lib.ListN.{getD}
 use lib.Ieee.{Float, nan, inf, le, eq}
 use Rattle.lists.specs.Lists.{numbers}
-use Rattle.floats.specs.F64.{_⊕_, _⊖_, _⊗_, _⊘_, nat, decimal}
+use Rattle.floats.specs.F64.{_⊕_, _⊖_, _⊗_, _⊘_, nat, decimal, sumFrom}
 use Rattle.kernels.specs.Ln.{lnOf}
 use Rattle.family.specs.declared.pair.Pair.{Pair}
 use Rattle.family.specs.declared.sample.Sample.{Sample}
@@ -32,11 +32,6 @@ sum (x ∷ l) = x + sum l
 -- all reads of an animal
 unfoldable pub columnTotal : ℕ → List ℕ → Sample → ℕ
 columnTotal n counts s = sum (map (reads counts (sampleNumber s)) (clusters n))
-
--- a running sum of floats, left to right
-abbrev pub sumFrom : Float → List Float → Float
-sumFrom x [] = x
-sumFrom x (y ∷ l) = sumFrom (x ⊕ y) l
 
 -- k among n cannot be at p: some at 0, or not all at 1
 abbrev pub impossibleAt : ℕ → ℕ → Float → Bool

@@ -1,2 +1,3 @@
--- The definitions that the contracts of `tens` cite.
+-- The definitions that the contracts of `tens`, and those of the crates above it, cite.
 pub mod Log10
+pub mod Normalised
