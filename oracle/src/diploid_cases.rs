@@ -77,6 +77,14 @@ fn equal_scores(cases: &mut Cases) {
     for counts in [[10, 10, 0], [7, 3, 4], [1, 1, 0], [20, 20, 0]] {
         add(cases, &Input { fractions: [1.0, 1e-9, 1.0], means: [0.5; 3], ..Input::default_model(2, counts) });
     }
+    add(cases, &rounded_away());
+}
+
+/// The first score is larger than the last by a unit or so, and normalising rounds that away: the first state wins, and raw gq is -0.0.
+fn rounded_away() -> Input {
+    let (fraction, mean) = (0.3699813835705139, 0.3701262575016611);
+    let fractions = [fraction, 0.34, fraction];
+    Input { fractions, means: [mean, 0.5, 0.6298737424983389], ..Input::default_model(1, [1, 1, 0]) }
 }
 
 /// The same input with this table, its counts in range, above it, and all zero.
