@@ -25,7 +25,7 @@ fn row(name: &str, sites: &[[Seen; 2]]) {
     println!("| {name} | {} | {calls} | {ties} | {grounds} |", sites.len());
 }
 
-/// Raw gq is 0 where the two best scores are equal, and no table is asked here.
+/// A tie is a raw gq of 0: equal best scores, or a difference that normalising rounds away. No table is asked here.
 fn of_diploid(input: diploid::Input) -> [Seen; 2] {
     let input = diploid::Input { table: vec![], ..input };
     [kanpig::with_ours::call(&input), kanpig::with_std::call(&input)].map(|answer| Seen {
