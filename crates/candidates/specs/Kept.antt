@@ -14,7 +14,7 @@ use Rattle.lists.specs.Over.{over}
 use Rattle.alleles.specs.Alleles.{countAt, seenIn, somaticIn, alone}
 use Rattle.alleles.specs.declared.pair.Pair.{Pair}
 use Rattle.sites.specs.declared.site.Site.{Site}
-use Rattle.candidates.specs.Shares.{anySomatic, startVafs, massOf, germlineShare, gainOf, observedShare, stepOf}
+use Rattle.candidates.specs.Shares.{anySomatic, startVafs, massOf, germlineShare, gainBy, observedShare, stepOf}
 use Rattle.candidates.specs.declared.search.Kept.{Kept}
 use Rattle.candidates.specs.declared.search.Found.{Found}
 
@@ -58,7 +58,7 @@ module _ (counts : List ℕ) (g : Pair) (site : Site) where
   started = record {
     vafs = startVafs counts g;
     terms = site .starts;
-    gains = replicate 8 (gainOf (site .density) (decimal 5 2));
+    gains = replicate 8 (gainBy (site .density) (decimal 5 2));
     value = startValue (startVafs counts g);
   }
 
@@ -67,7 +67,7 @@ module _ (counts : List ℕ) (g : Pair) (site : Site) where
   changed kept i x =
       let vafs = set (kept .vafs) i x in
       let terms = set (kept .terms) i (nat (countAt counts i) ⊗ lnOf x) in
-      let gains = set (kept .gains) i (gainOf (site .density) x) in
+      let gains = set (kept .gains) i (gainBy (site .density) x) in
       record { vafs = vafs; terms = terms; gains = gains; value = likelihoodHere vafs terms ⊕ priorHere gains }
 
   unfoldable pub attempted : Kept → ℕ → Float → Kept

@@ -42,13 +42,12 @@ massOf counts g vafs = massOver counts g vafs (length counts)
 unfoldable pub germlineShare : Pair → Float → Float
 germlineShare g mass = let rest = larger (nat 1 ⊖ mass) (decimal 1 2) in cond (alone g) rest (rest ⊘ nat 2)
 
--- M4: (α − 1)·ln v + (β − 1)·ln(1 − v) − lnΓ(α) − lnΓ(β) + lnΓ(α + β)
-abbrev pub lnDensity : Density → Float → Float
-lnDensity d v = d .a ⊗ lnOf v ⊕ d .b ⊗ lnOf (nat 1 ⊖ v) ⊖ d .«gamma_alpha» ⊖ d .«gamma_beta» ⊕ d .«gamma_sum»
-
--- what a somatic VAF adds: its log density strictly between 0 and 1, minus infinity from 1 on, so that the whole is minus infinity
-unfoldable pub gainOf : Density → Float → Float
-gainOf d v = cond (le (nat 1) v) (inf true) (cond (lt (nat 0) v) (lnDensity d v) (nat 0))
+-- for the code: M4's gain of a VAF (`gainOf`, hypotheses/specs/Prior.antt), by the numbers of the density that are kept; the law is `gain-by`
+-- (hypotheses/proofs/Terms.antt)
+unfoldable pub gainBy : Density → Float → Float
+gainBy d v =
+    let inside = d .a ⊗ lnOf v ⊕ d .b ⊗ lnOf (nat 1 ⊖ v) ⊖ d .«gamma_alpha» ⊖ d .«gamma_beta» ⊕ d .«gamma_sum» in
+    cond (le (nat 1) v) (inf true) (cond (lt (nat 0) v) inside (nat 0))
 
 -- M5: the observed share, count / total, which no limit touches
 abbrev pub observedShare : ℕ → Float → Float

@@ -2,7 +2,7 @@
 ghost use mathlib.Core.Path.{_≡_};
 ghost use Prim.Native.Nat.{_≤_};
 ghost use lib.ListN.{length};
-ghost use Rattle.candidates.specs.Shares.{gainOf};
+ghost use Rattle.candidates.specs.Shares.{gainBy};
 ghost use Rattle.candidates.specs.Kept.{priorBy};
 use crate::order::gained;
 use alleles::counts::somatic;
@@ -12,7 +12,7 @@ use sites::priors::Density;
 
 // What a somatic VAF adds.
 pub(crate) fn gain(d: Density, vaf: f64) -> f64
-    ensures { λ r. ⌜ r ≡ gainOf d vaf ⌝ }
+    ensures { λ r. ⌜ r ≡ gainBy d vaf ⌝ }
 {
     if vaf >= 1.0 {
         return -1.0 / 0.0;

@@ -1,4 +1,5 @@
--- The terms that are kept from candidate to candidate are the definition's, and so is what is made of them: `found-by`. Assumes nothing.
+-- The terms that are kept from candidate to candidate are the rules' own, `gain-by` and `germline-by` for M4, and so is what is made of them: `found-by`.
+-- Assumes nothing.
 use mathlib.Core.Path.{_≡_, refl, sym, ap, _∙_, subst}
 use mathlib.Core.Bool.{Bool, true, false, not, _&&_, _||_, cond, true≢false}
 use mathlib.Core.List.{List}
@@ -14,13 +15,13 @@ use Rattle.floats.specs.Key.{keyOf}
 use Rattle.kernels.specs.Ln.{lnOf}
 use Rattle.stirlings.specs.Stirling.{stirlingOf, lnFactorial}
 use Rattle.hypotheses.specs.Edition.{first}
-use Rattle.alleles.specs.Alleles.{countAt, seenIn, germlineIn, somaticIn, totalOf}
-use Rattle.candidates.specs.Shares.{anyOver, anySomatic, vafAt, massOf, germlineShare, gainOf, startVafs, stepOf, observedShare}
+use Rattle.alleles.specs.Alleles.{countAt, seenIn, germlineIn, somaticIn, alone, totalOf}
+use Rattle.candidates.specs.Shares.{anyOver, anySomatic, vafAt, massOf, germlineShare, gainBy, startVafs, stepOf, observedShare}
 use Rattle.hypotheses.specs.Likelihood.{shareOf, likelihoodOf}
-use Rattle.sites.specs.Site.{densityOf, factorialsOf, startsOf, siteOf}
-use Rattle.hypotheses.specs.Prior.{priorOf}
+use Rattle.sites.specs.Site.{densityOf, forOne, forTwo, factorialsOf, startsOf, siteOf}
+use Rattle.hypotheses.specs.Prior.{gainOf, gainsOver, forGermline, priorOf}
 use Rattle.hypotheses.specs.Search.{Best, valueOf, tried, triedStep, searchedAllele, searchedAll, foundOf}
-use Rattle.candidates.specs.Kept.{termAt, likelihoodBy, priorBy, ofGermline, likelihoodHere, priorHere, startValue, started, changed, attempted, stepTried, alleleSearched, offered, searched, foundBy, foundAt}
+use Rattle.candidates.specs.Kept.{termAt, likelihoodBy, priorByOver, priorBy, likelihoodHere, priorHere, startValue, started, changed, attempted, stepTried, alleleSearched, offered, searched, foundBy, foundAt}
 use Rattle.models.specs.declared.params.Params.{Params}
 use Rattle.alleles.specs.declared.pair.Pair.{Pair}
 use Rattle.sites.specs.declared.site.Site.{Site}
@@ -28,6 +29,16 @@ use Rattle.candidates.specs.declared.search.Kept.{Kept}
 use Rattle.candidates.specs.declared.search.Found.{Found}
 use Rattle.lists.specs.Over.{over}
 use Rattle.lists.proofs.OverLaws.{over-related, over-same, length-placed, at-set, placed-at}
+
+-- M4: the density's numbers that are worked out once give each VAF the gain of the rule
+pub gain-by : (lnGamma : Float → Float) (p : Params) (v : Float) → gainBy (densityOf lnGamma p) v ≡ gainOf lnGamma p v
+unfolding gainBy densityOf gainOf
+gain-by lnGamma p v = refl
+
+-- M4: and so it is with what the germline alleles add
+pub germline-by : (a : ℕ) (g : Pair) → cond (alone g) (forOne a) (forTwo a) ≡ forGermline a g
+unfolding forOne forTwo forGermline
+germline-by a g = refl
 
 -- one step of the likelihood: for a somatic allele the term that was kept is the definition's
 likelihood-step : (seen germ : Bool) (s f c g t v : Float) → ((seen && not germ) ≡ true → t ≡ c ⊗ lnOf v)
@@ -54,7 +65,7 @@ module _ (p : Params) (counts : List ℕ) (few : length counts ≤ 8) (g : Pair)
     pub eight-terms : length (k .terms) ≡ 8
     pub eight-gains : length (k .gains) ≡ 8
     pub term-is : (i : ℕ) → i < length counts → somaticIn counts g i ≡ true → getD (k .terms) i nan ≡ nat (countAt counts i) ⊗ lnOf (vafAt (k .vafs) i)
-    pub gain-is : (i : ℕ) → i < length counts → somaticIn counts g i ≡ true → getD (k .gains) i nan ≡ gainOf (densityOf stirlingOf p) (vafAt (k .vafs) i)
+    pub gain-is : (i : ℕ) → i < length counts → somaticIn counts g i ≡ true → getD (k .gains) i nan ≡ gainOf stirlingOf p (vafAt (k .vafs) i)
 
   factorial-at : (i : ℕ) → i < length counts → getD (factorialsOf counts) i nan ≡ lnFactorial stirlingOf (countAt counts i)
   unfolding factorialsOf
@@ -73,13 +84,14 @@ module _ (p : Params) (counts : List ℕ) (few : length counts ≤ 8) (g : Pair)
   prior-same : (k : Kept) → Caches k → priorHere counts g site (k .gains) ≡ priorOf first p counts g (k .vafs)
   unfolding siteOf priorBy priorOf
   prior-same k h =
-      ap (λ (s : Float). s ⊕ ofGermline site g)
-      (over-same
+      let gains : priorByOver counts g (k .gains) (length counts) ≡ gainsOver first p counts g (k .vafs) (length counts) =
+      over-same
       (λ i s. cond (somaticIn counts g i) (s ⊕ getD (k .gains) i nan) s)
-      (λ i s. cond (somaticIn counts g i) (s ⊕ gainOf (densityOf stirlingOf p) (vafAt (k .vafs) i)) s)
+      (λ i s. cond (somaticIn counts g i) (s ⊕ gainOf stirlingOf p (vafAt (k .vafs) i)) s)
       (nat 0)
       (length counts)
-      (λ i l s. prior-step (somaticIn counts g i) s (getD (k .gains) i nan) (gainOf (densityOf stirlingOf p) (vafAt (k .vafs) i)) (h .gain-is i l)))
+      (λ i l s. prior-step (somaticIn counts g i) s (getD (k .gains) i nan) (gainOf stirlingOf p (vafAt (k .vafs) i)) (h .gain-is i l)) in
+      rw (gains, germline-by (length counts) g)
 
   -- what is kept stands for VAFs and a value of the definition
   abbrev best : Kept → Best
@@ -105,9 +117,9 @@ module _ (p : Params) (counts : List ℕ) (few : length counts ≤ 8) (g : Pair)
   changed-caches k i x l h = record {
     eight-vafs = length-set (k .vafs) i x ∙ h .eight-vafs;
     eight-terms = length-set (k .terms) i (nat (countAt counts i) ⊗ lnOf x) ∙ h .eight-terms;
-    eight-gains = length-set (k .gains) i (gainOf (densityOf stirlingOf p) x) ∙ h .eight-gains;
+    eight-gains = length-set (k .gains) i (gainBy (densityOf stirlingOf p) x) ∙ h .eight-gains;
     term-is = λ j m s. set-both (λ j v. nat (countAt counts j) ⊗ lnOf v) (k .vafs) (k .terms) i j x (in-eight i l (k .vafs) (h .eight-vafs)) (in-eight i l (k .terms) (h .eight-terms)) (h .term-is j m s);
-    gain-is = λ j m s. set-both (λ j v. gainOf (densityOf stirlingOf p) v) (k .vafs) (k .gains) i j x (in-eight i l (k .vafs) (h .eight-vafs)) (in-eight i l (k .gains) (h .eight-gains)) (h .gain-is j m s);
+    gain-is = λ j m s. rw (gain-by stirlingOf p x) (set-both (λ j v. gainOf stirlingOf p v) (k .vafs) (k .gains) i j x (in-eight i l (k .vafs) (h .eight-vafs)) (in-eight i l (k .gains) (h .eight-gains)) (h .gain-is j m s));
   }
 
   follows-cond : (t : Bool) (k m : Kept) (b c : Best) → Follows k b → Follows m c → Follows (cond t k m) (cond t b c)
@@ -155,7 +167,7 @@ module _ (p : Params) (counts : List ℕ) (few : length counts ≤ 8) (g : Pair)
     eight-terms = length-placed (replicate 8 (nat 0)) (λ i. nat (countAt counts i) ⊗ lnOf (decimal 5 2)) 8;
     eight-gains = refl;
     term-is = λ i l s. rw (start-at i l s) (placed-at (replicate 8 (nat 0)) (λ i. nat (countAt counts i) ⊗ lnOf (decimal 5 2)) nan 8 (rw length-replicate (lit≤ tt)) i (omega arith));
-    gain-is = λ i l s. rw (start-at i l s) (getD-replicate 8 i (gainOf (densityOf stirlingOf p) (decimal 5 2)) nan (omega arith));
+    gain-is = λ i l s. rw (start-at i l s) (getD-replicate 8 i (gainBy (densityOf stirlingOf p) (decimal 5 2)) nan (omega arith) ∙ gain-by stirlingOf p (decimal 5 2));
   }
 
   search-follows : anySomatic counts g ≡ true → Follows (searched counts g site (started counts g site)) (searchedAll first p counts g)

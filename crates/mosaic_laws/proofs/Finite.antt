@@ -4,7 +4,7 @@ use mathlib.Core.Path.{_≡_, refl, sym, ap, _∙_, subst}
 use mathlib.Core.Bool.{Bool, true, false, not, _&&_, _||_, cond, true≢false}
 use mathlib.Core.List.{List}
 use mathlib.Mathlib.Data.Bool.Basic.{and-elim-left, and-elim-right}
-use Prim.Native.Nat.{ℕ, zero, suc, _+_, _*_, _^_, _≤_, _<_}
+use Prim.Native.Nat.{ℕ, zero, suc, _+_, _-_, _*_, _/_, _^_, _≤_, _<_}
 use native.Mathlib.Nat.{not-suc-le-zero, mul-le-mul}
 use native.Mathlib.Omega.{arith}
 use borrow.Author.Tests.{eqb-true, eqb-false, eq-eqb}
@@ -12,7 +12,7 @@ use lib.IntN.{pos}
 use lib.Dec.{T, eqb, lit≤, lit<}
 use lib.ListN.{length, set, replicate, length-set}
 use lib.Signed.{ltZ}
-use lib.Ieee.{Float, nan, inf, binary64, round, lt, le, isNan, ofInt, fits}
+use lib.Ieee.{Float, nan, inf, binary64, round, neg, lt, le, isNan, ofInt, fits}
 use lib.Ieee.Fits.{add-fits, mul-fits, round-fits}
 use lib.Ieee.Positive.{above-of-le}
 use Rattle.floats.specs.F64.{_⊕_, _⊖_, _⊗_, _⊘_, nat, decimal}
@@ -28,11 +28,10 @@ use Rattle.lists.specs.Over.{over}
 use Rattle.hypotheses.proofs.Terms.{start-at}
 use Rattle.hypotheses.specs.Edition.{first}
 use Rattle.alleles.specs.Alleles.{countAt, seenIn, germlineIn, somaticIn, alone, totalOf}
-use Rattle.candidates.specs.Shares.{anyOver, anySomatic, vafAt, massOf, germlineShare, gainOf, startVafs, stepOf, observedShare}
+use Rattle.candidates.specs.Shares.{anyOver, anySomatic, vafAt, massOf, germlineShare, startVafs, stepOf, observedShare}
 use Rattle.hypotheses.specs.Hypotheses.{bothSeen}
 use Rattle.hypotheses.specs.Likelihood.{shareOf, likelihoodOf}
-use Rattle.sites.specs.Site.{densityOf, forOne, forTwo}
-use Rattle.hypotheses.specs.Prior.{priorOf}
+use Rattle.hypotheses.specs.Prior.{gainOf, forGermline, priorOf}
 use Rattle.hypotheses.specs.Search.{Best, valueOf, tried, triedStep, searchedAllele, searchedAll, foundOf}
 use Rattle.models.specs.declared.params.Params.{Params}
 use Rattle.alleles.specs.declared.pair.Pair.{Pair}
@@ -110,12 +109,13 @@ module _ (p : Params) (counts : List ℕ) (ok : Accepted p counts) (g : Pair) (b
 
   -- ---- the prior
 
-  density : Dense (densityOf stirlingOf p)
+  density : Dense p
   density = dense p (ok .params-are) (ok .alpha-is-f64) (ok .beta-is-f64)
 
-  germline-within : Within (2 ^ 12) (cond (alone g) (forOne n) (forTwo n))
+  germline-within : Within (2 ^ 12) (forGermline n g)
+  unfolding forGermline
   germline-within =
-      either (Within (2 ^ 12)) (alone g) (forOne n) (forTwo n)
+      either (Within (2 ^ 12)) (alone g) (neg (lnOf (nat n))) (neg (lnOf (nat (n * (n - 1) / 2))))
       (λ e. one-within n (omega (arith, first-in)) (ok .few))
       (λ e. two-within n (two (g .first) (g .second) n first-in second-in (eqb-false (g .first) (g .second) e)) (ok .few))
     where
@@ -127,10 +127,10 @@ module _ (p : Params) (counts : List ℕ) (ok : Accepted p counts) (g : Pair) (b
   prior-within l h k =
       within-more
       (within-add
-      (grows Within 0 (2 ^ 41) (λ i s. cond (somaticIn counts g i) (s ⊕ gainOf (densityOf stirlingOf p) (vafAt l i)) s) (nat 0) n
+      (grows Within 0 (2 ^ 41) (λ i s. cond (somaticIn counts g i) (s ⊕ gainOf stirlingOf p (vafAt l i)) s) (nat 0) n
       (λ i m x w.
-      either (Within (0 + i * 2 ^ 41 + 2 ^ 41)) (somaticIn counts g i) (x ⊕ gainOf (densityOf stirlingOf p) (vafAt l i)) x
-      (λ e. within-add w (gain-within (densityOf stirlingOf p) density (vafAt l i) (h i m e) (k i m e)) (omega (arith, steps i (2 ^ 41) m)))
+      either (Within (0 + i * 2 ^ 41 + 2 ^ 41)) (somaticIn counts g i) (x ⊕ gainOf stirlingOf p (vafAt l i)) x
+      (λ e. within-add w (gain-within p density (vafAt l i) (h i m e) (k i m e)) (omega (arith, steps i (2 ^ 41) m)))
       (λ e. within-more w (omega arith)))
       (within-whole (pos 0) 0 (lit≤ tt) (lit≤ tt)))
       germline-within (omega (arith, eight (2 ^ 41))))
@@ -138,21 +138,21 @@ module _ (p : Params) (counts : List ℕ) (ok : Accepted p counts) (g : Pair) (b
 
   -- ---- a VAF of 1 or more
 
-  gain-low : (v : Float) → Vaf v → Low (2 ^ 41) (gainOf (densityOf stirlingOf p) v)
+  gain-low : (v : Float) → Vaf v → Low (2 ^ 41) (gainOf stirlingOf p v)
   gain-low v h = go (le (nat 1) v) refl
     where
-      go : (b : Bool) → le (nat 1) v ≡ b → Low (2 ^ 41) (gainOf (densityOf stirlingOf p) v)
-      go true e = subst (Low (2 ^ 41)) (sym (gain-least (densityOf stirlingOf p) v e)) least
-      go false e = finite-low (gain-within (densityOf stirlingOf p) density v h (above-by-test (nat 1) v one-at (positive-not-below v (h .above-zero)) e))
+      go : (b : Bool) → le (nat 1) v ≡ b → Low (2 ^ 41) (gainOf stirlingOf p v)
+      go true e = subst (Low (2 ^ 41)) (sym (gain-least p v e)) least
+      go false e = finite-low (gain-within p density v h (above-by-test (nat 1) v one-at (positive-not-below v (h .above-zero)) e))
 
   abbrev gainStep : List Float → ℕ → Float → Float
-  gainStep l i s = cond (somaticIn counts g i) (s ⊕ gainOf (densityOf stirlingOf p) (vafAt l i)) s
+  gainStep l i s = cond (somaticIn counts g i) (s ⊕ gainOf stirlingOf p (vafAt l i)) s
 
   gains-low : (l : List Float) → Tryable l → (k : ℕ) → k ≤ n → Low (0 + k * 2 ^ 41) (over (gainStep l) (nat 0) k)
   gains-low l h k q =
       grows Low 0 (2 ^ 41) (gainStep l) (nat 0) k
       (λ i m x w.
-      either (Low (0 + i * 2 ^ 41 + 2 ^ 41)) (somaticIn counts g i) (x ⊕ gainOf (densityOf stirlingOf p) (vafAt l i)) x
+      either (Low (0 + i * 2 ^ 41 + 2 ^ 41)) (somaticIn counts g i) (x ⊕ gainOf stirlingOf p (vafAt l i)) x
       (λ e. low-add w (gain-low (vafAt l i) (h i (omega arith) e)) (omega (arith, steps i (2 ^ 41) (omega arith))))
       (λ e. low-more w (omega arith)))
       (finite-low (within-whole (pos 0) 0 (lit≤ tt) (lit≤ tt)))
@@ -166,7 +166,7 @@ module _ (p : Params) (counts : List ℕ) (ok : Accepted p counts) (g : Pair) (b
       less : (k n : ℕ) → suc k ≤ n → k ≤ n
       less k n q = omega arith
 
-      stays : (b : Bool) → somaticIn counts g k ≡ b → cond b (inf true ⊕ gainOf (densityOf stirlingOf p) (vafAt l k)) (inf true) ≡ inf true
+      stays : (b : Bool) → somaticIn counts g k ≡ b → cond b (inf true ⊕ gainOf stirlingOf p (vafAt l k)) (inf true) ≡ inf true
       stays true t = least-low (gain-low (vafAt l k) (h k q t))
       stays false t = refl
 
@@ -175,13 +175,13 @@ module _ (p : Params) (counts : List ℕ) (ok : Accepted p counts) (g : Pair) (b
           let d = eqb-true j k t in
           let s' : somaticIn counts g k ≡ true = subst (λ (i : ℕ). somaticIn counts g i ≡ true) d s in
           let e' : le (nat 1) (vafAt l k) ≡ true = subst (λ (i : ℕ). le (nat 1) (vafAt l i) ≡ true) d e in
-          rw (s', gain-least (densityOf stirlingOf p) (vafAt l k) e') (low-least (gains-low l h k (less k n q)))
+          rw (s', gain-least p (vafAt l k) e') (low-least (gains-low l h k (less k n q)))
       go false t r = let d = eqb-false j k t in rw (r (omega arith)) (stays (somaticIn counts g k) refl)
 
   prior-least : (l : List Float) → Tryable l → (j : ℕ) → j < n → somaticIn counts g j ≡ true → le (nat 1) (vafAt l j) ≡ true → priorOf first p counts g l ≡ inf true
   unfolding priorOf
   prior-least l h j m s e =
-      ap (λ (x : Float). x ⊕ cond (alone g) (forOne n) (forTwo n)) (sunk l h j s e n (omega arith) m) ∙ least-finite (cond (alone g) (forOne n) (forTwo n)) (germline-within .is-finite)
+      ap (λ (x : Float). x ⊕ forGermline n g) (sunk l h j s e n (omega arith) m) ∙ least-finite (forGermline n g) (germline-within .is-finite)
 
   -- ---- what is kept
 

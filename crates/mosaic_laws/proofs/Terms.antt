@@ -7,7 +7,7 @@ use native.Mathlib.Omega.{arith}
 use borrow.Author.Tests.{leb-false, lt-leb}
 use lib.IntN.{pos}
 use lib.Dec.{T, leb, lit≤, lit<}
-use lib.Ieee.{Float, nan, inf, fin, binary64, round, mul, lt, le, ofInt, fits}
+use lib.Ieee.{Float, nan, inf, fin, binary64, round, neg, mul, lt, le, ofInt, fits}
 use lib.Ieee.Scale.{finite}
 use lib.Ieee.Fits.{and-l, and-r, round-fits, ofInt-fits, add-fits, sub-fits, mul-fits, div-fits}
 use lib.Ieee.Positive.{num, den, positive, above, above-of-le, between}
@@ -26,11 +26,10 @@ use Rattle.mosaic.specs.Allowed.{paramsAllowed}
 use Rattle.limits.specs.Limits.{inRange}
 use Rattle.alleles.specs.Alleles.{alone}
 use Rattle.picks.specs.Order.{larger}
-use Rattle.candidates.specs.Shares.{germlineShare, gainOf}
-use Rattle.sites.specs.Site.{densityOf, forOne, forTwo}
+use Rattle.candidates.specs.Shares.{germlineShare}
+use Rattle.hypotheses.specs.Prior.{gainOf}
 use Rattle.models.specs.declared.params.Params.{Params}
 use Rattle.alleles.specs.declared.pair.Pair.{Pair}
-use Rattle.sites.specs.declared.priors.Density.{Density}
 use Rattle.mosaic_laws.proofs.Quotients.{above-div}
 
 -- ---- the short log gamma of a number above zero and at most 2 ^ 23
@@ -120,24 +119,23 @@ module _ (p : Params) (allowed : paramsAllowed p ≡ true) where
   highest-not-below =
       not-below-zero (p .highest) (highest-within .is-finite) (and-l (le (nat 0) (p .highest)) (le (p .highest) (nat 1)) (and-r B H (and-r A (B && H) all-of)))
 
--- the numbers of a density, none beyond 2 ^ 38
-pub record Dense (d : Density) : Type 0 where
-  pub a-within : Within 1001 (d .a)
-  pub b-within : Within 1001 (d .b)
-  pub alpha-within : Within (2 ^ 38) (d .«gamma_alpha»)
-  pub beta-within : Within (2 ^ 38) (d .«gamma_beta»)
-  pub sum-within : Within (2 ^ 38) (d .«gamma_sum»)
+-- what the density takes from the parameters, none beyond 2 ^ 38
+pub record Dense (p : Params) : Type 0 where
+  pub alpha-less : Within 1001 (p .alpha ⊖ nat 1)
+  pub beta-less : Within 1001 (p .beta ⊖ nat 1)
+  pub alpha-within : Within (2 ^ 38) (stirlingOf (p .alpha))
+  pub beta-within : Within (2 ^ 38) (stirlingOf (p .beta))
+  pub sum-within : Within (2 ^ 38) (stirlingOf (p .alpha ⊕ p .beta))
 
-pub dense : (p : Params) → paramsAllowed p ≡ true → T (fits binary64 (p .alpha)) → T (fits binary64 (p .beta)) → Dense (densityOf stirlingOf p)
-unfolding densityOf
+pub dense : (p : Params) → paramsAllowed p ≡ true → T (fits binary64 (p .alpha)) → T (fits binary64 (p .beta)) → Dense p
 dense p allowed f g =
     let a = alpha-prior p allowed in
     let b = beta-prior p allowed in
     let one = within-whole (pos 1) 1 (lit≤ tt) (lit≤ tt) in
     let both = within-add (a .within) (b .within) (lit≤ tt) in
     record {
-      a-within = within-sub (a .within) one (lit≤ tt);
-      b-within = within-sub (b .within) one (lit≤ tt);
+      alpha-less = within-sub (a .within) one (lit≤ tt);
+      beta-less = within-sub (b .within) one (lit≤ tt);
       alpha-within = within-stirling (p .alpha) f (a .above-zero) (within-more (a .within) (lit≤ tt));
       beta-within = within-stirling (p .beta) g (b .above-zero) (within-more (b .within) (lit≤ tt));
       sum-within = within-stirling (p .alpha ⊕ p .beta) (add-fits binary64 (p .alpha) (p .beta)) (above-add (positive-not-below (p .alpha) (a .above-zero)) (fits-above (p .beta) g (b .above-zero)) (lit≤ tt) both .is-positive) (within-more both (lit≤ tt));
@@ -163,19 +161,19 @@ not-most v p h =
     le-fractions (nat 1) v one-at b ∙ lt-leb (num (nat 1) * den v) (num v * den (nat 1)) (less v (nat 1) b one-at h)
 
 -- below 1 it has a density
-pub gain-within : (d : Density) → Dense d → (v : Float) → Vaf v → lt v (nat 1) ≡ true → Within (2 ^ 41) (gainOf d v)
+pub gain-within : (p : Params) → Dense p → (v : Float) → Vaf v → lt v (nat 1) ≡ true → Within (2 ^ 41) (gainOf stirlingOf p v)
 unfolding gainOf
-gain-within d h v k l =
+gain-within p h v k l =
     let rest = within-sub (within-whole (pos 1) 1 (lit≤ tt) (lit≤ tt)) (k .within) (lit≤ tt) in
     let up = difference-above v (nat 1) (positive-not-below v (k .above-zero)) one-at (k .is-f64) (ofInt-fits binary64 (pos 1)) l (rest .is-finite) in
-    let first-two = within-add (within-mul (h .a-within) (ln-within v k) (lit≤ tt)) (within-mul (h .b-within) (within-ln (nat 1 ⊖ v) (sub-fits binary64 (nat 1) v) (up .is-positive)) (lit≤ tt)) (lit≤ tt) in
+    let first-two = within-add (within-mul (h .alpha-less) (ln-within v k) (lit≤ tt)) (within-mul (h .beta-less) (within-ln (nat 1 ⊖ v) (sub-fits binary64 (nat 1) v) (up .is-positive)) (lit≤ tt)) (lit≤ tt) in
     let all = within-add (within-sub (within-sub first-two (h .alpha-within) (lit≤ tt)) (h .beta-within) (lit≤ tt)) (h .sum-within) (lit≤ tt) in
     rw (not-most v (k .above-zero) l, zero-below v (k .above-zero)) (within-more all (lit≤ tt))
 
 -- from 1 on it has none, and the whole is minus infinity
-pub gain-least : (d : Density) (v : Float) → le (nat 1) v ≡ true → gainOf d v ≡ inf true
+pub gain-least : (p : Params) (v : Float) → le (nat 1) v ≡ true → gainOf stirlingOf p v ≡ inf true
 unfolding gainOf
-gain-least d v h = rw h
+gain-least p v h = rw h
 
 -- ---- the germline share
 
@@ -217,8 +215,7 @@ share-ln-within g mass w =
 
 -- ---- what the germline alleles add
 
-pub one-within : (n : ℕ) → 0 < n → n ≤ 8 → Within (2 ^ 12) (forOne n)
-unfolding forOne
+pub one-within : (n : ℕ) → 0 < n → n ≤ 8 → Within (2 ^ 12) (neg (lnOf (nat n)))
 one-within n h l = within-neg (within-ln (nat n) (ofInt-fits binary64 (pos n)) (above-whole n h (omega arith) .is-positive))
 
 triangle : (n : ℕ) → 1 < n → n ≤ 8 → (0 < n * (n - 1) / 2) × (n * (n - 1) / 2 ≤ 2 ^ 53)
@@ -239,8 +236,7 @@ triangle (suc (suc (suc (suc (suc (suc (suc (suc (suc n))))))))) h l = absurd (n
     none : (n : ℕ) → suc (suc (suc (suc (suc (suc (suc (suc (suc n)))))))) ≤ 8 → ⊥
     none n l = omega arith
 
-pub two-within : (n : ℕ) → 1 < n → n ≤ 8 → Within (2 ^ 12) (forTwo n)
-unfolding forTwo
+pub two-within : (n : ℕ) → 1 < n → n ≤ 8 → Within (2 ^ 12) (neg (lnOf (nat (n * (n - 1) / 2))))
 two-within n h l =
     let m = n * (n - 1) / 2 in
     let t = triangle n h l in

@@ -1,4 +1,5 @@
--- The numbers of a call that neither the hypothesis nor its VAFs change. Definitions only (RULES.md, M3, M4, M5).
+-- For the code: the numbers of a call that neither the hypothesis nor its VAFs change, kept so that they are worked out once. Definitions only.
+-- The rules that need them (RULES.md, M3, M4, M5) are said in hypotheses/specs, and that they serve these is proved in hypotheses/proofs/Terms.antt.
 use Prim.Native.Nat.{ℕ, _-_, _*_, _/_}
 use mathlib.Core.List.{List}
 use lib.ListN.{replicate}
@@ -12,7 +13,7 @@ use Rattle.alleles.specs.Alleles.{countAt}
 use Rattle.sites.specs.declared.priors.Density.{Density}
 use Rattle.sites.specs.declared.site.Site.{Site}
 
--- M4: the numbers of the log beta density, by a log gamma: α − 1, β − 1, lnΓ(α), lnΓ(β), lnΓ(α + β)
+-- what M4's log beta density (`lnDensity`, hypotheses/specs/Prior.antt) takes from the parameters, by a log gamma; the law is `gain-by`
 unfoldable pub densityOf : (Float → Float) → Params → Density
 densityOf lnGamma p = record {
   a = p .alpha ⊖ nat 1;
@@ -22,7 +23,7 @@ densityOf lnGamma p = record {
   «gamma_sum» = lnGamma (p .alpha ⊕ p .beta);
 }
 
--- M4: what one germline allele adds, and what two add, of n alleles, unseen ones included
+-- what M4 adds for one germline allele of n alleles, and what for two (`forGermline`, hypotheses/specs/Prior.antt); the law is `germline-by`
 unfoldable pub forOne : ℕ → Float
 forOne n = neg (lnOf (nat n))
 

@@ -6,7 +6,7 @@ use kernels::ln::ln;
 use models::params::Params;
 use stirlings::stirling::stirling;
 
-// The numbers of a log beta density: alpha − 1, beta − 1, and the log gammas of alpha, beta and their sum.
+// What a log beta density takes from the parameters, at whatever VAF: two factors and three log gammas.
 pub struct Density {
     pub a: f64,
     pub b: f64,
