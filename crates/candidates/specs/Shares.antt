@@ -42,8 +42,8 @@ massOf counts g vafs = massOver counts g vafs (length counts)
 unfoldable pub germlineShare : Pair → Float → Float
 germlineShare g mass = let rest = larger (nat 1 ⊖ mass) (decimal 1 2) in cond (alone g) rest (rest ⊘ nat 2)
 
--- for the code: M4's gain of a VAF (`gainOf`, hypotheses/specs/Prior.antt), by the numbers of the density that are kept; the law is `gain-by`
--- (hypotheses/proofs/Terms.antt)
+-- for the code: M4's gain of a VAF (`gainOf`, hypotheses/specs/Prior.antt), by the numbers of the density that are kept;
+-- the law is `gain-by` (hypotheses/proofs/Terms.antt)
 unfoldable pub gainBy : Density → Float → Float
 gainBy d v =
     let inside = d .a ⊗ lnOf v ⊕ d .b ⊗ lnOf (nat 1 ⊖ v) ⊖ d .«gamma_alpha» ⊖ d .«gamma_beta» ⊕ d .«gamma_sum» in

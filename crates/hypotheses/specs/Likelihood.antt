@@ -13,12 +13,13 @@ use Rattle.hypotheses.specs.Edition.{Edition}
 use Rattle.alleles.specs.Alleles.{countAt, seenIn, germlineIn, totalOf}
 use Rattle.alleles.specs.declared.pair.Pair.{Pair}
 
--- the share of an allele that is seen
+-- M3: the share of an allele that is seen
 abbrev pub shareOf : List ℕ → Pair → List Float → ℕ → Float
 shareOf counts g vafs i = cond (germlineIn g i) (germlineShare g (massOf counts g vafs)) (vafAt vafs i)
 
--- from the log factorial of the total, each allele's log factorial is taken off, and then, where its count is above 0, count·ln(share) is added.
--- ln of a share of 0 is minus infinity, and so is then the whole.
+-- M3: from the log factorial of the total, each allele's log factorial is taken off, and then, where its count is above 0,
+-- count·ln(share) is added. ln of a share of 0 is minus infinity, and so is then the whole: `likelihood-at-once`
+-- (mosaic_laws/proofs/AtOnce.antt).
 abbrev pub likelihoodOver : Edition → List ℕ → Pair → List Float → ℕ → Float
 likelihoodOver e counts g vafs =
     over

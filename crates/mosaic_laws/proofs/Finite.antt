@@ -5,9 +5,9 @@ use mathlib.Core.Bool.{Bool, true, false, not, _&&_, _||_, cond, true≢false}
 use mathlib.Core.List.{List}
 use mathlib.Mathlib.Data.Bool.Basic.{and-elim-left, and-elim-right}
 use Prim.Native.Nat.{ℕ, zero, suc, _+_, _-_, _*_, _/_, _^_, _≤_, _<_}
-use native.Mathlib.Nat.{not-suc-le-zero, mul-le-mul}
+use native.Mathlib.Nat.{mul-le-mul}
 use native.Mathlib.Omega.{arith}
-use borrow.Author.Tests.{eqb-true, eqb-false, eq-eqb}
+use borrow.Author.Tests.{eqb-false, eq-eqb}
 use lib.IntN.{pos}
 use lib.Dec.{T, eqb, lit≤, lit<}
 use lib.ListN.{length, set, replicate, length-set}
@@ -40,7 +40,7 @@ use Rattle.lists.proofs.OverLaws.{length-placed, at-set}
 use Rattle.mosaic_laws.specs.Accepted.{Accepted}
 use Rattle.mosaic_laws.proofs.Quotients.{observed-share}
 use Rattle.mosaic_laws.proofs.Terms.{either, within-factorial, highest-within, Dense, dense, Vaf, ln-within, one-at, gain-within, gain-least, above-finite, share-ln-within, one-within, two-within}
-use Rattle.mosaic_laws.proofs.Sums.{over-keeps, grows}
+use Rattle.mosaic_laws.proofs.Sums.{over-keeps, grows, sinks}
 use Rattle.mosaic_laws.proofs.Least.{under-finite, least-stays}
 use Rattle.mosaic_laws.proofs.Seen.{seen-some, seen-in, counts-in}
 
@@ -158,30 +158,20 @@ module _ (p : Params) (counts : List ℕ) (ok : Accepted p counts) (g : Pair) (b
       (finite-low (within-whole (pos 0) 0 (lit≤ tt) (lit≤ tt)))
 
   -- the sum is minus infinity from such an allele on
-  sunk : (l : List Float) → Tryable l → (j : ℕ) → somaticIn counts g j ≡ true → le (nat 1) (vafAt l j) ≡ true → (k : ℕ) → k ≤ n → j < k → over (gainStep l) (nat 0) k ≡ inf true
-  sunk l h j s e zero q m = absurd (not-suc-le-zero m)
-  sunk l h j s e (suc k) q m =
-      go (eqb j k) refl (λ r. sunk l h j s e k (less k n q) r)
+  sunk : (l : List Float) → Tryable l → (j : ℕ) → j < n → somaticIn counts g j ≡ true → le (nat 1) (vafAt l j) ≡ true → over (gainStep l) (nat 0) n ≡ inf true
+  sunk l h j m s e =
+      sinks (gainStep l) (nat 0) (inf true) j n m
+      (rw (s, gain-least p (vafAt l j) e) (low-least (gains-low l h j (omega arith))))
+      (λ k q. stays k q (somaticIn counts g k) refl)
     where
-      less : (k n : ℕ) → suc k ≤ n → k ≤ n
-      less k n q = omega arith
-
-      stays : (b : Bool) → somaticIn counts g k ≡ b → cond b (inf true ⊕ gainOf stirlingOf p (vafAt l k)) (inf true) ≡ inf true
-      stays true t = least-low (gain-low (vafAt l k) (h k q t))
-      stays false t = refl
-
-      go : (b : Bool) → eqb j k ≡ b → (j < k → over (gainStep l) (nat 0) k ≡ inf true) → gainStep l k (over (gainStep l) (nat 0) k) ≡ inf true
-      go true t r =
-          let d = eqb-true j k t in
-          let s' : somaticIn counts g k ≡ true = subst (λ (i : ℕ). somaticIn counts g i ≡ true) d s in
-          let e' : le (nat 1) (vafAt l k) ≡ true = subst (λ (i : ℕ). le (nat 1) (vafAt l i) ≡ true) d e in
-          rw (s', gain-least p (vafAt l k) e') (low-least (gains-low l h k (less k n q)))
-      go false t r = let d = eqb-false j k t in rw (r (omega arith)) (stays (somaticIn counts g k) refl)
+      stays : (k : ℕ) → k < n → (b : Bool) → somaticIn counts g k ≡ b → cond b (inf true ⊕ gainOf stirlingOf p (vafAt l k)) (inf true) ≡ inf true
+      stays k q true t = least-low (gain-low (vafAt l k) (h k q t))
+      stays k q false t = refl
 
   prior-least : (l : List Float) → Tryable l → (j : ℕ) → j < n → somaticIn counts g j ≡ true → le (nat 1) (vafAt l j) ≡ true → priorOf first p counts g l ≡ inf true
   unfolding priorOf
   prior-least l h j m s e =
-      ap (λ (x : Float). x ⊕ forGermline n g) (sunk l h j s e n (omega arith) m) ∙ least-finite (forGermline n g) (germline-within .is-finite)
+      ap (λ (x : Float). x ⊕ forGermline n g) (sunk l h j m s e) ∙ least-finite (forGermline n g) (germline-within .is-finite)
 
   -- ---- what is kept
 

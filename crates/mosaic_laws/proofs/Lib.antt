@@ -11,5 +11,6 @@ pub mod Answers
 pub mod OneLess
 pub mod AnyPick
 pub mod Winner
+pub mod AtOnce
 pub mod Steps
 pub mod Count

@@ -1,3 +1,4 @@
 -- The definitions that the laws of `mosaic_laws` cite.
 pub mod Accepted
 pub mod Largest
+pub mod AtOnce

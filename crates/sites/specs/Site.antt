@@ -1,5 +1,6 @@
--- For the code: the numbers of a call that neither the hypothesis nor its VAFs change, kept so that they are worked out once. Definitions only.
--- The rules that need them (RULES.md, M3, M4, M5) are said in hypotheses/specs, and that they serve these is proved in hypotheses/proofs/Terms.antt.
+-- For the code: the numbers of a call that neither the hypothesis nor its VAFs change, so that they are worked out once. Definitions only.
+-- The rules that need them (RULES.md, M3, M4, M5) are said in hypotheses/specs; that they serve these is proved in
+-- hypotheses/proofs/Terms.antt.
 use Prim.Native.Nat.{ℕ, _-_, _*_, _/_}
 use mathlib.Core.List.{List}
 use lib.ListN.{replicate}
@@ -23,7 +24,7 @@ densityOf lnGamma p = record {
   «gamma_sum» = lnGamma (p .alpha ⊕ p .beta);
 }
 
--- what M4 adds for one germline allele of n alleles, and what for two (`forGermline`, hypotheses/specs/Prior.antt); the law is `germline-by`
+-- what M4 adds for one germline allele of n, and what for two (`forGermline`, hypotheses/specs/Prior.antt); the law is `germline-by`
 unfoldable pub forOne : ℕ → Float
 forOne n = neg (lnOf (nat n))
 

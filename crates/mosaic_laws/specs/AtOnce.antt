@@ -1,0 +1,37 @@
+-- The log likelihood as M3 says it and kanpig works it out: minus infinity at once where an allele that is seen has a share of 0.
+-- Definitions only (RULES.md, M3).
+use Prim.Native.Nat.{ℕ, _<_}
+use mathlib.Core.Path.{_≡_}
+use mathlib.Core.Bool.{Bool, true, false, _&&_, _||_, cond}
+use mathlib.Core.List.{List}
+use lib.Dec.{T}
+use lib.ListN.{length}
+use lib.Ieee.{Float, inf, binary64, eq, fits}
+use Rattle.floats.specs.F64.{nat}
+use Rattle.floats.specs.Within.{NotBelow}
+use Rattle.lists.specs.Over.{over}
+use Rattle.alleles.specs.Alleles.{seenIn, somaticIn}
+use Rattle.alleles.specs.declared.pair.Pair.{Pair}
+use Rattle.candidates.specs.Shares.{vafAt}
+use Rattle.hypotheses.specs.Edition.{Edition}
+use Rattle.hypotheses.specs.Likelihood.{shareOf, likelihoodOf}
+
+-- a VAF from 0 on: a finite f64 that is not below zero; −0.0 counts
+pub record FromZero (v : Float) : Type 0 where
+  pub is-f64 : T (fits binary64 v)
+  pub not-below : NotBelow v
+
+-- every somatic allele has such a VAF
+abbrev pub VafsFromZero : List ℕ → Pair → List Float → Type 0
+VafsFromZero counts g vafs = (i : ℕ) → i < length counts → somaticIn counts g i ≡ true → FromZero (vafAt vafs i)
+
+-- M3: an allele has a share of 0 with a count above 0
+abbrev pub impossible : List ℕ → Pair → List Float → ℕ → Bool
+impossible counts g vafs i = seenIn counts i && eq (shareOf counts g vafs i) (nat 0)
+
+abbrev pub someImpossible : List ℕ → Pair → List Float → Bool
+someImpossible counts g vafs = over (λ i b. b || impossible counts g vafs i) false (length counts)
+
+-- M3: minus infinity where there is such an allele, else the sum
+abbrev pub likelihoodAtOnce : Edition → List ℕ → Pair → List Float → Float
+likelihoodAtOnce e counts g vafs = cond (someImpossible counts g vafs) (inf true) (likelihoodOf e counts g vafs)
