@@ -8,7 +8,8 @@ use lib.Ieee.Nearest.{closest}
 use Rattle.floats.specs.F64.{_⊖_, _⊗_, whole, nat, decimal, reciprocals, horner}
 use Rattle.kernels.specs.Ln.{hi, lo}
 
--- the whole number that a finite x = ±m·2^e is nearest to, at a tie the even one: `closest a b` rounds the fraction a / b so
+-- the whole number that a finite x = ±m·2^e is nearest to, at a tie the even one: `closest a b` rounds the fraction a / b so.
+-- That it is so, and the only one: `nearest-whole`, `nearest-only` (proofs/NearWhole.antt)
 abbrev pub nearestWhole : Float → ℤ
 nearestWhole nan = pos 0
 nearestWhole (inf s) = pos 0
