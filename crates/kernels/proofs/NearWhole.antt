@@ -15,8 +15,8 @@ use lib.Ieee.Scale.{finite}
 use Rattle.floats.proofs.KeyOrder.{signed}
 use Rattle.floats.proofs.Zeros.{zeroOf}
 use Rattle.kernels.specs.Exp.{nearestWhole}
-use Rattle.kernels.specs.Near.{numerator, distance, NearWhole, Near}
-use Rattle.kernels.proofs.Nearest.{closest-near, closest-is}
+use Rattle.kernels.specs.Near.{numerator, distance, NearWhole}
+use Rattle.kernels.proofs.Nearest.{Near, closest-near, closest-is}
 
 -- ---- how far two whole numbers are apart, by their signs and sizes
 

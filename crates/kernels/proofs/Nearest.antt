@@ -16,8 +16,14 @@ use lib.Ieee.Nearest.{closest, closest-same}
 use lib.Ieee.Scale.{grid, round-val, round-same}
 use Rattle.floats.specs.F64.{_⊕_, _⊖_, whole}
 use Rattle.floats.specs.Within.{Within}
-use Rattle.kernels.specs.Near.{Near}
 use Rattle.kernels.specs.Exp.{nearestWhole}
+
+-- of numbers without a sign: k − 1/2 ≤ a / d ≤ k + 1/2, and where one of the two is an equality, k is even
+pub record Near (a d k : ℕ) : Type 0 where
+  pub upper : 2 * a ≤ (2 * k + 1) * d
+  pub lower : 2 * k * d ≤ 2 * a + d
+  pub tie-above : 2 * a ≡ (2 * k + 1) * d → k % 2 ≡ 0
+  pub tie-below : 2 * k * d ≡ 2 * a + d → k % 2 ≡ 0
 
 -- by how the remainder r, with a = q·d + r, compares with d / 2
 module _ (a d q r : ℕ) (sum : q * d + r ≡ a) (rest : r < d) where

@@ -1,6 +1,6 @@
--- What "nearest, at a tie the even one" means, for the law that `nearestWhole` gives such a number and the only one. Definitions only
--- (RULES.md, K4).
-use Prim.Native.Nat.{ℕ, _+_, _*_, _%_, _≤_}
+-- What "the whole number nearest to x, a tie going to the even one" means, for the law that `nearestWhole` gives such a number and the
+-- only one. Definitions only (RULES.md, K4).
+use Prim.Native.Nat.{ℕ, _*_, _%_, _≤_}
 use mathlib.Core.Path.{_≡_}
 use mathlib.Core.Bool.{cond}
 use lib.IntN.{ℤ, pos, negℤ, natAbs, _-ℤ_, _*ℤ_}
@@ -24,10 +24,3 @@ pub record NearWhole (x : Float) (k : ℤ) : Type 0 where
   pub is-finite : T (finite x)
   pub at-most-half : 2 * distance x k ≤ den x
   pub even-at-tie : 2 * distance x k ≡ den x → natAbs k % 2 ≡ 0
-
--- the same of a / d and k that have no sign: k − 1/2 ≤ a / d ≤ k + 1/2, and where one of the two is an equality, k is even
-pub record Near (a d k : ℕ) : Type 0 where
-  pub upper : 2 * a ≤ (2 * k + 1) * d
-  pub lower : 2 * k * d ≤ 2 * a + d
-  pub tie-above : 2 * a ≡ (2 * k + 1) * d → k % 2 ≡ 0
-  pub tie-below : 2 * k * d ≡ 2 * a + d → k % 2 ≡ 0
