@@ -1,5 +1,5 @@
--- The search for the VAFs of one hypothesis, with the terms that are kept from candidate to candidate. Definitions only (RULES.md, M3 to M6); that it finds
--- what the rules' own formulas find is `found-by` (hypotheses/proofs/Terms.antt).
+-- For the code: the search for the VAFs of one hypothesis, with the terms that are kept from candidate to candidate. Definitions only.
+-- The rules (RULES.md, M3 to M6) are said in hypotheses/specs; that this finds what they find is `found-by` (hypotheses/proofs/Terms.antt).
 use Prim.Native.Nat.{ℕ}
 use mathlib.Core.Bool.{true, cond}
 use mathlib.Core.List.{List}

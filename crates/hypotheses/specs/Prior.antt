@@ -20,7 +20,8 @@ lnDensity lnGamma p v =
     let β = p .beta in
     (α ⊖ nat 1) ⊗ lnOf v ⊕ (β ⊖ nat 1) ⊗ lnOf (nat 1 ⊖ v) ⊖ lnGamma α ⊖ lnGamma β ⊕ lnGamma (α ⊕ β)
 
--- M4: what a somatic VAF adds: its log density strictly between 0 and 1, minus infinity from 1 on, and nothing otherwise
+-- M4: what a somatic VAF adds: its log density strictly between 0 and 1; from 1 on minus infinity, which is then the whole
+-- (`prior-at-once`, mosaic_laws/proofs/PriorAtOnce.antt); nothing otherwise
 unfoldable pub gainOf : (Float → Float) → Params → Float → Float
 gainOf lnGamma p v = cond (le (nat 1) v) (inf true) (cond (lt (nat 0) v) (lnDensity lnGamma p v) (nat 0))
 

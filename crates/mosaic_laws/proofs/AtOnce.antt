@@ -5,7 +5,7 @@ use mathlib.Core.Bool.{Bool, true, false, cond, true≢false}
 use mathlib.Core.List.{List}
 use mathlib.Mathlib.Data.Bool.Basic.{and-elim-left, and-elim-right}
 use Prim.Native.Nat.{ℕ, _+_, _-_, _*_, _^_, _≤_, _<_, zero-le}
-use native.Mathlib.Nat.{zero-mul, mul-le-mul, mul-pos}
+use native.Mathlib.Nat.{zero-mul, mul-pos}
 use native.Mathlib.Omega.{arith}
 use borrow.Author.Tests.{le-ltb}
 use lib.IntN.{ℤ, pos}
@@ -38,7 +38,7 @@ use Rattle.hypotheses.specs.Likelihood.{shareOf, likelihoodOf}
 use Rattle.mosaic_laws.specs.AtOnce.{FromZero, VafsFromZero, impossible, someImpossible, likelihoodAtOnce}
 use Rattle.mosaic_laws.proofs.Terms.{either, within-factorial, above-finite, share-ln-within}
 use Rattle.mosaic_laws.proofs.OneLess.{one-less}
-use Rattle.mosaic_laws.proofs.Sums.{over-keeps, grows, sinks, some-at}
+use Rattle.mosaic_laws.proofs.Sums.{over-keeps, grows, of-eight, sinks, some-at}
 use Rattle.mosaic_laws.proofs.Seen.{seen-some}
 
 -- ---- the sum of VAFs from 0 on, which may pass the largest f64
@@ -202,7 +202,7 @@ module _ (counts : List ℕ) (allowed : countsAllowed counts ≡ true) (few : le
   whole = lnFactorial stirlingOf (totalOf counts)
 
   steps : (i B : ℕ) → i < n → i * B ≤ 8 * B
-  steps i B l = mul-le-mul {n₁ = i} {m₁ = B} {n₂ = 8} {m₂ = B} (omega (arith, few)) (omega arith)
+  steps i B l = of-eight i B (omega (arith, few))
 
   less-low : (i B : ℕ) (s : Float) → Low B s → B + 2 ^ 38 ≤ 2 ^ 53 → Low (B + 2 ^ 38) (s ⊖ factorialAt i)
   unfolding sub

@@ -4,21 +4,20 @@ use mathlib.Core.Path.{_≡_, refl, sym, ap, _∙_, subst}
 use mathlib.Core.Bool.{Bool, true, false, not, _&&_, _||_, cond, true≢false}
 use mathlib.Core.List.{List}
 use mathlib.Mathlib.Data.Bool.Basic.{and-elim-left, and-elim-right}
-use Prim.Native.Nat.{ℕ, zero, suc, _+_, _-_, _*_, _/_, _^_, _≤_, _<_}
-use native.Mathlib.Nat.{mul-le-mul}
+use Prim.Native.Nat.{ℕ, zero, suc, _+_, _*_, _^_, _≤_, _<_}
 use native.Mathlib.Omega.{arith}
-use borrow.Author.Tests.{eqb-false, eq-eqb}
+use borrow.Author.Tests.{eq-eqb}
 use lib.IntN.{pos}
 use lib.Dec.{T, eqb, lit≤, lit<}
 use lib.ListN.{length, set, replicate, length-set}
 use lib.Signed.{ltZ}
-use lib.Ieee.{Float, nan, inf, binary64, round, neg, lt, le, isNan, ofInt, fits}
+use lib.Ieee.{Float, nan, inf, binary64, round, lt, le, isNan, ofInt, fits}
 use lib.Ieee.Fits.{add-fits, mul-fits, round-fits}
 use lib.Ieee.Positive.{above-of-le}
 use Rattle.floats.specs.F64.{_⊕_, _⊖_, _⊗_, _⊘_, nat, decimal}
 use Rattle.floats.specs.Key.{keyOf}
-use Rattle.floats.specs.Within.{Within, Low, least, finite-low}
-use Rattle.floats.proofs.Bounds.{within-number, within-more, within-whole, within-fraction, within-add, within-sub, within-mul, within-div, above-whole, above-fraction, positive-not-below, low-add, low-more, least-finite, finite-least, least-low, low-least}
+use Rattle.floats.specs.Within.{Within}
+use Rattle.floats.proofs.Bounds.{within-number, within-more, within-whole, within-fraction, within-add, within-sub, within-mul, within-div, above-whole, above-fraction, positive-not-below, finite-least}
 use Rattle.floats.proofs.KeyOrder.{key-order}
 use Rattle.floats.proofs.Whole.{below-is-most}
 use Rattle.floats.proofs.Fractions.{above-by-test}
@@ -27,11 +26,11 @@ use Rattle.stirlings.specs.Stirling.{stirlingOf, lnFactorial}
 use Rattle.lists.specs.Over.{over}
 use Rattle.hypotheses.proofs.Terms.{start-at}
 use Rattle.hypotheses.specs.Edition.{first}
-use Rattle.alleles.specs.Alleles.{countAt, seenIn, germlineIn, somaticIn, alone, totalOf}
+use Rattle.alleles.specs.Alleles.{countAt, seenIn, germlineIn, somaticIn, totalOf}
 use Rattle.candidates.specs.Shares.{anyOver, anySomatic, vafAt, massOf, germlineShare, startVafs, stepOf, observedShare}
 use Rattle.hypotheses.specs.Hypotheses.{bothSeen}
 use Rattle.hypotheses.specs.Likelihood.{shareOf, likelihoodOf}
-use Rattle.hypotheses.specs.Prior.{gainOf, forGermline, priorOf}
+use Rattle.hypotheses.specs.Prior.{gainOf, priorOf}
 use Rattle.hypotheses.specs.Search.{Best, valueOf, tried, triedStep, searchedAllele, searchedAll, foundOf}
 use Rattle.models.specs.declared.params.Params.{Params}
 use Rattle.alleles.specs.declared.pair.Pair.{Pair}
@@ -39,8 +38,9 @@ use Rattle.alleles.proofs.CountLaws.{count-bound, total-bound}
 use Rattle.lists.proofs.OverLaws.{length-placed, at-set}
 use Rattle.mosaic_laws.specs.Accepted.{Accepted}
 use Rattle.mosaic_laws.proofs.Quotients.{observed-share}
-use Rattle.mosaic_laws.proofs.Terms.{either, within-factorial, highest-within, Dense, dense, Vaf, ln-within, one-at, gain-within, gain-least, above-finite, share-ln-within, one-within, two-within}
-use Rattle.mosaic_laws.proofs.Sums.{over-keeps, grows, sinks}
+use Rattle.mosaic_laws.proofs.Terms.{either, within-factorial, highest-within, Vaf, ln-within, one-at, gain-within, above-finite, share-ln-within}
+use Rattle.mosaic_laws.proofs.Sums.{over-keeps, grows, of-eight}
+use Rattle.mosaic_laws.proofs.PriorAtOnce.{density, germline-within, prior-least}
 use Rattle.mosaic_laws.proofs.Least.{under-finite, least-stays}
 use Rattle.mosaic_laws.proofs.Seen.{seen-some, seen-in, counts-in}
 
@@ -59,10 +59,10 @@ module _ (p : Params) (counts : List ℕ) (ok : Accepted p counts) (g : Pair) (b
 
   -- a bound of n steps
   eight : (B : ℕ) → n * B ≤ 8 * B
-  eight B = mul-le-mul {n₁ = n} {m₁ = B} {n₂ = 8} {m₂ = B} (ok .few) (omega arith)
+  eight B = of-eight n B (ok .few)
 
   steps : (i B : ℕ) → i < n → i * B ≤ 8 * B
-  steps i B l = mul-le-mul {n₁ = i} {m₁ = B} {n₂ = 8} {m₂ = B} (omega (arith, ok .few)) (omega arith)
+  steps i B l = of-eight i B (omega (arith, ok .few))
 
   -- every somatic VAF may be tried; and all are below 1
   abbrev Tryable : List Float → Type 0
@@ -109,19 +109,6 @@ module _ (p : Params) (counts : List ℕ) (ok : Accepted p counts) (g : Pair) (b
 
   -- ---- the prior
 
-  density : Dense p
-  density = dense p (ok .params-are) (ok .alpha-is-f64) (ok .beta-is-f64)
-
-  germline-within : Within (2 ^ 12) (forGermline n g)
-  unfolding forGermline
-  germline-within =
-      either (Within (2 ^ 12)) (alone g) (neg (lnOf (nat n))) (neg (lnOf (nat (n * (n - 1) / 2))))
-      (λ e. one-within n (omega (arith, first-in)) (ok .few))
-      (λ e. two-within n (two (g .first) (g .second) n first-in second-in (eqb-false (g .first) (g .second) e)) (ok .few))
-    where
-      two : (i j n : ℕ) → i < n → j < n → (i ≡ j → ⊥) → 1 < n
-      two i j n h k d = omega arith
-
   prior-within : (l : List Float) → Tryable l → Low1 l → Within (2 ^ 45) (priorOf first p counts g l)
   unfolding priorOf
   prior-within l h k =
@@ -130,48 +117,11 @@ module _ (p : Params) (counts : List ℕ) (ok : Accepted p counts) (g : Pair) (b
       (grows Within 0 (2 ^ 41) (λ i s. cond (somaticIn counts g i) (s ⊕ gainOf stirlingOf p (vafAt l i)) s) (nat 0) n
       (λ i m x w.
       either (Within (0 + i * 2 ^ 41 + 2 ^ 41)) (somaticIn counts g i) (x ⊕ gainOf stirlingOf p (vafAt l i)) x
-      (λ e. within-add w (gain-within p density (vafAt l i) (h i m e) (k i m e)) (omega (arith, steps i (2 ^ 41) m)))
+      (λ e. within-add w (gain-within p (density p counts ok g both) (vafAt l i) (h i m e) (k i m e)) (omega (arith, steps i (2 ^ 41) m)))
       (λ e. within-more w (omega arith)))
       (within-whole (pos 0) 0 (lit≤ tt) (lit≤ tt)))
-      germline-within (omega (arith, eight (2 ^ 41))))
+      (germline-within p counts ok g both) (omega (arith, eight (2 ^ 41))))
       (omega (arith, eight (2 ^ 41)))
-
-  -- ---- a VAF of 1 or more
-
-  gain-low : (v : Float) → Vaf v → Low (2 ^ 41) (gainOf stirlingOf p v)
-  gain-low v h = go (le (nat 1) v) refl
-    where
-      go : (b : Bool) → le (nat 1) v ≡ b → Low (2 ^ 41) (gainOf stirlingOf p v)
-      go true e = subst (Low (2 ^ 41)) (sym (gain-least p v e)) least
-      go false e = finite-low (gain-within p density v h (above-by-test (nat 1) v one-at (positive-not-below v (h .above-zero)) e))
-
-  abbrev gainStep : List Float → ℕ → Float → Float
-  gainStep l i s = cond (somaticIn counts g i) (s ⊕ gainOf stirlingOf p (vafAt l i)) s
-
-  gains-low : (l : List Float) → Tryable l → (k : ℕ) → k ≤ n → Low (0 + k * 2 ^ 41) (over (gainStep l) (nat 0) k)
-  gains-low l h k q =
-      grows Low 0 (2 ^ 41) (gainStep l) (nat 0) k
-      (λ i m x w.
-      either (Low (0 + i * 2 ^ 41 + 2 ^ 41)) (somaticIn counts g i) (x ⊕ gainOf stirlingOf p (vafAt l i)) x
-      (λ e. low-add w (gain-low (vafAt l i) (h i (omega arith) e)) (omega (arith, steps i (2 ^ 41) (omega arith))))
-      (λ e. low-more w (omega arith)))
-      (finite-low (within-whole (pos 0) 0 (lit≤ tt) (lit≤ tt)))
-
-  -- the sum is minus infinity from such an allele on
-  sunk : (l : List Float) → Tryable l → (j : ℕ) → j < n → somaticIn counts g j ≡ true → le (nat 1) (vafAt l j) ≡ true → over (gainStep l) (nat 0) n ≡ inf true
-  sunk l h j m s e =
-      sinks (gainStep l) (nat 0) (inf true) j n m
-      (rw (s, gain-least p (vafAt l j) e) (low-least (gains-low l h j (omega arith))))
-      (λ k q. stays k q (somaticIn counts g k) refl)
-    where
-      stays : (k : ℕ) → k < n → (b : Bool) → somaticIn counts g k ≡ b → cond b (inf true ⊕ gainOf stirlingOf p (vafAt l k)) (inf true) ≡ inf true
-      stays k q true t = least-low (gain-low (vafAt l k) (h k q t))
-      stays k q false t = refl
-
-  prior-least : (l : List Float) → Tryable l → (j : ℕ) → j < n → somaticIn counts g j ≡ true → le (nat 1) (vafAt l j) ≡ true → priorOf first p counts g l ≡ inf true
-  unfolding priorOf
-  prior-least l h j m s e =
-      ap (λ (x : Float). x ⊕ forGermline n g) (sunk l h j m s e) ∙ least-finite (forGermline n g) (germline-within .is-finite)
 
   -- ---- what is kept
 
@@ -230,7 +180,7 @@ module _ (p : Params) (counts : List ℕ) (ok : Accepted p counts) (g : Pair) (b
       let l = set (b .vafs) i x in
       let t = set-tryable b h i m x v in
       let here : vafAt l i ≡ x = at-set (b .vafs) i i x nan (omega (arith, h .eight-vafs, ok .few)) (eqb i i) refl (λ y. y ≡ x) (λ r. refl) (λ r. absurd (r refl)) in
-      let value : valueOf first p counts g l ≡ inf true = rw (prior-least l t i m s (rw here e)) (finite-least (likelihoodOf first counts g l) (likelihood-within l t .is-finite)) in
+      let value : valueOf first p counts g l ≡ inf true = rw (prior-least p counts ok g both l (λ j q r. t j q r .is-f64) i m s (rw here e)) (finite-least (likelihoodOf first counts g l) (likelihood-within l t .is-finite)) in
       least-stays first p counts g i x b (fit (h .value-is)) (number (h .value-is)) value
 
   not-one : (x : Float) → Vaf x → le (nat 1) x ≡ false → lt x (nat 1) ≡ true

@@ -12,5 +12,6 @@ pub mod OneLess
 pub mod AnyPick
 pub mod Winner
 pub mod AtOnce
+pub mod PriorAtOnce
 pub mod Steps
 pub mod Count

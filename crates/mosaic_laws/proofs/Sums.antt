@@ -2,8 +2,8 @@
 -- Assumes nothing.
 use mathlib.Core.Path.{_≡_, refl, sym, ap, _∙_}
 use mathlib.Core.Bool.{Bool, true, false, _||_, true≢false}
-use Prim.Native.Nat.{ℕ, zero, suc, _+_, _*_, _<_}
-use native.Mathlib.Nat.{not-suc-le-zero, suc-mul, zero-mul, add-assoc, add-zero}
+use Prim.Native.Nat.{ℕ, zero, suc, _+_, _*_, _≤_, _<_}
+use native.Mathlib.Nat.{not-suc-le-zero, mul-le-mul, suc-mul, zero-mul, add-assoc, add-zero}
 use native.Mathlib.Omega.{arith}
 use borrow.Author.Tests.{eqb-true, eqb-false}
 use lib.Dec.{eqb}
@@ -24,6 +24,10 @@ over-keeps R f a (suc n) step h = step n (last n) (over f a n) (over-keeps R f a
 pub grows : (P : ℕ → Float → Type 0) (A B : ℕ) (f : ℕ → Float → Float) (s : Float) (n : ℕ) → ((i : ℕ) → i < n → (x : Float) → P (A + i * B) x → P (A + i * B + B) (f i x)) → P A s → P (A + n * B) (over f s n)
 grows P A B f s zero step h = rw (zero-mul, add-zero) h
 grows P A B f s (suc n) step h = rw (suc-mul, ← add-assoc) (step n (last n) (over f s n) (grows P A B f s n (λ i l. step i (before i n l)) h))
+
+-- the bound of at most eight steps
+pub of-eight : (i B : ℕ) → i ≤ 8 → i * B ≤ 8 * B
+of-eight i B l = mul-le-mul {n₁ = i} {m₁ = B} {n₂ = 8} {m₂ = B} l (omega arith)
 
 -- where step j makes x of what came before, and every later step keeps x, it is x in the end
 pub sinks : {A : Type 0} (f : ℕ → A → A) (a x : A) (j n : ℕ) → j < n

@@ -1,12 +1,12 @@
--- The log likelihood as M3 says it and kanpig works it out: minus infinity at once where an allele that is seen has a share of 0.
--- Definitions only (RULES.md, M3).
+-- The log likelihood and the log prior as M3 and M4 say them and kanpig works them out: minus infinity at once where an allele that is seen
+-- has a share of 0, and where a somatic VAF is 1 or more. Definitions only (RULES.md, M3, M4).
 use Prim.Native.Nat.{ℕ, _<_}
 use mathlib.Core.Path.{_≡_}
 use mathlib.Core.Bool.{Bool, true, false, _&&_, _||_, cond}
 use mathlib.Core.List.{List}
 use lib.Dec.{T}
 use lib.ListN.{length}
-use lib.Ieee.{Float, inf, binary64, eq, fits}
+use lib.Ieee.{Float, inf, binary64, le, eq, fits}
 use Rattle.floats.specs.F64.{nat}
 use Rattle.floats.specs.Within.{NotBelow}
 use Rattle.lists.specs.Over.{over}
@@ -15,6 +15,8 @@ use Rattle.alleles.specs.declared.pair.Pair.{Pair}
 use Rattle.candidates.specs.Shares.{vafAt}
 use Rattle.hypotheses.specs.Edition.{Edition}
 use Rattle.hypotheses.specs.Likelihood.{shareOf, likelihoodOf}
+use Rattle.hypotheses.specs.Prior.{priorOf}
+use Rattle.models.specs.declared.params.Params.{Params}
 
 -- a VAF from 0 on: a finite f64 that is not below zero; −0.0 counts
 pub record FromZero (v : Float) : Type 0 where
@@ -35,3 +37,18 @@ someImpossible counts g vafs = over (λ i b. b || impossible counts g vafs i) fa
 -- M3: minus infinity where there is such an allele, else the sum
 abbrev pub likelihoodAtOnce : Edition → List ℕ → Pair → List Float → Float
 likelihoodAtOnce e counts g vafs = cond (someImpossible counts g vafs) (inf true) (likelihoodOf e counts g vafs)
+
+-- every somatic allele's VAF is an f64, whichever
+abbrev pub VafsF64 : List ℕ → Pair → List Float → Type 0
+VafsF64 counts g vafs = (i : ℕ) → i < length counts → somaticIn counts g i ≡ true → T (fits binary64 (vafAt vafs i))
+
+-- M4: a somatic allele has a VAF of 1 or more
+abbrev pub fromOne : List ℕ → Pair → List Float → ℕ → Bool
+fromOne counts g vafs i = somaticIn counts g i && le (nat 1) (vafAt vafs i)
+
+abbrev pub someFromOne : List ℕ → Pair → List Float → Bool
+someFromOne counts g vafs = over (λ i b. b || fromOne counts g vafs i) false (length counts)
+
+-- M4: minus infinity where there is such an allele, else the sum
+abbrev pub priorAtOnce : Edition → Params → List ℕ → Pair → List Float → Float
+priorAtOnce e p counts g vafs = cond (someFromOne counts g vafs) (inf true) (priorOf e p counts g vafs)
