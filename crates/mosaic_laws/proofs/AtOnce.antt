@@ -44,7 +44,7 @@ use Rattle.mosaic_laws.proofs.Seen.{seen-some}
 -- ---- the sum of VAFs from 0 on, which may pass the largest f64
 
 data Mass : Float → Type 0 where
-  beyond : Mass (inf false)
+  overflowed : Mass (inf false)
   clear-mass : (m : ℕ) (e : ℤ) → Mass (fin false m e)
 
 round-mass : (a c : ℕ) → 0 < c → Mass (round binary64 false a c)
@@ -53,7 +53,7 @@ round-mass a c C = go (round binary64 false a c) (round-mono binary64 0 1 a c (l
     go : (z : Float) → T (le (round binary64 false 0 1) z) → (T (finite z) → T (clear z)) → Mass z
     go nan l k = absurd (unfold round le lt eq in l)
     go (inf true) l k = absurd (unfold round le lt eq in l)
-    go (inf false) l k = beyond
+    go (inf false) l k = overflowed
     go (fin true m e) l k = absurd (k tt)
     go (fin false m e) l k = clear-mass m e
 
@@ -61,7 +61,7 @@ mass-add : {x y : Float} → Mass x → FromZero y → Mass (x ⊕ y)
 unfolding add sum
 mass-add {y = nan} h k = absurd (k .not-below .not-below)
 mass-add {y = inf t} h k = absurd (k .not-below .not-below)
-mass-add {y = fin t n d} beyond k = beyond
+mass-add {y = fin t n d} overflowed k = overflowed
 mass-add {y = fin false n d} (clear-mass m e) k =
     round-mass (m * up e * down d + n * up d * down e) (down e * down d) (mul-pos (down-pos e) (down-pos d))
 mass-add {y = fin true n d} (clear-mass m e) k =
@@ -103,7 +103,7 @@ module _ (g : Pair) where
       subst (λ (v : Float). Within (2 ^ 12) (lnOf v)) (sym (least-share g mass e)) (share-ln-within g (nat 1) one)
 
   share-bounded : (mass : Float) → Mass mass → T (fits binary64 mass) → Bounded mass
-  share-bounded mass beyond f = cut (inf false) (unfold round lt ofInt sub add neg in refl)
+  share-bounded mass overflowed f = cut (inf false) (unfold round lt ofInt sub add neg in refl)
   share-bounded mass (clear-mass m e) f = go (lt (nat 1) x) refl
     where
       x : Float
