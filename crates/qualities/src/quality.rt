@@ -1,7 +1,7 @@
 // The qualities gq and sq, from the three scores.
 ghost use mathlib.Core.Path.{_≡_};
 ghost use Rattle.picks.specs.Order.{larger, smaller};
-ghost use Rattle.qualities.specs.Quality.{absolute, inTens, wholeOf, normalised, gapOf, qualsOf};
+ghost use Rattle.qualities.specs.Quality.{absolute, eachInTens, wholeOf, normalised, gapOf, qualsOf};
 use crate::scores::Scores;
 use picks::order::max;
 use picks::order::min;
@@ -22,7 +22,7 @@ fn abs(x: f64) -> f64
 
 // The three as decimal logarithms.
 fn in_tens(s: Scores) -> Scores
-    ensures { λ r. ⌜ r ≡ inTens s ⌝ }
+    ensures { λ r. ⌜ r ≡ eachInTens s ⌝ }
 {
     Scores {
         homref: s.homref / LN_TEN,
@@ -51,13 +51,18 @@ fn normalise(l: Scores) -> Scores
     }
 }
 
-// The second largest less the largest.
+// The second largest less the largest, as a stable sort has them. Of two that are equal max and min give their first argument, so
+// `low` is the one that `high` is not.
 fn gap(n: Scores) -> f64
     ensures { λ r. ⌜ r ≡ gapOf n ⌝ }
 {
-    let low = min(n.homref, n.het);
-    let high = max(n.homref, n.het);
-    max(low, min(high, n.homalt)) - max(high, n.homalt)
+    let high = max(n.het, n.homalt);
+    let low = min(n.homalt, n.het);
+    if n.homref < high {
+        max(n.homref, low) - high
+    } else {
+        high - n.homref
+    }
 }
 
 pub fn genotype_quals(s: Scores) -> Quals

@@ -1,11 +1,11 @@
 -- `qualities::quality::in_tens` meets its contract: the code's constant is ln 10. Assumes nothing.
 use Rattle.tens.proofs.Log10Laws.{ln-ten}
-use Rattle.qualities.specs.Quality.{inTens}
+use Rattle.qualities.specs.Quality.{eachInTens}
 use Rattle.qualities.proofs.quality.in_tens.Statement.{statement}
 use Rattle.qualities.proofs.quality.in_tens.Tie as tie
 
 returns : tie.Need-returns
-unfolding inTens
+unfolding eachInTens
 returns c = rw ln-ten
 
 pub in-tens-spec : {M : Type 1} → statement M

@@ -1,5 +1,6 @@
 -- `qualities::quality::whole` meets its contract: each call gives what the definition names. Assumes nothing.
 use borrow.Author.Needs.{needs}
+use Rattle.tens.specs.Normalised.{wholeOver}
 use Rattle.qualities.specs.Quality.{wholeOf}
 use Rattle.qualities.proofs.quality.whole.Statement.{statement}
 use Rattle.qualities.proofs.quality.whole.Tie as tie
@@ -23,7 +24,7 @@ log10-requires : tie.Need-log10-requires
 log10-requires c κs = search needs
 
 returns : tie.Need-returns
-unfolding wholeOf
+unfolding wholeOf wholeOver
 returns c =
     let top = c .before .before .before .before .before .before .before in
     rw
