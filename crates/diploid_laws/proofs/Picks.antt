@@ -1,25 +1,19 @@
--- Any max and any min beside `larger` and `smaller`: alike but for a zero's sign, which neither a power of ten, nor a size, nor the difference of the two largest
--- sees. Assumes nothing.
+-- Any max and any min beside `larger` and `smaller`: alike but for a zero's sign, which neither a power of ten nor a size sees. Assumes nothing.
 use mathlib.Core.Path.{_≡_, refl, sym, ap, _∙_, subst}
 use mathlib.Core.Logic.{_⊎_, inl, inr}
 use mathlib.Core.Bool.{Bool, true, false, cond, true≢false}
 use lib.IntN.{pos}
-use lib.Dec.{T, eqb}
+use lib.Dec.{eqb}
 use lib.Ieee.{Float, nan, inf, fin, binary64, round, mul, lt, ofInt}
 use lib.Ieee.Fits.{ofInt-fits}
-use lib.Ieee.Scale.{finite}
-use Rattle.floats.specs.F64.{_⊖_, _⊗_, nat}
+use Rattle.floats.specs.F64.{_⊗_, nat}
 use Rattle.floats.proofs.Ranges.{le-not-lt}
 use Rattle.tens.specs.Log10.{pow10Of}
-use Rattle.qualities.specs.declared.scores.Scores.{Scores}
 use Rattle.picks.specs.Order.{Pick, IsMax, IsMin, larger, smaller}
-use Rattle.scores.specs.Scores.{EachScore}
-use Rattle.qualities.specs.Quality.{absolute, minusTen, first, second, gapOf}
-use Rattle.floats.proofs.Differences.{less-itself}
-use Rattle.floats.proofs.Zeros.{zeroOf, Number, Alike, same, zeros, alike-equal, alike-number, lt-alike, neither-below, sub-alike-below}
+use Rattle.qualities.specs.Quality.{absolute, minusTen}
+use Rattle.floats.proofs.Zeros.{Number, Alike, same, zeros, alike-equal, lt-alike, neither-below}
 use Rattle.diploid_laws.proofs.QualityBounds.{pow10-zero}
-use Rattle.diploid_laws.proofs.Signs.{lt-itself}
-use Rattle.diploid_laws.proofs.Largest.{either-of, tied-or-below}
+use Rattle.diploid_laws.proofs.Largest.{either-of}
 
 -- ---- a pick beside `larger` or `smaller`
 
@@ -112,42 +106,3 @@ size-alike (zeros true true) = refl
 size-alike (zeros true false) = refl
 size-alike (zeros false true) = refl
 size-alike (zeros false false) = refl
-
--- the difference of the two largest
-pub record AlikeScores (n k : Scores) : Type 0 where
-  pub ref-alike : Alike (n .homref) (k .homref)
-  pub het-alike : Alike (n .het) (k .het)
-  pub hom-alike : Alike (n .homalt) (k .homalt)
-
-module _ (n k : Scores) (alike : AlikeScores n k) (numbers : EachScore Number n) where
-  firsts : Alike (first n) (first k)
-  firsts = larger-alike (larger-alike (alike .ref-alike) (alike .het-alike)) (alike .hom-alike)
-
-  seconds : Alike (second n) (second k)
-  seconds = larger-alike (smaller-alike (alike .ref-alike) (alike .het-alike)) (smaller-alike (larger-alike (alike .ref-alike) (alike .het-alike)) (alike .hom-alike))
-
-  first-number : Number (first n)
-  first-number = larger-number (larger (n .homref) (n .het)) (n .homalt) (larger-number (n .homref) (n .het) (numbers .for-homref) (numbers .for-het)) (numbers .for-homalt)
-
-  second-number : Number (second n)
-  second-number =
-      let high = larger-number (n .homref) (n .het) (numbers .for-homref) (numbers .for-het) in
-      larger-number (smaller (n .homref) (n .het)) (smaller (larger (n .homref) (n .het)) (n .homalt)) (smaller-number (n .homref) (n .het) (numbers .for-homref) (numbers .for-het))
-      (smaller-number (larger (n .homref) (n .het)) (n .homalt) high (numbers .for-homalt))
-
-  tied-gap : (q : Scores) → T (finite (first q)) → second q ≡ first q → gapOf q ≡ zeroOf false
-  unfolding gapOf
-  tied-gap q f e = ap (λ (z : Float). z ⊖ first q) e ∙ less-itself (first q) f
-
-  not-both : (q r : Scores) → Alike (first q) (first r) → Alike (second q) (second r) → second q ≡ first q → lt (second r) (first r) ≡ true → ⊥
-  not-both q r f g e h = true≢false (sym h ∙ sym (lt-alike g f) ∙ ap (λ (z : Float). lt z (first q)) e ∙ lt-itself (first q))
-
-  pub gap-same : gapOf n ≡ gapOf k
-  unfolding gapOf
-  gap-same = elim (tied-or-below n) [
-    | inl e ↦ elim (tied-or-below k) [
-      | inl g ↦ tied-gap n (first-number .is-finite) e ∙ sym (tied-gap k (alike-number firsts first-number .is-finite) g)
-      | inr h ↦ absurd (not-both n k firsts seconds e h)
-    ]
-    | inr h ↦ sub-alike-below seconds firsts second-number first-number h
-  ]
