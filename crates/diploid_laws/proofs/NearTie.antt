@@ -1,0 +1,58 @@
+-- A raw gq of −0.0 does not say that the two best scores are equal: at `nearTie`, with one reference read and one alternative read, Ref
+-- alone has the largest score, Hom's is one unit in the last place less, and their normalised values have the same bits. Worked out by
+-- computation. Assumes nothing.
+use mathlib.Core.Path.{_≡_, refl, subst}
+use mathlib.Core.Bool.{true}
+use lib.IntN.{ℤ}
+use lib.Signed.{_<ℤ_, <ℤ-irrefl, clashℤ}
+use lib.Ieee.{size, round, neg, sum, add, sub, mul, div, lt, le, isNan, ofInt, ofBits, toBits}
+use Rattle.floats.specs.Apart.{exponent, significand}
+use Rattle.floats.specs.Key.{keyOf}
+use Rattle.floats.proofs.Zeros.{zeroOf}
+use Rattle.kernels.specs.Ln.{lnNearOne, lnParts, lnReduced, lnPositive, lnOf}
+use Rattle.kernels.specs.Exp.{expOf, expParts, expSeries}
+use Rattle.gammas.specs.Gamma.{raised, gammaSeries, lnGammaAt, lnGammaOf}
+use Rattle.binomials.specs.Binomial.{lnChoose, lnPmfBy}
+use Rattle.tens.specs.Log10.{log10Of, pow10Of}
+use Rattle.tens.specs.Normalised.{wholeOver}
+use Rattle.picks.specs.Order.{larger, smaller}
+use Rattle.models.specs.declared.state.State.the-variants.{Ref}
+use Rattle.qualities.specs.declared.scores.Scores.{Scores}
+use Rattle.qualities.specs.Quality.{qualsOf, gapOf, normalised, wholeOf, eachInTens}
+use Rattle.scores.specs.Scores.{scoresOf, scoresBy, binoScore}
+use Rattle.diploid.specs.Allowed.{modelAllowed}
+use Rattle.diploid.specs.Genotype.{Wins, ref-wins}
+use Rattle.diploid_laws.specs.Tied.{TiedBest, ref-and-het, ref-and-hom, het-and-hom, nearTie}
+
+abbrev scores : Scores
+scores = scoresOf larger nearTie 1 1 0
+
+pub near-allowed : modelAllowed nearTie ≡ true
+unfolding modelAllowed round lt le ofInt
+near-allowed = refl
+
+pub near-won : Wins scores Ref
+unfolding scoresBy binoScore lnPmfBy lnChoose lnGammaOf lnGammaAt gammaSeries raised lnOf lnPositive lnReduced lnParts lnNearOne exponent
+    significand keyOf size neg sum add sub mul div round lt le isNan ofInt ofBits toBits
+near-won = ref-wins (record { lt = tt }) (record { lt = tt })
+
+pub near-gq : qualsOf larger smaller scores .gq ≡ zeroOf true
+unfolding qualsOf gapOf normalised wholeOf wholeOver eachInTens pow10Of log10Of expOf expParts expSeries scoresBy binoScore lnPmfBy
+    lnChoose lnGammaOf lnGammaAt gammaSeries raised lnOf lnPositive lnReduced lnParts lnNearOne exponent significand size neg sum add sub
+    mul div round lt le isNan ofInt ofBits
+near-gq = refl
+
+-- a Ref that wins shares its score with no other state
+pub won-not-tied : (s : Scores) → Wins s Ref → TiedBest s → ⊥
+won-not-tied s (ref-wins h k) t = go t
+  where
+    apart : {a b : ℤ} → a <ℤ b → b ≡ a → ⊥
+    apart {a} l e = <ℤ-irrefl (subst (λ (c : ℤ). a <ℤ c) e l)
+
+    go : TiedBest s → ⊥
+    go (ref-and-het e l) = apart h e
+    go (ref-and-hom e l) = apart k e
+    go (het-and-hom e l) = clashℤ k l
+
+pub near-not-tied : TiedBest scores → ⊥
+near-not-tied = won-not-tied scores near-won
