@@ -6,7 +6,7 @@ use native.Mathlib.Nat.{le-of-lt, zero-lt-suc, mul-pos, mul-le-mul-right}
 use native.Mathlib.Omega.{arith}
 use lib.IntN.{ℤ, pos, negsuc, natAbs, _+ℤ_, _-ℤ_}
 use lib.Dec.{T, ltb, ltb→lt, lt→ltb, eqb·suc-zero, lit≤, lit<}
-use lib.Ieee.{Float, nan, inf, fin, binary64, up, down, lt, le, round, neg, sum, add, sub, mul, ofInt, ofBits, fits}
+use lib.Ieee.{Float, nan, inf, fin, binary64, up, down, lt, le, round, neg, sum, add, sub, ofInt, ofBits, fits}
 use lib.Ieee.Scale.{finite}
 use lib.Ieee.Positive.{num, den, positive, between}
 use lib.Ieee.Fits.{down-pos, mul-fits}
@@ -19,7 +19,8 @@ use Rattle.floats.proofs.Signed.{sum-small}
 use Rattle.floats.proofs.Apart.{taken-apart, exponent-within}
 use Rattle.floats.proofs.Fitting.{fits-above, fits-under, exponent-small}
 use Rattle.floats.proofs.Subnormal.{scaled-up}
-use Rattle.floats.proofs.Rounded.{round-smaller, clear, round-clear}
+use Rattle.floats.proofs.Clear.{clear-mul}
+use Rattle.floats.proofs.Rounded.{round-smaller, clear}
 use Rattle.floats.proofs.Bounds.{within-more, within-whole, within-mul, within-add, within-ratio, within-reciprocal, within-reciprocals, above-add}
 use Rattle.floats.proofs.Ranges.{above-range, under-range}
 
@@ -39,11 +40,8 @@ significand-clear (inf s) h = absurd h
 significand-clear (fin s m e) h = tt
 
 halved-clear : {n : ℕ} (x : Float) → T (clear x) → Within n (x ⊗ ratio 1 2) → T (clear (x ⊗ ratio 1 2))
-unfolding mul
-halved-clear nan h w = absurd h
-halved-clear (inf s) h w = absurd h
-halved-clear (fin true m e) h w = absurd h
-halved-clear (fin false m e) h w = round-clear (m * up e * (1 * 1)) (down e * 2) (w .is-finite)
+unfolding round
+halved-clear x h w = clear-mul x (ratio 1 2) h tt (w .is-finite)
 
 -- ---- s = (m − 1) / (m + 1): the difference is no larger in size than the sum, and rounding keeps that
 -- x is finite, and no larger in size than y

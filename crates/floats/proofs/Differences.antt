@@ -1,5 +1,5 @@
 -- A finite number less itself is 0.0, and less one that it is not above at most 0.0. A sum is the same either way round, and of two finite numbers
--- one is at most the other. Assumes nothing.
+-- one is at most the other; of one, that it is not below zero is what the test says. Assumes nothing.
 use mathlib.Core.Path.{_≡_, refl, sym, ap, _∙_, subst}
 use mathlib.Core.Bool.{Bool, true, false, not, _&&_, _||_, cond, Bool·beq}
 use Prim.Native.Nat.{ℕ, zero, suc, _+_, _-_, _*_, _^_, _≤_, _<_}
@@ -12,8 +12,9 @@ use lib.Ieee.{Float, nan, inf, fin, binary64, up, down, odd, units, round, neg, 
 use lib.Ieee.Fits.{down-pos, round-is}
 use lib.Ieee.Scale.{finite, round-same}
 use Rattle.floats.specs.F64.{_⊕_, _⊖_}
+use Rattle.floats.specs.Within.{NotBelow}
 use Rattle.floats.proofs.Floats.{lt-zero, eq-zero}
-use Rattle.floats.proofs.Ranges.{le-not-lt}
+use Rattle.floats.proofs.Ranges.{not-below-zero, le-not-lt}
 
 abbrev pub nought : Float
 nought = fin false 0 (pos 0)
@@ -171,3 +172,18 @@ not-below (fin true m e) (fin false n d) f g h =
     let a = m * up e * down d in
     let b = n * up d * down e in
     no-sizes b a (rw add-comm at (ltb-false 0 (a + b) h))
+
+-- ---- not below zero, by the test
+
+pub not-below-test : (x : Float) → NotBelow x → lt x nought ≡ false
+not-below-test nan h = absurd (h .not-below)
+not-below-test (inf s) h = absurd (h .not-below)
+not-below-test (fin s m e) h = lt-zero s m e ∙ go s (eqb m 0) (h .not-below)
+  where
+    go : (s z : Bool) → T (not s || z) → (s && not z) ≡ false
+    go false z h = refl
+    go true true h = refl
+    go true false h = absurd h
+
+pub test-not-below : (x : Float) → T (finite x) → lt x nought ≡ false → NotBelow x
+test-not-below x f h = not-below-zero x f (not-below x nought f tt h)

@@ -15,3 +15,7 @@ pub mod Subnormal
 pub mod Differences
 pub mod Fractions
 pub mod Zeros
+pub mod Clear
+pub mod Quotients
+pub mod ZeroDifference
+pub mod Monotone

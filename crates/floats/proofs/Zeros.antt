@@ -1,19 +1,22 @@
 -- The two zeros: no order sees their sign, a sum with one of them is exact, and a sum or a difference of numbers that are alike but for a zero's sign
 -- is alike again. Assumes nothing.
 use mathlib.Core.Path.{_≡_, refl, sym, ap, _∙_, subst}
-use mathlib.Core.Bool.{Bool, true, false, not, _&&_, true≢false}
+use mathlib.Core.Logic.{_⊎_, inl, inr}
+use mathlib.Core.Bool.{Bool, true, false, not, _&&_, _||_, Bool·beq, and-true, or-true, true≢false}
 use Prim.Native.Nat.{ℕ, zero, suc, _+_, _*_, _^_, _≤_, _<_, zero-le}
 use native.Mathlib.Nat.{le-antisymm, le-of-eq, lt-of-lt-of-le, lt-of-le-of-lt, zero-lt-suc, zero-add, add-zero, sub-zero, zero-mul, mul-one, one-mul, mul-right-comm, mul-pos, mul-lt-mul-of-pos-right, lt-of-mul-lt-mul-right}
 use native.Mathlib.Omega.{arith}
 use borrow.Author.Tests.{lt-ltb, le-ltb, ltb-false}
 use lib.IntN.{ℤ, pos, negsuc}
-use lib.Dec.{T, ltb, eqb→eq}
+use lib.Dec.{T, ltb, eqb, eqb→eq, eqb·suc-zero, lt→ltb}
 use lib.Pow.{pow-pos, pow-mono}
-use lib.Ieee.{Float, nan, inf, fin, binary64, up, down, round, neg, sum, add, sub, below, lt, fits}
+use lib.Ieee.{Float, nan, inf, fin, binary64, up, down, round, neg, sum, add, sub, below, level, lt, eq, le, fits}
 use lib.Ieee.Exact.{round-exact}
 use lib.Ieee.Fits.{up-pos, down-pos, round-fits, neg-fits}
 use lib.Ieee.Scale.{finite}
+use lib.Ieee.Positive.{positive}
 use Rattle.floats.specs.F64.{_⊕_, _⊖_}
+use Rattle.floats.specs.Within.{NotBelow}
 use Rattle.floats.proofs.Fitting.{fitting, place, in-units, value-unique}
 
 -- ---- a zero, and a number that is an f64
@@ -115,6 +118,14 @@ unfolding fits
 alike-number same n = n
 alike-number (zeros s t) n = record { is-finite = tt; is-f64 = tt }
 
+-- what is not below zero is above it, or a zero
+pub positive-or-zero : (x : Float) → Number x → NotBelow x → T (positive x) ⊎ Alike x (zeroOf false)
+positive-or-zero nan X h = absurd (X .is-finite)
+positive-or-zero (inf s) X h = absurd (X .is-finite)
+positive-or-zero (fin s zero e) X h = inr (subst (λ (x : Float). Alike x (zeroOf false)) (sym (zero-fits s e (X .is-f64))) (zeros s false))
+positive-or-zero (fin false (suc m) e) X h = inl (lt→ltb 0 (suc m) (zero-lt-suc m))
+positive-or-zero (fin true (suc m) e) X h = absurd (rw eqb·suc-zero at (h .not-below))
+
 -- ---- the order
 
 zero-below : (s t : Bool) (y : Float) → lt (zeroOf s) y ≡ lt (zeroOf t) y
@@ -146,6 +157,40 @@ lt-alike same same = refl
 lt-alike {x} same (zeros s t) = below-zero s t x
 lt-alike {y} (zeros s t) same = zero-below s t y
 lt-alike (zeros s t) (zeros u v) = zero-below s t (zeroOf u) ∙ below-zero u v (zeroOf t)
+
+-- z says that a size is nothing: whatever the signs are, the two are level where it does
+whatever-signs : (z b : Bool) → (z && (b || z)) ≡ z
+whatever-signs true true = refl
+whatever-signs true false = refl
+whatever-signs false b = refl
+
+zero-level : (s t : Bool) (y : Float) → eq (zeroOf s) y ≡ eq (zeroOf t) y
+unfolding eq
+zero-level s t nan = refl
+zero-level s t (inf u) = refl
+zero-level s t (fin u n d) = by-sign s ∙ sym (by-sign t)
+  where
+    by-sign : (s : Bool) → level s (0 * 1 * down d) u (n * up d * 1) ≡ eqb 0 (n * up d * 1)
+    by-sign s = rw (zero-mul (down d), or-true (Bool·beq s u), and-true)
+
+level-zero : (s t : Bool) (y : Float) → eq y (zeroOf s) ≡ eq y (zeroOf t)
+unfolding eq
+level-zero s t nan = refl
+level-zero s t (inf u) = refl
+level-zero s t (fin u n d) = by-sign s ∙ sym (by-sign t)
+  where
+    by-sign : (s : Bool) → level u (n * up d * 1) s (0 * 1 * down d) ≡ eqb (n * up d * 1) 0
+    by-sign s = rw (zero-mul (down d)) (whatever-signs (eqb (n * up d * 1) 0) (Bool·beq u s))
+
+eq-alike : {x y z w : Float} → Alike x z → Alike y w → eq x y ≡ eq z w
+eq-alike same same = refl
+eq-alike {x} same (zeros s t) = level-zero s t x
+eq-alike {y} (zeros s t) same = zero-level s t y
+eq-alike (zeros s t) (zeros u v) = zero-level s t (zeroOf u) ∙ level-zero u v (zeroOf t)
+
+pub le-alike : {x y z w : Float} → Alike x z → Alike y w → le x y ≡ le z w
+unfolding le
+le-alike {x} {y} {z} {w} h k = ap (λ (t : Bool). t || eq x y) (lt-alike h k) ∙ ap (λ (t : Bool). lt z w || t) (eq-alike h k)
 
 -- two numbers of which neither is below the other are alike
 pub neither-below : (x y : Float) → Number x → Number y → lt x y ≡ false → lt y x ≡ false → Alike x y
