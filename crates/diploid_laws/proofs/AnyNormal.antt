@@ -50,7 +50,9 @@ module _ (max min : Pick) (is-max : IsMax max) (is-min : IsMin min) where
     tops = top-alike (l .homref) (l .het) (l .homalt) (tens .for-homref) (tens .for-het) (tens .for-homalt)
 
     top-number : Number top
-    top-number = larger-number (larger (l .homref) (l .het)) (l .homalt) (larger-number (l .homref) (l .het) (tens .for-homref) (tens .for-het)) (tens .for-homalt)
+    top-number =
+        larger-number (larger (l .homref) (l .het)) (l .homalt) (larger-number (l .homref) (l .het) (tens .for-homref) (tens .for-het))
+        (tens .for-homalt)
 
     top-number′ : Number top′
     top-number′ = alike-number (alike-sym tops) top-number
@@ -58,8 +60,14 @@ module _ (max min : Pick) (is-max : IsMax max) (is-min : IsMin min) where
     power-same : (x : Float) → Number x → pow10Of (x ⊖ top′) ≡ pow10Of (x ⊖ top)
     power-same x n = pow10-alike (sub-alike same tops n top-number′)
 
-    log-number : Number (log10Of (pow10Of (l .homref ⊖ top) ⊕ pow10Of (l .het ⊖ top) ⊕ pow10Of (l .homalt ⊖ top)))
-    log-number = record { is-finite = whole-steps s given .log-within .is-finite; is-f64 = unfold log10Of in div-fits binary64 (lnOf (pow10Of (l .homref ⊖ top) ⊕ pow10Of (l .het ⊖ top) ⊕ pow10Of (l .homalt ⊖ top))) (lnOf (nat 10)) }
+    abbrev total : Float
+    total = pow10Of (l .homref ⊖ top) ⊕ pow10Of (l .het ⊖ top) ⊕ pow10Of (l .homalt ⊖ top)
+
+    log-number : Number (log10Of total)
+    log-number = record {
+      is-finite = whole-steps s given .log-within .is-finite;
+      is-f64 = unfold log10Of in div-fits binary64 (lnOf total) (lnOf (nat 10));
+    }
 
     pub wholes : Alike (wholeOf max l) (wholeOf larger l)
     unfolding wholeOf wholeOver
@@ -68,12 +76,19 @@ module _ (max min : Pick) (is-max : IsMax max) (is-min : IsMin min) where
         (add-alike tops same top-number′ log-number)
 
     pub whole-number : Number (wholeOf larger l)
-    whole-number = record { is-finite = whole-within s given .is-finite; is-f64 = unfold wholeOf wholeOver in add-fits binary64 top (log10Of (pow10Of (l .homref ⊖ top) ⊕ pow10Of (l .het ⊖ top) ⊕ pow10Of (l .homalt ⊖ top))) }
+    whole-number = record {
+      is-finite = whole-within s given .is-finite;
+      is-f64 = unfold wholeOf wholeOver in add-fits binary64 top (log10Of total);
+    }
 
-    normal-alike : (x : Float) → Number x → Within (2 ^ 45) x → Alike (min (x ⊖ wholeOf max l) (nat 0)) (smaller (x ⊖ wholeOf larger l) (nat 0))
+    less-number : (x : Float) → Within (2 ^ 45) x → Number (x ⊖ wholeOf larger l)
+    less-number x w = record { is-finite = less-whole s given x w .is-finite; is-f64 = sub-fits binary64 x (wholeOf larger l) }
+
+    normal-alike : (x : Float) → Number x → Within (2 ^ 45) x
+        → Alike (min (x ⊖ wholeOf max l) (nat 0)) (smaller (x ⊖ wholeOf larger l) (nat 0))
     normal-alike x n w =
         let h = sub-alike same wholes n (alike-number (alike-sym wholes) whole-number) in
-        let k : Number (x ⊖ wholeOf larger l) = record { is-finite = less-whole s given x w .is-finite; is-f64 = sub-fits binary64 x (wholeOf larger l) } in
+        let k = less-number x w in
         alike-trans (min-alike min is-min (x ⊖ wholeOf max l) (nat 0) (alike-number (alike-sym h) k) zero-number) (smaller-alike h same)
 
     abbrev n′ : Scores
@@ -93,8 +108,7 @@ module _ (max min : Pick) (is-max : IsMax max) (is-min : IsMin min) where
         }
 
     normal-number : (x : Float) → Within (2 ^ 45) x → Number (smaller (x ⊖ wholeOf larger l) (nat 0))
-    normal-number x w =
-        smaller-number (x ⊖ wholeOf larger l) (nat 0) (record { is-finite = less-whole s given x w .is-finite; is-f64 = sub-fits binary64 x (wholeOf larger l) }) zero-number
+    normal-number x w = smaller-number (x ⊖ wholeOf larger l) (nat 0) (less-number x w) zero-number
 
     pub normal-numbers : EachScore Number n
     unfolding normalised

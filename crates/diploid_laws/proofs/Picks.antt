@@ -1,4 +1,5 @@
--- Any max and any min beside `larger` and `smaller`: alike but for a zero's sign, which neither a power of ten nor a size sees. Assumes nothing.
+-- Any max and any min beside `larger` and `smaller`: alike but for a zero's sign, which neither a power of ten nor a size sees. Assumes
+-- nothing.
 use mathlib.Core.Path.{_≡_, refl, sym, ap, _∙_, subst}
 use mathlib.Core.Logic.{_⊎_, inl, inr}
 use mathlib.Core.Bool.{Bool, true, false, cond, true≢false}
@@ -17,10 +18,13 @@ use Rattle.diploid_laws.proofs.Largest.{either-of}
 
 -- ---- a pick beside `larger` or `smaller`
 
--- r is a where b is not above it, or b where a is not above it: related to the crate's choice, where the two are related if neither is above the other
+-- r is a where b is not above it, or b where a is not above it: related to the crate's choice, where the two are related if neither is
+-- above the other
 module _ (R : Float → Float → Type 0) (of-equal : (x y : Float) → x ≡ y → R x y) where
-  chosen : (r a b : Float) (above back : Bool) → ((r ≡ a) × (above ≡ false)) ⊎ ((r ≡ b) × (back ≡ false)) → (above ≡ false → back ≡ false → R b a) → R r (cond above b a)
-  chosen r a b above back h f = elim h [ inl p ↦ of-equal r (cond above b a) (p .0 ∙ sym (ap (λ (t : Bool). cond t b a) (p .1))) | inr p ↦ go above f (p .0) (p .1) ]
+  chosen : (r a b : Float) (above back : Bool) → ((r ≡ a) × (above ≡ false)) ⊎ ((r ≡ b) × (back ≡ false))
+      → (above ≡ false → back ≡ false → R b a) → R r (cond above b a)
+  chosen r a b above back h f =
+      elim h [ inl p ↦ of-equal r (cond above b a) (p .0 ∙ sym (ap (λ (t : Bool). cond t b a) (p .1))) | inr p ↦ go above f (p .0) (p .1) ]
     where
       go : (above : Bool) → (above ≡ false → back ≡ false → R b a) → r ≡ b → back ≡ false → R r (cond above b a)
       go true f e k = of-equal r b e
@@ -29,13 +33,19 @@ module _ (R : Float → Float → Type 0) (of-equal : (x y : Float) → x ≡ y 
   pub chosen-max : (max : Pick) → IsMax max → (a b : Float) → Number a → Number b → (Alike b a → R b a) → R (max a b) (larger a b)
   chosen-max max is-max a b n k f =
       chosen (max a b) a b (lt a b) (lt b a)
-      (elim (is-max a b (n .is-finite) (k .is-finite)) [ inl p ↦ inl (p .0, le-not-lt b a (p .1)) | inr p ↦ inr (p .0, le-not-lt a b (p .1)) ])
+      (elim (is-max a b (n .is-finite) (k .is-finite)) [
+        | inl p ↦ inl (p .0, le-not-lt b a (p .1))
+        | inr p ↦ inr (p .0, le-not-lt a b (p .1))
+      ])
       (λ u v. f (neither-below b a k n v u))
 
   chosen-min : (min : Pick) → IsMin min → (a b : Float) → Number a → Number b → (Alike b a → R b a) → R (min a b) (smaller a b)
   chosen-min min is-min a b n k f =
       chosen (min a b) a b (lt b a) (lt a b)
-      (elim (is-min a b (n .is-finite) (k .is-finite)) [ inl p ↦ inl (p .0, le-not-lt a b (p .1)) | inr p ↦ inr (p .0, le-not-lt b a (p .1)) ])
+      (elim (is-min a b (n .is-finite) (k .is-finite)) [
+        | inl p ↦ inl (p .0, le-not-lt a b (p .1))
+        | inr p ↦ inr (p .0, le-not-lt b a (p .1))
+      ])
       (λ u v. f (neither-below b a k n u v))
 
 alike-either : {a b c d : Float} (t : Bool) → Alike a c → Alike b d → Alike (cond t b a) (cond t d c)
@@ -91,7 +101,8 @@ module _ (min : Pick) (is-min : IsMin min) where
   -- a cap of 1000 is no zero
   pub cap-same : (x : Float) → Number x → min x (nat 1000) ≡ smaller x (nat 1000)
   cap-same x n =
-      chosen-min (λ (x y : Float). x ≡ y) equal-of min is-min x (nat 1000) n thousand-number (λ h. alike-not-zero h (unfold ofInt round in refl))
+      chosen-min (λ (x y : Float). x ≡ y) equal-of min is-min x (nat 1000) n thousand-number
+      (λ h. alike-not-zero h (unfold ofInt round in refl))
 
 -- ---- the functions that do not see a zero's sign
 
