@@ -3,7 +3,8 @@
 use mathlib.Core.Path.{_≡_, refl, sym, ap, _∙_, subst}
 use mathlib.Core.Bool.{Bool, true, false, not, _&&_, cond}
 use Prim.Native.Nat.{ℕ, zero, suc, _+_, _-_, _*_, _^_, _≤_, _<_}
-use native.Mathlib.Nat.{le-trans, le-of-eq, zero-lt-suc, zero-mul, one-mul, sub-zero, suc-mul, mul-comm, mul-assoc, mul-right-comm, mul-pos}
+use native.Mathlib.Nat.{le-trans, le-of-eq, zero-lt-suc, zero-mul, one-mul, sub-zero, suc-mul, mul-comm, mul-assoc, mul-right-comm}
+use native.Mathlib.Nat.{mul-pos}
 use native.Mathlib.Nat.{mul-le-mul-right, mul-lt-mul-of-pos-right, lt-of-mul-lt-mul-right}
 use native.Mathlib.Omega.{arith}
 use borrow.Author.Tests.{le-ltb, ltb-true, ltb-false}

@@ -17,11 +17,11 @@ absolute nan = nan
 absolute (inf s) = inf false
 absolute (fin s m e) = fin false m e
 
--- the three, in order
+-- the three, in the order of the states
 abbrev pub listed : Scores → List Float
 listed l = l .homref ∷ l .het ∷ l .homalt ∷ []
 
--- the three as decimal logarithms
+-- each as a decimal logarithm
 unfoldable pub eachInTens : Scores → Scores
 eachInTens s = record { homref = inTens (s .homref); het = inTens (s .het); homalt = inTens (s .homalt) }
 
@@ -29,7 +29,7 @@ eachInTens s = record { homref = inTens (s .homref); het = inTens (s .het); homa
 unfoldable pub wholeOf : Pick → Scores → Float
 wholeOf max l = wholeOver max (listed l)
 
--- each less that, and at most 0
+-- each less that, and at most 0: as a list, the three normalised over a list (`normalised-list`, diploid_laws/proofs/Listed.antt)
 unfoldable pub normalised : Pick → Pick → Scores → Scores
 normalised max min l =
     let w = wholeOf max l in
@@ -59,7 +59,7 @@ qualsOf max min s =
     let n = normalised max min (eachInTens s) in
     record { gq = min (minusTen ⊗ gapOf n) (nat 1000); sq = min (absolute (minusTen ⊗ n .homref)) (nat 1000) }
 
--- what a quality before calibration is: finite, from 0 to 1000; −0.0 counts as 0
+-- what a quality is, before calibration and after: finite, from 0 to 1000; −0.0 counts as 0
 pub record Quality (x : Float) : Type 0 where
   pub within : Within 1000 x
   pub not-negative : NotBelow x

@@ -16,8 +16,10 @@ unfolding le sub neg
 below nan t h = absurd (true≢false (sym h))
 below (inf true) t h = unfold add in refl
 below (inf false) t h = absurd (true≢false (sym h))
-below (fin true zero e) t h = subst (λ (x : Float). zeroOf false ⊖ x ≡ absolute x) (sym (zero-fits true e t)) (unfold add sum round in refl)
-below (fin false zero e) t h = subst (λ (x : Float). zeroOf false ⊖ x ≡ absolute x) (sym (zero-fits false e t)) (unfold add sum round in refl)
+below (fin true zero e) t h =
+    subst (λ (x : Float). zeroOf false ⊖ x ≡ absolute x) (sym (zero-fits true e t)) (unfold add sum round in refl)
+below (fin false zero e) t h =
+    subst (λ (x : Float). zeroOf false ⊖ x ≡ absolute x) (sym (zero-fits false e t)) (unfold add sum round in refl)
 below (fin true (suc m) e) t h = zero-plus false false m e (unfold fits in t)
 below (fin false (suc m) e) t h = absurd (true≢false (sym (simp (lt-zero, eq-zero, eqb·suc-zero) at h)))
 

@@ -26,8 +26,13 @@ min-requires-2 c κs = search needs
 returns : tie.Need-returns
 unfolding qualsOf ofInt ofBits neg
 returns c =
-    let n = c .before .before .before .before .before in
-    rw (c .min2 .ensures, c .before .abs .ensures, c .before .before .before .min .ensures, c .before .before .before .before .gap .ensures, n .normalise .ensures, n .before .in-tens .ensures)
+    let size = c .before in
+    let gq = size .before .before in
+    let gap = gq .before in
+    let n = gap .before in
+    rw
+    (c .min2 .ensures, size .abs .ensures, gq .min .ensures, gap .gap .ensures, n .normalise .ensures, n .before .in-tens .ensures)
 
 pub genotype-quals-spec : {M : Type 1} → statement M
-genotype-quals-spec = tie.close (tie.spec in-tens-requires normalise-requires gap-requires min-requires abs-requires min-requires-2 returns)
+genotype-quals-spec =
+    tie.close (tie.spec in-tens-requires normalise-requires gap-requires min-requires abs-requires min-requires-2 returns)

@@ -20,8 +20,9 @@ min-requires-3 c κs = search needs
 returns : tie.Need-returns
 unfolding normalised ofInt ofBits
 returns c =
-    rw
-    (c .min3 .ensures, c .before .before .min2 .ensures, c .before .before .before .before .min .ensures, c .before .before .before .before .before .before .whole .ensures)
+    let het = c .before .before in
+    let homref = het .before .before in
+    rw (c .min3 .ensures, het .min2 .ensures, homref .min .ensures, homref .before .before .whole .ensures)
 
 pub normalise-spec : {M : Type 1} → statement M
 normalise-spec = tie.close (tie.spec whole-requires min-requires min-requires-2 min-requires-3 returns)

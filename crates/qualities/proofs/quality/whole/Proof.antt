@@ -26,9 +26,18 @@ log10-requires c κs = search needs
 returns : tie.Need-returns
 unfolding wholeOf wholeOver
 returns c =
-    let top = c .before .before .before .before .before .before .before in
-    rw
-    (c .log10 .ensures, c .before .pow103 .ensures, c .before .before .before .pow102 .ensures, c .before .before .before .before .before .pow10 .ensures, top .max2 .ensures, top .before .max .ensures)
+    let third = c .before in
+    let second = third .before .before in
+    let first = second .before .before in
+    let top = first .before .before in
+    rw (
+      c .log10 .ensures,
+      third .pow103 .ensures,
+      second .pow102 .ensures,
+      first .pow10 .ensures,
+      top .max2 .ensures,
+      top .before .max .ensures,
+    )
 
 pub whole-spec : {M : Type 1} → statement M
 whole-spec = tie.close (tie.spec max-requires max-requires-2 pow10-requires pow10-requires-2 pow10-requires-3 log10-requires returns)
