@@ -3,6 +3,7 @@
 -- computation. Assumes nothing.
 use mathlib.Core.Path.{_≡_, refl, subst}
 use mathlib.Core.Bool.{true}
+use mathlib.Core.List.{[]}
 use lib.IntN.{ℤ}
 use lib.Signed.{_<ℤ_, <ℤ-irrefl, clashℤ}
 use lib.Ieee.{size, round, neg, sum, add, sub, mul, div, lt, le, isNan, ofInt, ofBits, toBits}
@@ -19,10 +20,13 @@ use Rattle.picks.specs.Order.{larger, smaller}
 use Rattle.models.specs.declared.state.State.the-variants.{Ref}
 use Rattle.qualities.specs.declared.scores.Scores.{Scores}
 use Rattle.qualities.specs.Quality.{qualsOf, gapOf, normalised, wholeOf, eachInTens}
-use Rattle.scores.specs.Scores.{scoresOf, scoresBy, binoScore}
+use Rattle.scores.specs.Scores.{scoresOf, scoresBy, scoredBy, binoScore}
 use Rattle.diploid.specs.Allowed.{modelAllowed}
-use Rattle.diploid.specs.Genotype.{Wins, ref-wins}
+use Rattle.tables.specs.Tables.{entries, neverFalling, tableAllowed}
+use Rattle.tables.specs.Calibration.{calibratedBy}
+use Rattle.diploid.specs.Genotype.{Wins, ref-wins, called, answered, genotypeBy, genotypeOf}
 use Rattle.diploid_laws.specs.Tied.{TiedBest, ref-and-het, ref-and-hom, het-and-hom, nearTie}
+use Rattle.diploid_laws.proofs.WinnerLaws.{winner-only}
 
 abbrev scores : Scores
 scores = scoresOf larger nearTie 1 1 0
@@ -41,6 +45,17 @@ unfolding qualsOf gapOf normalised wholeOf wholeOver eachInTens pow10Of log10Of 
     lnChoose lnGammaOf lnGammaAt gammaSeries raised lnOf lnPositive lnReduced lnParts lnNearOne exponent significand size neg sum add sub
     mul div round lt le isNan ofInt ofBits
 near-gq = refl
+
+-- so the answer, without a table, is Ref with a gq of −0.0
+near-answer : genotypeOf nearTie [] 1 1 0 ≡ called larger smaller [] scores
+unfolding genotypeBy answered scoredBy tableAllowed entries neverFalling
+near-answer = rw near-allowed
+
+pub near-state : genotypeOf nearTie [] 1 1 0 .state ≡ Ref
+near-state = rw near-answer (unfold called in winner-only near-won)
+
+pub near-call : genotypeOf nearTie [] 1 1 0 .gq ≡ zeroOf true
+near-call = rw near-answer (unfold called calibratedBy entries in near-gq)
 
 -- a Ref that wins shares its score with no other state
 pub won-not-tied : (s : Scores) → Wins s Ref → TiedBest s → ⊥
