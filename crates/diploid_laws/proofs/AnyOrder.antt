@@ -14,7 +14,7 @@ use Rattle.scores.specs.Scores.{EachScore}
 use Rattle.qualities.specs.Quality.{eachInTens, normalised, gapOf}
 use Rattle.diploid_laws.proofs.Signs.{lt-itself, no-trans}
 use Rattle.diploid_laws.proofs.SortedThree.{Order, abc, acb, bac, bca, cab, cba, order-first, order-second, order-last}
-use Rattle.diploid_laws.proofs.SortedThree.{first, second, order, order-descends, first-is, second-is, TwoOf, Told, EachTold}
+use Rattle.diploid_laws.proofs.SortedThree.{first, order, order-descends, first-is, second-is, TwoOf, Told, EachTold}
 use Rattle.diploid_laws.proofs.Told.{told-normal, normal-numbers-any}
 
 -- x, y, z are the three from large to small
