@@ -22,14 +22,14 @@ compared-ℕ a b = go (ltb a b) (ltb b a) refl refl
     go false true p q = inr (inr (subst T (sym q) tt))
     go false false p q = inr (inl (le-antisymm (nltb→le b a (subst (λ (x : Bool). T (not x)) (sym q) tt)) (nltb→le a b (subst (λ (x : Bool). T (not x)) (sym p) tt))))
 
-compared-ℤ : (a b : ℤ) → T (ltZ a b) ⊎ ((a ≡ b) ⊎ T (ltZ b a))
+pub compared-ℤ : (a b : ℤ) → T (ltZ a b) ⊎ ((a ≡ b) ⊎ T (ltZ b a))
 compared-ℤ (pos a) (pos b) = ⊎-elim (λ t. inl t) (⊎-elim (λ e. inr (inl (ap pos e))) (λ t. inr (inr t))) (compared-ℕ a b)
 compared-ℤ (pos a) (negsuc b) = inr (inr tt)
 compared-ℤ (negsuc a) (pos b) = inl tt
 compared-ℤ (negsuc a) (negsuc b) = ⊎-elim (λ t. inr (inr t)) (⊎-elim (λ e. inr (inl (ap negsuc e))) (λ t. inl t)) (compared-ℕ a b)
 
 -- `beatsOf` in words
-Above : Entry → Entry → Type 0
+unfoldable pub Above : Entry → Entry → Type 0
 Above a b = T (ltZ (keyOf (b .score)) (keyOf (a .score))) ⊎ ((keyOf (a .score) ≡ keyOf (b .score)) × (b .position < a .position))
 
 irreflexive-ℤ : (a : ℤ) → T (ltZ a a) → ⊥
@@ -44,7 +44,7 @@ transitive-ℤ (negsuc a) (pos b) (negsuc c) s t = absurd t
 transitive-ℤ (negsuc a) (negsuc b) (pos c) s t = tt
 transitive-ℤ (negsuc a) (negsuc b) (negsuc c) s t = lt→ltb c a (omega (arith, ltb→lt b a s, ltb→lt c b t))
 
-beats-above : (a b : Entry) → T (beatsOf a b) → Above a b
+pub beats-above : (a b : Entry) → T (beatsOf a b) → Above a b
 unfolding beatsOf Above
 beats-above a b = go (ltZ (keyOf (b .score)) (keyOf (a .score))) (ltZ (keyOf (a .score)) (keyOf (b .score))) (ltb (b .position) (a .position)) refl refl refl
   where

@@ -1,12 +1,12 @@
--- What passes a test, of a list that is put together, and how much it is. Assumes nothing.
-use mathlib.Core.Path.{_≡_, refl, ap}
+-- What passes a test, of a list that is put together or mapped, and how much it is. Assumes nothing.
+use mathlib.Core.Path.{_≡_, refl, ap, _∙_}
 use mathlib.Core.Bool.{Bool, true, false, cond}
-use mathlib.Core.List.{List, [], _∷_, _++_}
-use Prim.Native.Nat.{ℕ, suc, min, _≤_, _<_}
+use mathlib.Core.List.{List, [], _∷_, _++_, map}
+use Prim.Native.Nat.{ℕ, zero, suc, _+_, min, _≤_, _<_}
 use native.Mathlib.Omega.{arith}
 use lib.ListN.{length, getD, take, length-take}
 use lib.Seq.{take-suc}
-use Rattle.lists.specs.Lists.{passing}
+use Rattle.lists.specs.Lists.{numbers, passing}
 
 module _ {A : Type 0} where
   -- a member in front of what passes, or not
@@ -38,3 +38,20 @@ module _ {A : Type 0} where
     where
       few : (k n m : ℕ) → m ≤ min k n → m ≤ k
       few k n m h = omega arith
+
+-- what passes of a mapped list is the image of what passes before
+pub passing-map : {A B : Type 0} (f : A → B) (t : B → Bool) (l : List A) → passing t (map f l) ≡ map f (passing (λ x. t (f x)) l)
+passing-map f t [] = refl
+passing-map f t (x ∷ l) = go (t (f x)) (passing-map f t l)
+  where
+    go : (b : Bool) → passing t (map f l) ≡ map f (passing (λ y. t (f y)) l)
+        → front b (f x) (passing t (map f l)) ≡ map f (front b x (passing (λ y. t (f y)) l))
+    go true e = ap (f x ∷_) e
+    go false e = e
+
+-- two tests that agree on consecutive numbers let the same of them pass
+pub passing-same : (t u : ℕ → Bool) (i m : ℕ) → ((q : ℕ) → q < i + m → t q ≡ u q) → passing t (numbers i m) ≡ passing u (numbers i m)
+passing-same t u i zero h = refl
+passing-same t u i (suc m) h =
+    ap (λ (b : Bool). front b i (passing t (numbers (suc i) m))) (h i (omega arith))
+    ∙ ap (front (u i) i) (passing-same t u (suc i) m (λ q l. h q (omega arith)))

@@ -1,5 +1,5 @@
--- What stands at a place: of the numbers from i on, of a list that is mapped, and of a list that is left from there on. Assumes nothing.
-use mathlib.Core.Path.{_≡_, refl, _∙_}
+-- How many consecutive numbers there are, and what stands at a place: of the numbers from i on, of a list that is mapped, and of a list that is left from there on. Assumes nothing.
+use mathlib.Core.Path.{_≡_, refl, ap, ap₂, _∙_}
 use mathlib.Core.List.{List, _∷_, map}
 use Prim.Native.Nat.{ℕ, zero, suc, _+_, _<_}
 use native.Mathlib.Nat.{not-suc-le-zero, suc-le-suc-iff}
@@ -13,6 +13,15 @@ pub number-at : (i n k : ℕ) → k < n → getD (numbers i n) k 0 ≡ i + k
 number-at i zero k h = absurd (not-suc-le-zero h)
 number-at i (suc n) zero h = omega arith
 number-at i (suc n) (suc k) h = number-at (suc i) n k (omega arith) ∙ omega arith
+
+pub numbers-length : (i n : ℕ) → length (numbers i n) ≡ n
+numbers-length i zero = refl
+numbers-length i (suc n) = ap suc (numbers-length (suc i) n)
+
+-- two functions that agree on consecutive numbers make one list of them
+pub map-same : {A : Type 0} (f g : ℕ → A) (i n : ℕ) → ((k : ℕ) → k < i + n → f k ≡ g k) → map f (numbers i n) ≡ map g (numbers i n)
+map-same f g i zero h = refl
+map-same f g i (suc n) h = ap₂ _∷_ (h i (omega arith)) (map-same f g (suc i) n (λ k l. h k (omega arith)))
 
 pub map-at : {A B : Type 0} (h : A → B) (l : List A) (a : A) (d : B) (i : ℕ) → i < length l → getD (map h l) i d ≡ h (getD l i a)
 map-at h (x ∷ l) a d zero e = refl
