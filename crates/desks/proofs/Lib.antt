@@ -8,6 +8,7 @@ pub mod Inputs
 pub mod Opening
 pub mod Flat
 pub mod UnreadCalls
+pub mod HandBack
 pub mod Promises
 pub mod Rising
 pub mod Demand

@@ -40,7 +40,7 @@ pub record Opened (n : ℕ) (counts : List ℕ) (weights : List Float) : Type 0 
 
 module _ (n : ℕ) (counts : List ℕ) (weights : List Float) where
   -- openStep over the outcomes of its five tests
-  abbrev chosen : (a b c d e : Bool) → Stepped
+  abbrev pub chosen : (a b c d e : Bool) → Stepped
   chosen a b c d e =
       cond a (gives NoCluster emptyPart) (cond b (gives TooMany emptyPart) (cond (not c) (gives Shape emptyPart)
       (cond (not d) (gives Count emptyPart) (cond (not e) (gives Weight emptyPart) (gives Done (freshPart n counts weights))))))
@@ -63,7 +63,7 @@ module _ (n : ℕ) (counts : List ℕ) (weights : List Float) where
   passed false false true true false h = absurd (suc-not-zero h)
   passed false false true true true h = record { no-first = refl; no-second = refl; third = refl; fourth = refl; fifth = refl }
 
-  abbrev shaped : Bool
+  abbrev pub shaped : Bool
   shaped = eqb (length counts) (3 * n) && eqb (length weights) n
 
   pub opened-tells : numberOf (openStep n counts weights .refusal) ≡ 0 → Opened n counts weights

@@ -2,10 +2,10 @@
 use Prim.Native.Nat.{ℕ, _<_}
 use mathlib.Core.Bool.{Bool, true, false, not, cond, _&&_, _||_, or-true}
 use mathlib.Core.List.{List, [], _∷_, map}
-use mathlib.Core.Path.{_≡_, refl, sym, ap, subst, _∙_}
+use mathlib.Core.Path.{_≡_, refl, sym, ap, ap₂, subst, _∙_}
 use mathlib.Mathlib.Data.Bool.Basic.{and-intro, and-elim-right}
 use native.Mathlib.Nat.{mul-pos}
-use borrow.Author.Tests.{ltb-true, eq-eqb, ne-eqb}
+use borrow.Author.Tests.{ltb-true, eqb-true, eqb-false, eq-eqb, ne-eqb}
 use lib.Dec.{T, eqb, ltb}
 use lib.Ieee.{Float, binary64, isNan, toBits}
 use Rattle.refusals.specs.declared.Refusal.the-variants.{Done, Row, OtherTrio, NotComplete, BadPart}
@@ -29,21 +29,32 @@ use Rattle.shapes.proofs.RightLaws.{right-input}
 use Rattle.trio.specs.Steps.{scoreIn, rowStep, mergeStep}
 use Rattle.closings.specs.Closing.{closedAs, refusedClosing, closeStep}
 use Rattle.desks.specs.Call.{onePassCall}
+use Rattle.desks.proofs.HandBack.{close-back, refused-back}
 use Rattle.desks.specs.History.{History, opened, worked, merged, mergedOther, closed, partOf, rowsOf, Later, itself, then-worked, then-merged, merged-into, then-refused, then-closed, Promised}
 
 same-self : (a : List ℕ) → sameNumbers a a ≡ true
 same-self [] = refl
 same-self (x ∷ a) = rw (eq-eqb x x refl) (same-self a)
 
--- closing hands its part back
-close-back : (a : Part) → closeStep a .part ≡ a
-unfolding closeStep closedAs refusedClosing
-close-back a = go (rightPart a) (eqb (a .marks) (fullMarks (rowCount a)))
+eqb-swap : (x y : ℕ) → eqb x y ≡ eqb y x
+eqb-swap x y = go (eqb x y) refl
   where
-    go : (s t : Bool) → cond s (cond t (closedAs a) (refusedClosing NotComplete a)) (refusedClosing BadPart a) .part ≡ a
-    go true true = refl
-    go true false = refl
-    go false t = refl
+    go : (t : Bool) → eqb x y ≡ t → t ≡ eqb y x
+    go true e = sym (eq-eqb y x (sym (eqb-true x y e)))
+    go false e = sym (ne-eqb y x (λ c. eqb-false x y e (sym c)))
+
+same-swap : (a b : List ℕ) → sameNumbers a b ≡ sameNumbers b a
+same-swap [] [] = refl
+same-swap [] (y ∷ b) = refl
+same-swap (x ∷ a) [] = refl
+same-swap (x ∷ a) (y ∷ b) = ap₂ _&&_ (eqb-swap x y) (same-swap a b)
+
+-- two parts have one input, whichever is named first
+input-swap : (a b : Part) → sameInput a b ≡ sameInput b a
+unfolding sameInput
+input-swap a b =
+    ap₂ _&&_ (eqb-swap (a .clusters) (b .clusters))
+    (ap₂ _&&_ (same-swap (a .counts) (b .counts)) (same-swap (map (toBits binary64) (a .weights)) (map (toBits binary64) (b .weights))))
 
 -- ---- a row once worked stays worked, whatever follows
 
@@ -108,6 +119,19 @@ module _ (start : Part) (right-start : rightPart start ≡ true) (none : start �
       where
         go : (t u : Bool) → T (not (t && u)) → (p : Part)
             → cond t (cond u (gives Done p) (gives OtherTrio (withWork start v))) (gives BadPart (withWork start v)) ≡ gives (cond t OtherTrio BadPart) (withWork start v)
+        go true true n p = absurd n
+        go true false n p = refl
+        go false u n p = refl
+
+    -- theirs comes first, and comes back
+    second-on : (q : Part) → T (not (rightPart q && sameInput start q)) → mergeStep q (withWork start v) ≡ gives (cond (rightPart q) OtherTrio BadPart) q
+    unfolding mergeStep sameInput
+    second-on q o =
+        rw (right-with, input-swap q (withWork start v))
+        (go (rightPart q) (sameInput start q) o (withWork q (joined (workIn q) (workIn (withWork start v)))))
+      where
+        go : (t u : Bool) → T (not (t && u)) → (p : Part)
+            → cond (t && true) (cond u (gives Done p) (gives OtherTrio q)) (gives BadPart q) ≡ gives (cond t OtherTrio BadPart) q
         go true true n p = absurd n
         go true false n p = refl
         go false u n p = refl
@@ -208,4 +232,7 @@ module _ (start : Part) (right-start : rightPart start ≡ true) (none : start �
             let d = came k in
             ap (λ (p : Part). mergeStep p (partOf start k) .refusal) (c .1) ∙ ap (λ (p : Part). mergeStep (withWork start (c .0)) p .refusal) (d .1)
             ∙ ap (λ (s : Stepped). s .refusal) (merge-on (rowsOf start h) (rowsOf start k) (c .0) (d .0) (c .2) (d .2));
+        handed-back = λ s. refused-back s (partOf start h);
+        refused-second = λ q o.
+            subst (λ (p : Part). mergeStep q p ≡ gives (cond (rightPart q) OtherTrio BadPart) q) (sym (c .1)) (second-on (rowsOf start h) (c .0) (c .2) q o);
       }

@@ -1,8 +1,12 @@
--- The triples in kanpig's order: how many there are, and which one stands where (RULES.md, T1, X1). Assumes nothing.
-use Prim.Native.Nat.{ℕ, zero, suc, _+_, _*_, _/_, _%_, _<_}
-use mathlib.Core.Path.{_≡_, sym, ap, _∙_}
+-- The triples in kanpig's order: how many there are, which one stands where, and that none stands twice (RULES.md, T1, X1). Assumes nothing.
+use Prim.Native.Nat.{ℕ, zero, suc, _+_, _-_, _*_, _/_, _%_, _≤_, _<_}
+use mathlib.Core.Bool.{Bool, true, false}
+use mathlib.Core.Path.{_≡_, refl, sym, ap, ap₂, _∙_}
 use mathlib.Core.List.{List, [], _∷_, map}
-use native.Mathlib.Nat.{zero-mul, zero-add, suc-mul, mul-assoc, add-assoc, mod-lt, div-add-mod', div-lt-iff-lt-mul, suc-le-suc-iff, mul-le-mul, le-refl}
+use native.Mathlib.Nat.{zero-mul, zero-add, suc-mul, mul-assoc, add-assoc, mod-lt, div-add-mod', div-lt-iff-lt-mul, suc-le-suc-iff, mul-le-mul, le-refl, le-of-lt, not-suc-le-zero}
+use native.Mathlib.Numerals.{add-one}
+use borrow.Author.Tests.{ltb-true, ltb-false}
+use lib.Dec.{ltb}
 use native.Mathlib.Omega.{arith}
 use lib.Arith.{digits-div, digits-mod, mod-mul}
 use lib.ListN.{length, getD, length-append, length-map, List·getD-append}
@@ -10,9 +14,10 @@ use lib.Seq.{getD-append-add}
 use Rattle.lists.proofs.PlaceLaws.{map-at}
 use Rattle.family.specs.declared.pair.Pair.{Pair}
 use Rattle.family.specs.declared.pair.Triple.{Triple}
-use Rattle.family.specs.Genotypes.{genotypes, genotypeCount, pair}
+use Rattle.family.specs.Genotypes.{genotypes, genotypeCount, pair, pairsWith, pairsFrom}
 use Rattle.triples.specs.Genotypes.{genotypeAt, rowWidth, tripleAt, each, triples}
-use Rattle.family.proofs.GenotypesLaws.{genotype-count}
+use Rattle.family.proofs.GenotypesLaws.{with-length, genotype-count}
+use Rattle.triples.proofs.GenotypesLaws.{at-first, at-later}
 
 -- ---- lists put one after the other, all of one length
 
@@ -108,6 +113,91 @@ module _ (n : ℕ) where
       → tripleAt n (f * rowWidth n + m * genotypeCount n + c) ≡ record { child = genotypeAt n c; father = genotypeAt n f; mother = genotypeAt n m }
   unfolding tripleAt
   triple-position f m c hm hc = let g = genotypeCount n in rw (child-of g f m c hm hc, father-of g f m c hm hc, mother-of g f m c hm hc)
+
+-- ---- no genotype and no triple stands twice
+
+module _ (d : Pair) where
+  -- the pairs of the m + 1 clusters from i on: m + 1 that begin with i, then those from i + 1 on
+  module _ (i m k : ℕ) where
+    abbrev n : ℕ
+    n = i + suc m
+
+    left : n - i ≡ suc m
+    left = omega arith
+
+    first-pair : k < suc m → getD (pairsFrom i (suc m)) k d ≡ pair i (i + k)
+    first-pair h = rw left at (at-first n i k d (omega arith) (omega arith))
+
+    later-pair : suc m ≤ k → getD (pairsFrom i (suc m)) k d ≡ getD (pairsFrom (suc i) m) (k - suc m) d
+    later-pair h =
+        let less : n - suc i ≡ m = omega arith in
+        rw (left, add-one, less) at (at-later n i k d (omega arith) (omega arith))
+
+    left-over : k < length (pairsFrom i (suc m)) → suc m ≤ k → k - suc m < length (pairsFrom (suc i) m)
+    left-over h l = omega (arith, length-append (pairsWith i i (suc m)) (pairsFrom (suc i) m), with-length i i (suc m))
+
+  low-from : (i m k : ℕ) → k < length (pairsFrom i m) → i ≤ getD (pairsFrom i m) k d .low
+  low-from i zero k h = absurd (not-suc-le-zero h)
+  low-from i (suc m) k h = go (ltb k (suc m)) refl (λ l. low-from (suc i) m (k - suc m) (left-over i m k h l))
+    where
+      go : (t : Bool) → ltb k (suc m) ≡ t → (suc m ≤ k → suc i ≤ getD (pairsFrom (suc i) m) (k - suc m) d .low)
+          → i ≤ getD (pairsFrom i (suc m)) k d .low
+      go true e later = rw (first-pair i m k (ltb-true k (suc m) e)) (le-refl i)
+      go false e later = let l = ltb-false k (suc m) e in rw (later-pair i m k l) (le-of-lt (later l))
+
+  once-from : (i m k l : ℕ) → k < length (pairsFrom i m) → l < length (pairsFrom i m)
+      → getD (pairsFrom i m) k d ≡ getD (pairsFrom i m) l d → k ≡ l
+  once-from i zero k l hk hl e = absurd (not-suc-le-zero hk)
+  once-from i (suc m) k l hk hl e =
+      go (ltb k (suc m)) (ltb l (suc m)) refl refl
+      (λ a b. once-from (suc i) m (k - suc m) (l - suc m) (left-over i m k hk a) (left-over i m l hl b))
+    where
+      -- one that begins with i and one that does not are unlike
+      unlike : (a b : ℕ) → b < length (pairsFrom i (suc m)) → a < suc m → suc m ≤ b
+          → getD (pairsFrom i (suc m)) a d ≡ getD (pairsFrom i (suc m)) b d → ⊥
+      unlike a b hb ha lb c =
+          let same : i ≡ getD (pairsFrom (suc i) m) (b - suc m) d .low =
+              ap (λ (p : Pair). p .low) (sym (first-pair i m a ha) ∙ c ∙ later-pair i m b lb) in
+          omega (arith, low-from (suc i) m (b - suc m) (left-over i m b hb lb))
+
+      go : (s t : Bool) → ltb k (suc m) ≡ s → ltb l (suc m) ≡ t
+          → (suc m ≤ k → suc m ≤ l → getD (pairsFrom (suc i) m) (k - suc m) d ≡ getD (pairsFrom (suc i) m) (l - suc m) d
+          → k - suc m ≡ l - suc m) → k ≡ l
+      go true true p q later =
+          let same : i + k ≡ i + l =
+              ap (λ (x : Pair). x .high) (sym (first-pair i m k (ltb-true k (suc m) p)) ∙ e ∙ first-pair i m l (ltb-true l (suc m) q)) in
+          omega arith
+      go true false p q later = absurd (unlike k l hl (ltb-true k (suc m) p) (ltb-false l (suc m) q) e)
+      go false true p q later = absurd (unlike l k hk (ltb-true l (suc m) q) (ltb-false k (suc m) p) (sym e))
+      go false false p q later =
+          let a = ltb-false k (suc m) p in
+          let b = ltb-false l (suc m) q in
+          omega (arith, later a b (sym (later-pair i m k a) ∙ e ∙ later-pair i m l b))
+
+module _ (n : ℕ) where
+  pub genotype-once : (k l : ℕ) → k < genotypeCount n → l < genotypeCount n → genotypeAt n k ≡ genotypeAt n l → k ≡ l
+  unfolding genotypeAt genotypeCount
+  genotype-once = once-from (pair 0 0) 0 n
+
+  -- so a position is told by its triple
+  pub triple-once : (p q : ℕ) → p < genotypeCount n * genotypeCount n * genotypeCount n → q < genotypeCount n * genotypeCount n * genotypeCount n
+      → tripleAt n p ≡ tripleAt n q → p ≡ q
+  unfolding tripleAt
+  triple-once p q hp hq e =
+      let g = genotypeCount n in
+      let pos = some g p hp in
+      let father = genotype-once (p / (g * g)) (q / (g * g)) (father-below p hp) (father-below q hq) (ap (λ (t : Triple). t .father) e) in
+      let mother = genotype-once (p / g % g) (q / g % g) (mod-lt (p / g) pos) (mod-lt (q / g) pos) (ap (λ (t : Triple). t .mother) e) in
+      let child = genotype-once (p % g) (q % g) (mod-lt p pos) (mod-lt q pos) (ap (λ (t : Triple). t .child) e) in
+      apart g p pos
+      ∙ ap₂ _+_ (ap (_* (g * g)) father) (ap₂ _+_ (ap (_* g) mother) child)
+      ∙ sym (apart g q pos)
+    where
+      father-below : (r : ℕ) → r < genotypeCount n * genotypeCount n * genotypeCount n → r / (genotypeCount n * genotypeCount n) < genotypeCount n
+      father-below r h =
+          let g = genotypeCount n in
+          let pos = some g r h in
+          div-lt-iff-lt-mul (mul-le-mul pos pos) .1 (rw (mul-assoc g g g) at h)
 
 -- X1
 pub genotype-counts : (genotypeCount 1 ≡ 1) × (genotypeCount 2 ≡ 3) × (genotypeCount 3 ≡ 6) × (genotypeCount 8 ≡ 36)

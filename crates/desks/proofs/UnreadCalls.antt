@@ -89,16 +89,16 @@ module _ (counts : List ℕ) where
   column-padded s c zero = refl
   column-padded s c (suc n) = ap₂ _+_ (padded-at 24 0 counts (3 * c + s)) (column-padded s (suc c) n)
 
-  total-padded : (n : ℕ) (s : Sample) → columnTotal n (padded 24 0 counts) s ≡ columnTotal n counts s
+  pub total-padded : (n : ℕ) (s : Sample) → columnTotal n (padded 24 0 counts) s ≡ columnTotal n counts s
   unfolding columnTotal
   total-padded n s = column-padded (sampleNumber s) 0 (inUse n)
 
-  unread-padded : (n : ℕ) → unread n (padded 24 0 counts) ≡ unread n counts
+  pub unread-padded : (n : ℕ) → unread n (padded 24 0 counts) ≡ unread n counts
   unfolding unread
   unread-padded n = rw (total-padded n Child, total-padded n Father, total-padded n Mother)
 
 -- some column has no reads
-unread-column : (n : ℕ) (counts : List ℕ) → unread n counts ≡ true → (s : Sample) × (columnTotal n counts s ≡ 0)
+pub unread-column : (n : ℕ) (counts : List ℕ) → unread n counts ≡ true → (s : Sample) × (columnTotal n counts s ≡ 0)
 unfolding unread
 unread-column n counts h = go (eqb (columnTotal n counts Child) 0) refl (eqb (columnTotal n counts Father) 0) refl h
   where

@@ -1,6 +1,7 @@
 -- What desks may do with the parts of one input, and what they are promised. Definitions only (RULES.md, D3).
 use Prim.Native.Nat.{ℕ, _<_}
 use mathlib.Core.Bool.{Bool, true, false, not, cond, _&&_, _||_}
+use mathlib.Core.Logic.{_≢_}
 use mathlib.Core.Path.{_≡_}
 use lib.Dec.{T, eqb, ltb}
 use Rattle.refusals.specs.declared.Refusal.the-variants.{Done, Row, OtherTrio, NotComplete, BadPart}
@@ -17,6 +18,7 @@ use Rattle.inputs.specs.Same.{sameInput}
 use Rattle.trio.specs.Steps.{scoreIn, rowStep, mergeStep}
 use Rattle.closings.specs.Closing.{closeStep, refusedClosing}
 use Rattle.desks.specs.Call.{onePassCall}
+use Rattle.desks.specs.Steps.{Step, refusalOf, partAfter}
 
 -- what desks do with the parts of one input, `start` being the part that opening it gave
 pub data History (start : Part) : Type 0 where
@@ -81,3 +83,7 @@ module _ (start : Part) where
     pub other-refused : (q : Part) → T (not (rightPart q && sameInput start q)) → mergeStep (partOf h) q ≡ gives (cond (rightPart q) OtherTrio BadPart) (partOf h)
     -- and a merge with a part of the same input is always accepted
     pub merge-accepted : (k : History start) → mergeStep (partOf h) (partOf k) .refusal ≡ Done
+    -- whatever step is not answered with Done, the part that comes back is the one that was given
+    pub handed-back : (s : Step) → refusalOf s (partOf h) ≢ Done → partAfter s (partOf h) ≡ partOf h
+    -- as the second part of somebody's merge into a bad part or into a part of another input it is refused as such, and what comes back is theirs
+    pub refused-second : (q : Part) → T (not (rightPart q && sameInput start q)) → mergeStep q (partOf h) ≡ gives (cond (rightPart q) OtherTrio BadPart) q
