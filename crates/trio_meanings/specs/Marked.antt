@@ -1,0 +1,35 @@
+-- When each refusal of a closing is given. Definitions only (RULES.md, R10, R12, O1).
+use Prim.Native.Nat.{ℕ, _<_}
+use mathlib.Core.Bool.{true, false}
+use mathlib.Core.Path.{_≡_}
+use Rattle.refusals.specs.declared.Refusal.{Refusal}
+use Rattle.refusals.specs.declared.Refusal.the-variants.{Done, NoCluster, TooMany, Shape, Count, Weight, Model, Table}
+use Rattle.refusals.specs.declared.Refusal.the-variants.{Row, OtherTrio, NotComplete, NoCall, BadPart}
+use Rattle.marks.specs.Marks.{isMarked}
+use Rattle.parts.specs.declared.part.Part.{Part}
+use Rattle.parts.specs.Part.{rowCount}
+use Rattle.shapes.specs.Right.{rightPart}
+
+module _ (p : Part) where
+  -- a row of the search has no mark
+  abbrev pub SomeUnmarked : Type 0
+  SomeUnmarked = (r : ℕ) × (r < rowCount p) × (isMarked (p .marks) r ≡ false)
+
+  abbrev pub AllMarked : Type 0
+  AllMarked = (r : ℕ) → r < rowCount p → isMarked (p .marks) r ≡ true
+
+  -- O1: a bad part, then a row without a mark; the others never
+  abbrev pub ClosesWith : Refusal → Type 0
+  ClosesWith Done = (rightPart p ≡ true) × AllMarked
+  ClosesWith BadPart = rightPart p ≡ false
+  ClosesWith NotComplete = (rightPart p ≡ true) × SomeUnmarked
+  ClosesWith NoCluster = ⊥
+  ClosesWith TooMany = ⊥
+  ClosesWith Shape = ⊥
+  ClosesWith Count = ⊥
+  ClosesWith Weight = ⊥
+  ClosesWith Model = ⊥
+  ClosesWith Table = ⊥
+  ClosesWith Row = ⊥
+  ClosesWith OtherTrio = ⊥
+  ClosesWith NoCall = ⊥
