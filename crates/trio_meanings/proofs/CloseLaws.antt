@@ -1,0 +1,99 @@
+-- Closing gives each refusal exactly where its line says so, for every part, forged or not. Assumes nothing (RULES.md, R10, R12, O1).
+use Prim.Native.Nat.{ℕ, _<_}
+use mathlib.Core.Bool.{Bool, true, false, cond, true≢false}
+use mathlib.Core.Logic.{_↔_}
+use mathlib.Core.Path.{_≡_, refl, sym, ap, subst, _∙_}
+use mathlib.Mathlib.Data.Bool.Basic.{and-elim-right}
+use native.Mathlib.Nat.{zero-add}
+use native.Mathlib.Omega.{arith}
+use borrow.Author.Tests.{eqb-true, eqb-false}
+use lib.Dec.{eqb}
+use lib.ListN.{length}
+use Rattle.lists.specs.Every.{every}
+use Rattle.lists.specs.Lists.{numbers}
+use Rattle.lists.proofs.EveryLaws.{every-each, some-fails}
+use Rattle.lists.proofs.PlaceLaws.{number-at, numbers-length}
+use Rattle.refusals.specs.declared.Refusal.{Refusal}
+use Rattle.refusals.specs.declared.Refusal.the-variants.{Done, NoCluster, TooMany, Shape, Count, Weight, Model, Table}
+use Rattle.refusals.specs.declared.Refusal.the-variants.{Row, OtherTrio, NotComplete, NoCall, BadPart}
+use Rattle.marks.specs.Marks.{isMarked, fullMarks}
+use Rattle.search.specs.Shape.{workRight}
+use Rattle.search_laws.proofs.ShapeLaws.{Shaped, right-shaped}
+use Rattle.search_laws.proofs.WordLaws.{full-marked, marked-full}
+use Rattle.parts.specs.declared.part.Part.{Part}
+use Rattle.parts.specs.Part.{rowCount}
+use Rattle.shapes.specs.Right.{inputRight, rightPart}
+use Rattle.closings.specs.Closing.{closedAs, refusedClosing, closeStep}
+use Rattle.trio_meanings.specs.Marked.{SomeUnmarked, AllMarked, ClosesWith}
+use Rattle.trio_meanings.proofs.Settled.{Settles, settled}
+
+module _ (p : Part) where
+  abbrev rows : ℕ
+  rows = rowCount p
+
+  abbrev marked : ℕ → Bool
+  marked = isMarked (p .marks)
+
+  abbrev full : Bool
+  full = eqb (p .marks) (fullMarks rows)
+
+  -- either every row below the number of rows is marked, or one is found that is not
+  all-or-some : (t : Bool) → every marked (numbers 0 rows) ≡ t → cond t (AllMarked p) (SomeUnmarked p)
+  all-or-some true e = λ r l.
+      ap marked (sym (number-at 0 rows r l ∙ zero-add r)) ∙ every-each marked 0 (numbers 0 rows) e r (omega (arith, numbers-length 0 rows))
+  all-or-some false e =
+      let s = some-fails marked 0 (numbers 0 rows) e in
+      let l : s .0 < rows = omega (arith, s .1, numbers-length 0 rows) in
+      (s .0, l, ap marked (sym (number-at 0 rows (s .0) l ∙ zero-add (s .0))) ∙ s .2)
+
+  -- the word of a part of the right shape is full exactly where every row is marked
+  full-settles : rightPart p ≡ true → Settles full (AllMarked p) (SomeUnmarked p)
+  unfolding rightPart
+  full-settles right =
+      settled full (AllMarked p) (SomeUnmarked p) (λ e r l. ap (λ m. isMarked m r) (eqb-true (p .marks) (fullMarks rows) e) ∙ full-marked rows r l)
+      (λ e. go e (every marked (numbers 0 rows)) refl)
+      (λ a s. true≢false (sym (a (s .0) (s .1)) ∙ s .2))
+    where
+      shaped : Shaped rows (p .marks) (p .held)
+      shaped = right-shaped rows (p .marks) (p .held) (and-elim-right (inputRight p) (workRight rows (p .marks) (p .held)) right)
+
+      go : full ≡ false → (t : Bool) → every marked (numbers 0 rows) ≡ t → SomeUnmarked p
+      go e true f = absurd (eqb-false (p .marks) (fullMarks rows) e (marked-full rows (p .marks) (shaped .below) (all-or-some true f)))
+      go e false f = all-or-some false f
+
+  closing-says : ClosesWith p (closeStep p .refusal)
+  unfolding closeStep closedAs refusedClosing
+  closing-says = go (rightPart p) full refl refl
+    where
+      go : (s t : Bool) → rightPart p ≡ s → full ≡ t
+          → ClosesWith p (cond s (cond t (closedAs p) (refusedClosing NotComplete p)) (refusedClosing BadPart p) .refusal)
+      go true true e f = (e, full-settles e .holds f)
+      go true false e f = (e, full-settles e .fails f)
+      go false t e f = e
+
+  says-closing : (r : Refusal) → ClosesWith p r → closeStep p .refusal ≡ r
+  unfolding closeStep closedAs refusedClosing
+  says-closing Done c = rw (c .0, full-settles (c .0) .is-held (c .1))
+  says-closing NotComplete c = rw (c .0, full-settles (c .0) .is-failed (c .1))
+  says-closing BadPart c = rw c
+  says-closing NoCluster c = absurd c
+  says-closing TooMany c = absurd c
+  says-closing Shape c = absurd c
+  says-closing Count c = absurd c
+  says-closing Weight c = absurd c
+  says-closing Model c = absurd c
+  says-closing Table c = absurd c
+  says-closing Row c = absurd c
+  says-closing OtherTrio c = absurd c
+  says-closing NoCall c = absurd c
+
+  -- for every refusal of the enum, Done among them
+  pub closes-exactly : (r : Refusal) → (closeStep p .refusal ≡ r) ↔ ClosesWith p r
+  closes-exactly r = (λ e. subst (ClosesWith p) e closing-says, says-closing r)
+
+  -- so of the right shape: refused with 10 exactly where some row has no mark, done exactly where every row has one
+  pub incomplete-exactly : rightPart p ≡ true → (closeStep p .refusal ≡ NotComplete) ↔ SomeUnmarked p
+  incomplete-exactly right = (λ e. closes-exactly NotComplete .0 e .1, λ s. closes-exactly NotComplete .1 (right, s))
+
+  pub complete-exactly : rightPart p ≡ true → (closeStep p .refusal ≡ Done) ↔ AllMarked p
+  complete-exactly right = (λ e. closes-exactly Done .0 e .1, λ a. closes-exactly Done .1 (right, a))
