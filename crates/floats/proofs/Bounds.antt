@@ -180,7 +180,7 @@ over p q d g j h =
     (le-trans (le-of-eq (sym (mul-assoc d q (2 ^ j)) ∙ ap (λ (z : ℕ). z * 2 ^ j) (mul-comm d q))) (mul-le-mul-right (2 ^ j) (le-add-left (q * d) (p * g))))
 
 -- -0.0 adds nothing
-add-to-zero : (a b c : ℕ) → a ≡ 0 → 0 < b → sum binary64 true a false b c ≡ sum binary64 false a false b c
+pub add-to-zero : (a b c : ℕ) → a ≡ 0 → 0 < b → sum binary64 true a false b c ≡ sum binary64 false a false b c
 unfolding sum
 add-to-zero a b c z h = rw (z, lt-ltb 0 b h, sub-zero, zero-add)
 

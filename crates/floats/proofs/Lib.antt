@@ -19,3 +19,4 @@ pub mod Clear
 pub mod Quotients
 pub mod ZeroDifference
 pub mod Monotone
+pub mod Sums

@@ -43,7 +43,7 @@ zero-fits s (negsuc k) h = absurd (large (2 ^ suc k) (pow-mono {i = 1} {j = suc 
 
 -- ---- what fits is its own rounding
 
-rounded-itself : (s : Bool) (m : ℕ) (e : ℤ) → 0 < m → T (fits binary64 (fin s m e)) → round binary64 s (m * up e) (down e) ≡ fin s m e
+pub rounded-itself : (s : Bool) (m : ℕ) (e : ℤ) → 0 < m → T (fits binary64 (fin s m e)) → round binary64 s (m * up e) (down e) ≡ fin s m e
 rounded-itself s m e M t =
     let f = fitting s m e M t in
     let j = place e (f .not-low) in
