@@ -49,7 +49,7 @@ last-triple (suc (suc (suc (suc (suc (suc (suc zero))))))) s h = refl
 last-triple (suc (suc (suc (suc (suc (suc (suc (suc zero)))))))) s h = refl
 last-triple (suc (suc (suc (suc (suc (suc (suc (suc (suc n))))))))) s h = absurd (omega arith)
 
-two-rows : (n : ℕ) → 2 ≤ n → 2 ≤ genotypeCount n
+pub two-rows : (n : ℕ) → 2 ≤ n → 2 ≤ genotypeCount n
 unfolding genotypeCount
 two-rows zero h = absurd (omega arith)
 two-rows (suc zero) h = absurd (omega arith)
