@@ -1,5 +1,4 @@
 -- O2: a refused step hands back the part that it was given, whatever its shape and wherever it came from. Assumes nothing.
-use Prim.Native.Nat.{ℕ}
 use mathlib.Core.Bool.{Bool, true, false, cond, _&&_}
 use mathlib.Core.Logic.{_≢_}
 use mathlib.Core.Path.{_≡_, refl}

@@ -124,7 +124,8 @@ module _ (start : Part) (right-start : rightPart start ≡ true) (none : start �
         go false u n p = refl
 
     -- theirs comes first, and comes back
-    second-on : (q : Part) → T (not (rightPart q && sameInput start q)) → mergeStep q (withWork start v) ≡ gives (cond (rightPart q) OtherTrio BadPart) q
+    second-on : (q : Part) → T (not (rightPart q && sameInput start q))
+        → mergeStep q (withWork start v) ≡ gives (cond (rightPart q) OtherTrio BadPart) q
     unfolding mergeStep sameInput
     second-on q o =
         rw (right-with, input-swap q (withWork start v))
@@ -234,5 +235,6 @@ module _ (start : Part) (right-start : rightPart start ≡ true) (none : start �
             ∙ ap (λ (s : Stepped). s .refusal) (merge-on (rowsOf start h) (rowsOf start k) (c .0) (d .0) (c .2) (d .2));
         handed-back = λ s. refused-back s (partOf start h);
         refused-second = λ q o.
-            subst (λ (p : Part). mergeStep q p ≡ gives (cond (rightPart q) OtherTrio BadPart) q) (sym (c .1)) (second-on (rowsOf start h) (c .0) (c .2) q o);
+            subst (λ (p : Part). mergeStep q p ≡ gives (cond (rightPart q) OtherTrio BadPart) q) (sym (c .1))
+            (second-on (rowsOf start h) (c .0) (c .2) q o);
       }

@@ -1,9 +1,10 @@
--- The triples in kanpig's order: how many there are, which one stands where, and that none stands twice (RULES.md, T1, X1). Assumes nothing.
+-- The triples in kanpig's order: how many there are, which one stands where, and that none stands twice. Assumes nothing (RULES.md, T1, X1).
 use Prim.Native.Nat.{ℕ, zero, suc, _+_, _-_, _*_, _/_, _%_, _≤_, _<_}
 use mathlib.Core.Bool.{Bool, true, false}
 use mathlib.Core.Path.{_≡_, refl, sym, ap, ap₂, _∙_}
 use mathlib.Core.List.{List, [], _∷_, map}
-use native.Mathlib.Nat.{zero-mul, zero-add, suc-mul, mul-assoc, add-assoc, mod-lt, div-add-mod', div-lt-iff-lt-mul, suc-le-suc-iff, mul-le-mul, le-refl, le-of-lt, not-suc-le-zero}
+use native.Mathlib.Nat.{zero-mul, zero-add, suc-mul, mul-assoc, add-assoc, mod-lt, div-add-mod', div-lt-iff-lt-mul, suc-le-suc-iff}
+use native.Mathlib.Nat.{mul-le-mul, le-refl, le-of-lt, not-suc-le-zero}
 use native.Mathlib.Numerals.{add-one}
 use borrow.Author.Tests.{ltb-true, ltb-false}
 use lib.Dec.{ltb}
@@ -157,7 +158,7 @@ module _ (d : Pair) where
           → getD (pairsFrom i (suc m)) a d ≡ getD (pairsFrom i (suc m)) b d → ⊥
       unlike a b hb ha lb c =
           let same : i ≡ getD (pairsFrom (suc i) m) (b - suc m) d .low =
-              ap (λ (p : Pair). p .low) (sym (first-pair i m a ha) ∙ c ∙ later-pair i m b lb) in
+          ap (λ (p : Pair). p .low) (sym (first-pair i m a ha) ∙ c ∙ later-pair i m b lb) in
           omega (arith, low-from (suc i) m (b - suc m) (left-over i m b hb lb))
 
       go : (s t : Bool) → ltb k (suc m) ≡ s → ltb l (suc m) ≡ t
@@ -165,7 +166,7 @@ module _ (d : Pair) where
           → k - suc m ≡ l - suc m) → k ≡ l
       go true true p q later =
           let same : i + k ≡ i + l =
-              ap (λ (x : Pair). x .high) (sym (first-pair i m k (ltb-true k (suc m) p)) ∙ e ∙ first-pair i m l (ltb-true l (suc m) q)) in
+          ap (λ (x : Pair). x .high) (sym (first-pair i m k (ltb-true k (suc m) p)) ∙ e ∙ first-pair i m l (ltb-true l (suc m) q)) in
           omega arith
       go true false p q later = absurd (unlike k l hl (ltb-true k (suc m) p) (ltb-false l (suc m) q) e)
       go false true p q later = absurd (unlike l k hk (ltb-true l (suc m) q) (ltb-false k (suc m) p) (sym e))
@@ -180,8 +181,7 @@ module _ (n : ℕ) where
   genotype-once = once-from (pair 0 0) 0 n
 
   -- so a position is told by its triple
-  pub triple-once : (p q : ℕ) → p < genotypeCount n * genotypeCount n * genotypeCount n → q < genotypeCount n * genotypeCount n * genotypeCount n
-      → tripleAt n p ≡ tripleAt n q → p ≡ q
+  pub triple-once : (p q : ℕ) → let g = genotypeCount n in p < g * g * g → q < g * g * g → tripleAt n p ≡ tripleAt n q → p ≡ q
   unfolding tripleAt
   triple-once p q hp hq e =
       let g = genotypeCount n in
@@ -193,7 +193,7 @@ module _ (n : ℕ) where
       ∙ ap₂ _+_ (ap (_* (g * g)) father) (ap₂ _+_ (ap (_* g) mother) child)
       ∙ sym (apart g q pos)
     where
-      father-below : (r : ℕ) → r < genotypeCount n * genotypeCount n * genotypeCount n → r / (genotypeCount n * genotypeCount n) < genotypeCount n
+      father-below : (r : ℕ) → let g = genotypeCount n in r < g * g * g → r / (g * g) < g
       father-below r h =
           let g = genotypeCount n in
           let pos = some g r h in

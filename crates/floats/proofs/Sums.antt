@@ -1,9 +1,11 @@
--- A sum of numbers that are not below zero is at least each of them: rounding keeps the order, and an f64 is its own rounding. Assumes nothing.
+-- A sum of numbers that are not below zero is at least each of them: rounding keeps the order, and an f64 is its own rounding.
+-- Assumes nothing.
 use mathlib.Core.Path.{_≡_, refl, sym, ap, _∙_, subst}
 use mathlib.Core.Bool.{false, true}
 use mathlib.Core.List.{List, [], _∷_}
 use Prim.Native.Nat.{ℕ, zero, suc, _+_, _*_, _^_, _≤_, _<_}
-use native.Mathlib.Nat.{le-refl, le-trans, le-of-eq, le-add-left, add-zero, zero-mul, mul-assoc, mul-pos, mul-le-mul-right, not-suc-le-zero, le-of-suc-le-suc}
+use native.Mathlib.Nat.{le-refl, le-trans, le-of-eq, le-add-left, zero-mul, mul-assoc, mul-pos, mul-le-mul-right}
+use native.Mathlib.Nat.{not-suc-le-zero, le-of-suc-le-suc}
 use native.Mathlib.Omega.{arith}
 use lib.Dec.{T, ltb→lt, eqb→eq}
 use lib.ListN.{length, getD}
@@ -50,7 +52,8 @@ sum-from-right x y X p f =
 
 pub sum-from-left : (x y : Float) → T (positive x) → T (fits binary64 x) → T (positive y) → T (le x (x ⊕ y))
 sum-from-left x y p f q =
-    subst (λ (z : Float). T (le x z)) (add-either y x (positive-finite y q) (positive-finite x p)) (sum-from-right y x (positive-not-below y q) p f)
+    subst (λ (z : Float). T (le x z)) (add-either y x (positive-finite y q) (positive-finite x p))
+    (sum-from-right y x (positive-not-below y q) p f)
 
 -- ---- a list of f64s above zero and at most 1
 
@@ -79,18 +82,26 @@ module _ (j : ℕ) (J : j ≤ 1074) where
   at-itself x p = cross→le x x p p (le-refl (num x * den x))
 
   -- what follows adds to it
-  grows : (l : List Float) {a : ℕ} {s : Float} → AllTerms j l → Running a s → a + length l ≤ 2 ^ 53
-      → T (le s (sumFrom s l)) × Running (a + length l) (sumFrom s l)
+  record Grown (a : ℕ) (s : Float) (l : List Float) : Type 0 where
+    no-less : T (le s (sumFrom s l))
+    sum : Running (a + length l) (sumFrom s l)
+
+  grows : (l : List Float) {a : ℕ} {s : Float} → AllTerms j l → Running a s → a + length l ≤ 2 ^ 53 → Grown a s l
   grows [] {a} {s} h r m =
-      (at-itself s (r .above .is-positive), record { above = r .above; within = within-more (r .within) (omega arith); is-f64 = r .is-f64 })
+      record {
+        no-less = at-itself s (r .above .is-positive);
+        sum = record { above = r .above; within = within-more (r .within) (omega arith); is-f64 = r .is-f64 };
+      }
   grows (x ∷ l) {a} {s} h r m =
       let next = takes-in (above-not-below (r .above)) (r .within) (h .0) (omega arith) in
       let rest = grows l (h .1) next (omega arith) in
-      (
-        le-trans-positive s (s ⊕ x) (sumFrom (s ⊕ x) l) (r .above .is-positive) (next .above .is-positive) (rest .1 .above .is-positive)
-        (sum-from-left s x (r .above .is-positive) (r .is-f64) (h .0 .above .is-positive)) (rest .0),
-        record { above = rest .1 .above; within = within-more (rest .1 .within) (omega arith); is-f64 = rest .1 .is-f64 },
-      )
+      let end = rest .sum in
+      record {
+        no-less =
+            le-trans-positive s (s ⊕ x) (sumFrom (s ⊕ x) l) (r .above .is-positive) (next .above .is-positive) (end .above .is-positive)
+            (sum-from-left s x (r .above .is-positive) (r .is-f64) (h .0 .above .is-positive)) (rest .no-less);
+        sum = record { above = end .above; within = within-more (end .within) (omega arith); is-f64 = end .is-f64 };
+      }
 
   -- the whole sum: at least each term, above zero, and at most as large as there are terms
   pub record Summed (a : ℕ) (s : Float) (l : List Float) : Type 0 where
@@ -105,18 +116,18 @@ module _ (j : ℕ) (J : j ≤ 1074) where
       let next = takes-in S w (h .0) (omega arith) in
       let rest = grows l (h .1) next (omega arith) in
       record {
-        each = go next (rest .0) (rest .1) (λ n. summed-terms l n (h .1) (above-not-below (next .above)) (next .within) (omega arith) .each);
-        above = rest .1 .above;
-        within = within-more (rest .1 .within) (omega arith);
+        each = go next rest (λ n. summed-terms l n (h .1) (above-not-below (next .above)) (next .within) (omega arith) .each);
+        above = rest .sum .above;
+        within = within-more (rest .sum .within) (omega arith);
       }
     where
       total : Float
       total = sumFrom (s ⊕ x) l
 
-      go : {b : ℕ} → Running (a + 1) (s ⊕ x) → T (le (s ⊕ x) total) → Running b total
+      go : Running (a + 1) (s ⊕ x) → Grown (a + 1) (s ⊕ x) l
           → (1 ≤ length l → (i : ℕ) (d : Float) → i < length l → T (le (getD l i d) total))
           → (i : ℕ) (d : Float) → i < length (x ∷ l) → T (le (getD (x ∷ l) i d) total)
-      go next on r later zero d k =
-          le-trans-positive x (s ⊕ x) total (h .0 .above .is-positive) (next .above .is-positive) (r .above .is-positive)
-          (sum-from-right s x S (h .0 .above .is-positive) (h .0 .is-f64)) on
-      go next on r later (suc i) d k = let m = le-of-suc-le-suc k in later (omega (arith, m)) i d m
+      go next rest later zero d k =
+          le-trans-positive x (s ⊕ x) total (h .0 .above .is-positive) (next .above .is-positive) (rest .sum .above .is-positive)
+          (sum-from-right s x S (h .0 .above .is-positive) (h .0 .is-f64)) (rest .no-less)
+      go next rest later (suc i) d k = let m = le-of-suc-le-suc k in later (omega (arith, m)) i d m

@@ -4,7 +4,7 @@ use native.Mathlib.Nat.{not-suc-le-zero, le-of-suc-le-suc, zero-lt-suc}
 use mathlib.Core.Bool.{Bool, true, false, _&&_, true≢false}
 use mathlib.Core.List.{List, [], _∷_}
 use mathlib.Core.Path.{_≡_, refl, sym, ap, _∙_}
-use mathlib.Mathlib.Data.Bool.Basic.{and-elim-left, and-intro, and-elim-right}
+use mathlib.Mathlib.Data.Bool.Basic.{and-elim-left, and-elim-right}
 use lib.Dec.{T}
 use lib.Ieee.Fits.{and-l, and-r}
 use lib.ListN.{length, getD, drop, drop-of-length-le}
@@ -30,16 +30,12 @@ every-at passes [] i d h e = e zero-le
 every-at passes (x ∷ l) zero d h e = and-l (passes x) (every passes l) h
 every-at passes (x ∷ l) (suc i) d h e = every-at passes l i d (and-r (passes x) (every passes l) h) (λ k. e (suc-le-suc k))
 
--- every member passes exactly where the one at each place does, and otherwise one does not
+-- where every member passes, the one at each place does; otherwise one does not
 module _ {A : Type 0} (passes : A → Bool) (d : A) where
   pub every-each : (l : List A) → every passes l ≡ true → (i : ℕ) → i < length l → passes (getD l i d) ≡ true
   every-each [] h i k = absurd (not-suc-le-zero k)
   every-each (x ∷ l) h zero k = and-elim-left (passes x) (every passes l) h
   every-each (x ∷ l) h (suc i) k = every-each l (and-elim-right (passes x) (every passes l) h) i (le-of-suc-le-suc k)
-
-  pub each-every : (l : List A) → ((i : ℕ) → i < length l → passes (getD l i d) ≡ true) → every passes l ≡ true
-  each-every [] h = refl
-  each-every (x ∷ l) h = and-intro (h 0 (zero-lt-suc (length l))) (each-every l (λ i k. h (suc i) (suc-le-suc k)))
 
   pub some-fails : (l : List A) → every passes l ≡ false → (i : ℕ) × (i < length l) × (passes (getD l i d) ≡ false)
   some-fails [] h = absurd (true≢false h)
