@@ -1,4 +1,5 @@
--- The triples in kanpig's order: how many there are, which one stands where, and that none stands twice. Assumes nothing (RULES.md, T1, X1).
+-- The triples in kanpig's order: how many there are, which one stands where, and that none stands twice. Assumes nothing
+-- (RULES.md, T1, X1).
 use Prim.Native.Nat.{ℕ, zero, suc, _+_, _-_, _*_, _/_, _%_, _≤_, _<_}
 use mathlib.Core.Bool.{Bool, true, false}
 use mathlib.Core.Path.{_≡_, refl, sym, ap, ap₂, _∙_}

@@ -85,6 +85,6 @@ module _ (start : Part) where
     pub merge-accepted : (k : History start) → mergeStep (partOf h) (partOf k) .refusal ≡ Done
     -- whatever step is not answered with Done, the part that comes back is the one that was given
     pub handed-back : (s : Step) → refusalOf s (partOf h) ≢ Done → partAfter s (partOf h) ≡ partOf h
-    -- as the second of somebody's merge, theirs being a bad part or one of another input, it is refused as such, and what comes back is theirs
+    -- as the second of somebody's merge, theirs being a bad part or one of another input: refused as such, and theirs comes back
     pub refused-second : (q : Part) → T (not (rightPart q && sameInput start q))
         → mergeStep q (partOf h) ≡ gives (cond (rightPart q) OtherTrio BadPart) q

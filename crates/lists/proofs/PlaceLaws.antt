@@ -1,4 +1,4 @@
--- How many consecutive numbers there are, what a function makes of them, and what stands at a place: of these numbers, of a list that is mapped,
+-- How many consecutive numbers there are, what a function makes of them, and what stands at a place: of these numbers, of a mapped list,
 -- and of a list that is left from there on. Assumes nothing.
 use mathlib.Core.Path.{_≡_, refl, ap, ap₂, _∙_}
 use mathlib.Core.List.{List, _∷_, map}

@@ -8,7 +8,6 @@ use native.Mathlib.Nat.{zero-add}
 use native.Mathlib.Omega.{arith}
 use borrow.Author.Tests.{eqb-true, eqb-false}
 use lib.Dec.{eqb}
-use lib.ListN.{length}
 use Rattle.lists.specs.Every.{every}
 use Rattle.lists.specs.Lists.{numbers}
 use Rattle.lists.proofs.EveryLaws.{every-each, some-fails}
@@ -50,7 +49,8 @@ module _ (p : Part) where
   full-settles : rightPart p ≡ true → Settles full (AllMarked p) (SomeUnmarked p)
   unfolding rightPart
   full-settles right =
-      settled full (AllMarked p) (SomeUnmarked p) (λ e r l. ap (λ m. isMarked m r) (eqb-true (p .marks) (fullMarks rows) e) ∙ full-marked rows r l)
+      settled full (AllMarked p) (SomeUnmarked p)
+      (λ e r l. ap (λ m. isMarked m r) (eqb-true (p .marks) (fullMarks rows) e) ∙ full-marked rows r l)
       (λ e. go e (every marked (numbers 0 rows)) refl)
       (λ a s. true≢false (sym (a (s .0) (s .1)) ∙ s .2))
     where

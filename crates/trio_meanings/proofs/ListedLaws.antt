@@ -1,5 +1,5 @@
--- The list that the three loops walk is the list of the positions' triples, and each stands there once; so for 1 to 8 clusters. Assumes nothing
--- (RULES.md, T1).
+-- For 1 to 8 clusters the list that the three loops walk is the list of the positions' triples, and each stands there once.
+-- Assumes nothing (RULES.md, T1).
 use Prim.Native.Nat.{ℕ, zero, suc, _≤_, _<_}
 use mathlib.Core.Bool.{Bool, true, false, _&&_}
 use mathlib.Core.List.{List, map}
@@ -15,7 +15,6 @@ use Rattle.lists.specs.Lists.{numbers}
 use Rattle.lists.proofs.PlaceLaws.{number-at, numbers-length, map-at}
 use Rattle.family.specs.declared.pair.Pair.{Pair}
 use Rattle.family.specs.declared.pair.Triple.{Triple}
-use Rattle.family.specs.Genotypes.{pair}
 use Rattle.mendel.specs.Mendel.{samePair}
 use Rattle.mendel.proofs.MendelLaws.{same-is}
 use Rattle.triples.specs.Genotypes.{genotypeAt, tripleAt, tripleOf, triples}
@@ -49,11 +48,14 @@ triples-listed n some few =
 
 same-triple : (t u : Triple) → sameTriple t u ≡ true → t ≡ u
 same-triple t u e =
-    let parents = and-elim-right (samePair (t .child) (u .child)) (samePair (t .father) (u .father) && samePair (t .mother) (u .mother)) e in
-    let child = same-is (t .child) (u .child) (and-elim-left (samePair (t .child) (u .child)) _ e) in
-    let father = same-is (t .father) (u .father) (and-elim-left (samePair (t .father) (u .father)) (samePair (t .mother) (u .mother)) parents) in
-    let mother = same-is (t .mother) (u .mother) (and-elim-right (samePair (t .father) (u .father)) (samePair (t .mother) (u .mother)) parents) in
-    λ i. record { child = child i; father = father i; mother = mother i }
+    let child = samePair (t .child) (u .child) in
+    let father = samePair (t .father) (u .father) in
+    let mother = samePair (t .mother) (u .mother) in
+    let parents = and-elim-right child (father && mother) e in
+    let c = same-is (t .child) (u .child) (and-elim-left child (father && mother) e) in
+    let f = same-is (t .father) (u .father) (and-elim-left father mother parents) in
+    let m = same-is (t .mother) (u .mother) (and-elim-right father mother parents) in
+    λ i. record { child = c i; father = f i; mother = m i }
 
 triple-same : (t : Triple) → sameTriple t t ≡ true
 triple-same t = and-intro (pair-same (t .child)) (and-intro (pair-same (t .father)) (pair-same (t .mother)))

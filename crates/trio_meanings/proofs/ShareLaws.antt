@@ -1,6 +1,6 @@
 -- T2: the share of the reads that a cluster should have is above 0 and at most 1, whatever the pair names and how many clusters there are.
 -- Assumes nothing.
-use Prim.Native.Nat.{ℕ, zero, suc, _+_, _*_, _^_, _≤_, _<_}
+use Prim.Native.Nat.{ℕ, zero, suc, _*_, _^_, _≤_, _<_}
 use mathlib.Core.Bool.{Bool, true, false, cond, _&&_}
 use mathlib.Core.List.{List, map}
 use mathlib.Core.Path.{_≡_, refl, ap, subst, _∙_}
@@ -54,7 +54,9 @@ module _ (h : Pair) where
 above-zero : (v : Float) → T (positive v) → lt (nat 0) v ≡ true
 unfolding ofInt round
 above-zero v p =
-    lt-fractions (nat 0) v (record { not-below = tt }) (positive-not-below v p) ∙ lt-ltb (0 * den v) (num v * 1) (some (num v) (den v) (value-pos v (num v) (den v) p (den-pos v) (own-value v p)))
+    let size = value-pos v (num v) (den v) p (den-pos v) (own-value v p) in
+    lt-fractions (nat 0) v (record { not-below = tt }) (positive-not-below v p)
+    ∙ lt-ltb (0 * den v) (num v * 1) (some (num v) (den v) size)
   where
     some : (n d : ℕ) → 0 < n → 0 * d < n * 1
     some n d h = omega arith
@@ -62,7 +64,8 @@ above-zero v p =
 at-most-one : (v : Float) → T (positive v) → Within 1 v → le v (nat 1) ≡ true
 unfolding ofInt round
 at-most-one v p w =
-    le-fractions v (nat 1) (positive-not-below v p) (record { not-below = tt }) ∙ le-leb (num v * 1) (1 * den v) (small (num v) (den v) (w .small))
+    le-fractions v (nat 1) (positive-not-below v p) (record { not-below = tt })
+    ∙ le-leb (num v * 1) (1 * den v) (small (num v) (den v) (w .small))
   where
     small : (n d : ℕ) → n ≤ 1 * d → n * 1 ≤ 1 * d
     small n d h = omega arith
@@ -89,8 +92,8 @@ module _ (n : ℕ) (h : Pair) (c : ℕ) (used : c < inUse n) where
 
   total-sums : Summed 10 (lit≤ tt) 0 (nat 0) terms
   total-sums =
-      summed-terms 10 (lit≤ tt) terms (omega (arith, terms-length)) (all-expected h 0 (inUse n)) zero-not-below (within-whole (pos 0) 0 (lit≤ tt) (lit≤ tt))
-      (omega (arith, terms-length, used-few n))
+      summed-terms 10 (lit≤ tt) terms (omega (arith, terms-length)) (all-expected h 0 (inUse n)) zero-not-below
+      (within-whole (pos 0) 0 (lit≤ tt) (lit≤ tt)) (omega (arith, terms-length, used-few n))
 
   abbrev term : Float
   term = expectation h c
@@ -111,7 +114,7 @@ module _ (n : ℕ) (h : Pair) (c : ℕ) (used : c < inUse n) where
   term-at-most =
       let at = map-at (expectation h) (clusters n) 0 nan c (omega (arith, numbers-length 0 (inUse n))) in
       let number = number-at 0 (inUse n) c used ∙ zero-add c in
-      subst (λ (x : Float). T (le x (expectationTotal n h))) (at ∙ ap (expectation h) number) (total-sums .each c nan (omega (arith, terms-length)))
+      subst (λ (x : Float). T (le x total)) (at ∙ ap (expectation h) number) (total-sums .each c nan (omega (arith, terms-length)))
 
   -- a share of 0 or above 1 does not arise
   pub share-between : (lt (nat 0) (term ⊘ total) ≡ true) × (le (term ⊘ total) (nat 1) ≡ true)
