@@ -11,14 +11,15 @@ use Rattle.parts.specs.Part.{rowCount}
 use Rattle.shapes.specs.Right.{rightPart}
 
 module _ (p : Part) where
-  -- a row of the search has no mark
+  -- R10: a row of the search has no mark
   abbrev pub SomeUnmarked : Type 0
   SomeUnmarked = (r : ℕ) × (r < rowCount p) × (isMarked (p .marks) r ≡ false)
 
+  -- every row of the search has one
   abbrev pub AllMarked : Type 0
   AllMarked = (r : ℕ) → r < rowCount p → isMarked (p .marks) r ≡ true
 
-  -- O1: a bad part, then a row without a mark; the others never
+  -- O1: a bad part before a row without a mark (R12, R10), Done where neither holds; the others never
   abbrev pub ClosesWith : Refusal → Type 0
   ClosesWith Done = (rightPart p ≡ true) × AllMarked
   ClosesWith BadPart = rightPart p ≡ false
