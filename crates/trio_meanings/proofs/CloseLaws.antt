@@ -61,9 +61,9 @@ module _ (p : Part) where
       go e true f = absurd (eqb-false (p .marks) (fullMarks rows) e (marked-full rows (p .marks) (shaped .below) (all-or-some true f)))
       go e false f = all-or-some false f
 
-  closing-says : ClosesWith p (closeStep p .refusal)
+  given-says : ClosesWith p (closeStep p .refusal)
   unfolding closeStep closedAs refusedClosing
-  closing-says = go (rightPart p) full refl refl
+  given-says = go (rightPart p) full refl refl
     where
       go : (s t : Bool) → rightPart p ≡ s → full ≡ t
           → ClosesWith p (cond s (cond t (closedAs p) (refusedClosing NotComplete p)) (refusedClosing BadPart p) .refusal)
@@ -71,25 +71,25 @@ module _ (p : Part) where
       go true false e f = (e, full-settles e .fails f)
       go false t e f = e
 
-  says-closing : (r : Refusal) → ClosesWith p r → closeStep p .refusal ≡ r
+  says-given : (r : Refusal) → ClosesWith p r → closeStep p .refusal ≡ r
   unfolding closeStep closedAs refusedClosing
-  says-closing Done c = rw (c .0, full-settles (c .0) .is-held (c .1))
-  says-closing NotComplete c = rw (c .0, full-settles (c .0) .is-failed (c .1))
-  says-closing BadPart c = rw c
-  says-closing NoCluster c = absurd c
-  says-closing TooMany c = absurd c
-  says-closing Shape c = absurd c
-  says-closing Count c = absurd c
-  says-closing Weight c = absurd c
-  says-closing Model c = absurd c
-  says-closing Table c = absurd c
-  says-closing Row c = absurd c
-  says-closing OtherTrio c = absurd c
-  says-closing NoCall c = absurd c
+  says-given Done c = rw (c .0, full-settles (c .0) .is-held (c .1))
+  says-given NotComplete c = rw (c .0, full-settles (c .0) .is-failed (c .1))
+  says-given BadPart c = rw c
+  says-given NoCluster c = absurd c
+  says-given TooMany c = absurd c
+  says-given Shape c = absurd c
+  says-given Count c = absurd c
+  says-given Weight c = absurd c
+  says-given Model c = absurd c
+  says-given Table c = absurd c
+  says-given Row c = absurd c
+  says-given OtherTrio c = absurd c
+  says-given NoCall c = absurd c
 
   -- for every refusal of the enum, Done among them
   pub closes-exactly : (r : Refusal) → (closeStep p .refusal ≡ r) ↔ ClosesWith p r
-  closes-exactly r = (λ e. subst (ClosesWith p) e closing-says, says-closing r)
+  closes-exactly r = (λ e. subst (ClosesWith p) e given-says, says-given r)
 
   -- so of the right shape: refused with 10 exactly where some row has no mark, done exactly where every row has one
   pub incomplete-exactly : rightPart p ≡ true → (closeStep p .refusal ≡ NotComplete) ↔ SomeUnmarked p

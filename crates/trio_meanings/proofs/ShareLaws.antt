@@ -1,5 +1,5 @@
--- T2: the share of the reads that a cluster should have is above 0 and at most 1, whatever the pair names and how many clusters there are.
--- Assumes nothing.
+-- T2: a share of 0 or above 1 does not arise, whatever the pair names and how many clusters there are: the sum of the expectations is at
+-- least each of them. Assumes nothing.
 use Prim.Native.Nat.{ℕ, zero, suc, _*_, _^_, _≤_, _<_}
 use mathlib.Core.Bool.{Bool, true, false, cond, _&&_}
 use mathlib.Core.List.{List, map}
@@ -24,6 +24,7 @@ use Rattle.floats.proofs.Sums.{Term, AllTerms, Summed, summed-terms}
 use Rattle.bounds.proofs.LnSigns.{over-div}
 use Rattle.family.specs.declared.pair.Pair.{Pair}
 use Rattle.samples.specs.Samples.{inUse, clusters, named, expectation, expectationTotal}
+use Rattle.trio_meanings.specs.Shares.{shareOf, IsShare}
 
 -- ---- an expectation is 1, a half or a thousandth, so at least 2 ^ -10
 
@@ -116,16 +117,16 @@ module _ (n : ℕ) (h : Pair) (c : ℕ) (used : c < inUse n) where
       let number = number-at 0 (inUse n) c used ∙ zero-add c in
       subst (λ (x : Float). T (le x total)) (at ∙ ap (expectation h) number) (total-sums .each c nan (omega (arith, terms-length)))
 
-  -- a share of 0 or above 1 does not arise
-  pub share-between : (lt (nat 0) (term ⊘ total) ≡ true) × (le (term ⊘ total) (nat 1) ≡ true)
-  share-between =
+  -- any two numbers are a pair here, also such as name no cluster
+  pub share-is : IsShare (shareOf n h c)
+  share-is =
       let t = expected h c .above in
       let p = t .is-positive in
       let q = total-above .is-positive in
       let most = within-ratio term total (positive-finite term p) q (le→cross term total p q term-at-most) in
       let over : Over 1 10 term = record { is-positive = p; large = one-mul-le (den term) (num term * 2 ^ 10) (t .large) } in
       let positive = over-div over q total-within 1 13 (lit≤ tt) (lit< tt) (lit< tt) (lit≤ tt) (most .is-finite) .is-positive in
-      (above-zero (term ⊘ total) positive, at-most-one (term ⊘ total) positive most)
+      record { above-zero = above-zero (term ⊘ total) positive; at-most-one = at-most-one (term ⊘ total) positive most }
     where
       one-mul-le : (d n : ℕ) → d ≤ n → 1 * d ≤ n
       one-mul-le d n h = omega arith
