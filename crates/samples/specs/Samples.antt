@@ -56,10 +56,14 @@ expectation h c = cond (eqb c (h .low) && eqb c (h .high)) (nat 1) (cond (named 
 unfoldable pub expectationTotal : ℕ → Pair → Float
 expectationTotal n h = sumFrom (nat 0) (map (expectation h) (clusters n))
 
+-- the share of its reads that the animal should have in cluster c: its expectation, divided by the sum of all
+abbrev pub shareOf : ℕ → Pair → ℕ → Float
+shareOf n h c = expectation h c ⊘ expectationTotal n h
+
 -- what cluster c adds: its bracket is summed first
 unfoldable pub clusterTerm : ℕ → List ℕ → List Float → Sample → Pair → ℕ → Float
 clusterTerm n counts weights s h c =
-    logBinomial (reads counts (sampleNumber s) c) (columnTotal n counts s) (expectation h c ⊘ expectationTotal n h) ⊕ lnOf (getD weights c nan ⊕ decimal 1 3)
+    logBinomial (reads counts (sampleNumber s) c) (columnTotal n counts s) (shareOf n h c) ⊕ lnOf (getD weights c nan ⊕ decimal 1 3)
 
 -- without reads minus infinity, else the sum over the clusters in order
 unfoldable pub sampleScore : ℕ → List ℕ → List Float → Sample → Pair → Float

@@ -6,25 +6,26 @@ use mathlib.Core.List.{List, map}
 use mathlib.Core.Path.{_≡_, refl, ap, subst, _∙_}
 use native.Mathlib.Nat.{zero-add}
 use native.Mathlib.Omega.{arith}
-use borrow.Author.Tests.{leb-true, lt-ltb, le-leb}
+use borrow.Author.Tests.{leb-true, le-leb}
 use lib.Dec.{T, eqb, leb, lit≤, lit<}
 use lib.IntN.{pos}
 use lib.ListN.{length, length-map}
-use lib.Ieee.{Float, binary64, nan, round, ofInt, lt, le}
+use lib.Ieee.{Float, binary64, nan, round, ofInt, le}
 use lib.Ieee.Fits.{round-fits}
-use lib.Ieee.Positive.{num, den, den-pos, positive, positive-finite, own-value, value-pos, le→cross}
+use lib.Ieee.Positive.{num, den, positive, positive-finite, le→cross}
 use Rattle.lists.specs.Lists.{numbers}
 use Rattle.lists.proofs.PlaceLaws.{number-at, numbers-length, map-at}
 use Rattle.floats.specs.F64.{_⊘_, nat, decimal}
 use Rattle.floats.specs.Within.{Within, Above, NotBelow}
 use Rattle.floats.specs.Under.{Over}
 use Rattle.floats.proofs.Bounds.{within-whole, within-fraction, within-more, within-ratio, above-fraction, positive-not-below}
-use Rattle.floats.proofs.Fractions.{lt-fractions, le-fractions}
+use Rattle.floats.proofs.Fractions.{le-fractions}
+use Rattle.floats.proofs.Whole.{zero-below}
 use Rattle.floats.proofs.Sums.{Term, AllTerms, Summed, summed-terms}
-use Rattle.bounds.proofs.LnSigns.{over-div}
+use Rattle.floats.proofs.Quotients.{over-div}
 use Rattle.family.specs.declared.pair.Pair.{Pair}
-use Rattle.samples.specs.Samples.{inUse, clusters, named, expectation, expectationTotal}
-use Rattle.trio_meanings.specs.Shares.{shareOf, IsShare}
+use Rattle.samples.specs.Samples.{inUse, clusters, named, expectation, expectationTotal, shareOf}
+use Rattle.trio_meanings.specs.Shares.{IsShare}
 
 -- ---- an expectation is 1, a half or a thousandth, so at least 2 ^ -10
 
@@ -50,17 +51,7 @@ module _ (h : Pair) where
   all-expected i zero = tt
   all-expected i (suc m) = (expected i, all-expected (suc i) m)
 
--- ---- the tests of a number that is above 0 and at most 1
-
-above-zero : (v : Float) → T (positive v) → lt (nat 0) v ≡ true
-unfolding ofInt round
-above-zero v p =
-    let size = value-pos v (num v) (den v) p (den-pos v) (own-value v p) in
-    lt-fractions (nat 0) v (record { not-below = tt }) (positive-not-below v p)
-    ∙ lt-ltb (0 * den v) (num v * 1) (some (num v) (den v) size)
-  where
-    some : (n d : ℕ) → 0 < n → 0 * d < n * 1
-    some n d h = omega arith
+-- ---- the test of a number that is at most 1
 
 at-most-one : (v : Float) → T (positive v) → Within 1 v → le v (nat 1) ≡ true
 unfolding ofInt round
@@ -126,7 +117,7 @@ module _ (n : ℕ) (h : Pair) (c : ℕ) (used : c < inUse n) where
       let most = within-ratio term total (positive-finite term p) q (le→cross term total p q term-at-most) in
       let over : Over 1 10 term = record { is-positive = p; large = one-mul-le (den term) (num term * 2 ^ 10) (t .large) } in
       let positive = over-div over q total-within 1 13 (lit≤ tt) (lit< tt) (lit< tt) (lit≤ tt) (most .is-finite) .is-positive in
-      record { above-zero = above-zero (term ⊘ total) positive; at-most-one = at-most-one (term ⊘ total) positive most }
+      record { above-zero = zero-below (term ⊘ total) positive; at-most-one = at-most-one (term ⊘ total) positive most }
     where
       one-mul-le : (d n : ℕ) → d ≤ n → 1 * d ≤ n
       one-mul-le d n h = omega arith
