@@ -1,3 +1,4 @@
 -- The definitions that the contracts of `probabilities` cite.
 pub mod Quality
 pub mod Winner
+pub mod Inner

@@ -1,8 +1,10 @@
 // The probability of every hypothesis, and the quality of the winner (docs/RULES.md, M7).
 ghost use mathlib.Core.Path.{_≡_};
-ghost use Prim.Native.Nat.{_≤_};
+ghost use Prim.Native.Nat.{_≤_, _<_};
 ghost use Rattle.picks.specs.Order.{larger, smaller};
-ghost use Rattle.probabilities.specs.Quality.{inUse, topOf, sumOf, wholeOf, probabilityOf, probabilities, wrongOf, qualityOf};
+ghost use Rattle.probabilities.specs.Inner.{topOf, sumOf, probabilityOf};
+ghost use Rattle.probabilities.specs.Quality.{inUse, tensOf, probabilities, wrongOf, qualityOf};
+ghost use Rattle.tens.specs.Normalised.{wholeOver};
 use picks::order::max;
 use picks::order::min;
 use tens::log10::LN_TEN;
@@ -20,8 +22,8 @@ fn top(posteriors: [f64; 36], n: usize) -> f64
     requires { ⌜ n ≤ 36 ⌝ }
     ensures { λ r. ⌜ r ≡ topOf larger posteriors n ⌝ }
 {
-    let mut largest = -1.0 / 0.0;
-    let mut i = 0;
+    let mut largest = posteriors[0] / LN_TEN;
+    let mut i = 1;
     while i < n {
         largest = max(largest, posteriors[i] / LN_TEN);
         i += 1;
@@ -32,10 +34,10 @@ fn top(posteriors: [f64; 36], n: usize) -> f64
 // Ten to each less the largest, summed.
 fn sum(posteriors: [f64; 36], n: usize, largest: f64) -> f64
     requires { ⌜ n ≤ 36 ⌝ }
-    ensures { λ r. ⌜ r ≡ sumOf posteriors largest n ⌝ }
+    ensures { λ r. ⌜ r ≡ sumOf largest posteriors n ⌝ }
 {
-    let mut all = 0.0;
-    let mut i = 0;
+    let mut all = pow10(posteriors[0] / LN_TEN - largest);
+    let mut i = 1;
     while i < n {
         all = all + pow10(posteriors[i] / LN_TEN - largest);
         i += 1;
@@ -44,8 +46,8 @@ fn sum(posteriors: [f64; 36], n: usize, largest: f64) -> f64
 }
 
 fn whole(posteriors: [f64; 36], n: usize) -> f64
-    requires { ⌜ n ≤ 36 ⌝ }
-    ensures { λ r. ⌜ r ≡ wholeOf larger posteriors n ⌝ }
+    requires { ⌜ (0 < n) × (n ≤ 36) ⌝ }
+    ensures { λ r. ⌜ r ≡ wholeOver larger (tensOf posteriors n) ⌝ }
 {
     let largest = top(posteriors, n);
     largest + log10(sum(posteriors, n, largest))
@@ -62,8 +64,11 @@ pub fn all_probabilities(posteriors: [f64; 36], n: usize) -> [f64; 36]
     ensures { λ r. ⌜ r ≡ probabilities larger smaller posteriors n ⌝ }
 {
     let count = in_use(n);
-    let log10_sum = whole(posteriors, count);
     let mut all = [0.0; 36];
+    if count == 0 {
+        return all;
+    }
+    let log10_sum = whole(posteriors, count);
     let mut i = 0;
     while i < count {
         all[i] = probability(posteriors[i], log10_sum);

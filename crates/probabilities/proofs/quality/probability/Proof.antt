@@ -1,7 +1,7 @@
 -- `probabilities::quality::probability` meets its contract. Assumes nothing.
 use lib.Ieee.{ofInt, ofBits}
 use Rattle.tens.proofs.Log10Laws.{ln-ten}
-use Rattle.probabilities.specs.Quality.{probabilityOf}
+use Rattle.probabilities.specs.Inner.{probabilityOf}
 use borrow.Author.Needs.{needs}
 use Rattle.probabilities.proofs.quality.probability.Statement.{statement}
 use Rattle.probabilities.proofs.quality.probability.Tie as tie
