@@ -37,31 +37,52 @@ factorial-pos (suc n) = mul-pos (zero-lt-suc n) (factorial-pos n)
 one-under : (n j : ℕ) → 1 * 2 ^ j ≤ n * 1 → n < 2 ^ 53 → j ≤ 1074 → Under n j (ratio 1 1)
 one-under n j h l J = round-at-most false 1 1 n j (lit< tt) l J h
 
+one-over : (n j : ℕ) → 0 < n → n < 2 ^ 53 → j ≤ 1074 → n * 1 ≤ 1 * 2 ^ j → Over n j (ratio 1 1)
+one-over n j N l J h = round-over 1 1 n j (lit< tt) N l J h (one-under 1 0 (lit≤ tt) (lit< tt) (lit≤ tt) .is-finite)
+
 module _ (r : Float) (small : Under 1 1 r) where
-  series-ends : (n : ℕ) (p : Float) → Under 1 0 p → Under 7 2 (hornerFrom r p (reciprocals (factorials (suc n)))) × Over 1 2 (hornerFrom r p (reciprocals (factorials (suc n))))
-  series-ends zero p h =
-      let q : Under 3 1 (p ⊗ r ⊕ ratio 1 1) = under-add (under-mul h small (lit< tt) (lit≤ tt)) (one-under 2 1 (lit≤ tt) (lit< tt) (lit≤ tt)) (lit< tt) (lit≤ tt) in
-      let w : Under 3 2 ((p ⊗ r ⊕ ratio 1 1) ⊗ r) = under-mul q small (lit< tt) (lit≤ tt) in
-      let v : Under 7 2 ((p ⊗ r ⊕ ratio 1 1) ⊗ r ⊕ ratio 1 1) = under-add w (one-under 4 2 (lit≤ tt) (lit< tt) (lit≤ tt)) (lit< tt) (lit≤ tt) in
-      let one : Over 4 2 (ratio 1 1) = round-over 1 1 4 2 (lit< tt) (lit< tt) (lit< tt) (lit≤ tt) (lit≤ tt) (one-under 1 0 (lit≤ tt) (lit< tt) (lit≤ tt) .is-finite) in
-      (v, over-add w one 1 (lit≤ tt) (lit< tt) (lit< tt) (lit≤ tt) (v .is-finite))
-  series-ends (suc n) p h =
+  -- the last two steps, from what runs before them
+  abbrev pub nextToLast : Float → Float
+  nextToLast p = p ⊗ r ⊕ ratio 1 1
+
+  abbrev pub last : Float → Float
+  last p = nextToLast p ⊗ r ⊕ ratio 1 1
+
+  pub next-under : (p : Float) → Under 1 0 p → Under 3 1 (nextToLast p)
+  next-under p h = under-add (under-mul h small (lit< tt) (lit≤ tt)) (one-under 2 1 (lit≤ tt) (lit< tt) (lit≤ tt)) (lit< tt) (lit≤ tt)
+
+  pub next-over : (p : Float) → Under 1 0 p → Over 1 1 (nextToLast p)
+  next-over p h = over-add (under-mul h small (lit< tt) (lit≤ tt)) (one-over 2 1 (lit< tt) (lit< tt) (lit≤ tt) (lit≤ tt)) 1 (lit≤ tt) (lit< tt) (lit< tt) (lit≤ tt) (next-under p h .is-finite)
+
+  last-bounds : (p : Float) → Under 1 0 p → Under 7 2 (last p) × Over 1 2 (last p)
+  last-bounds p h =
+      let w : Under 3 2 (nextToLast p ⊗ r) = under-mul (next-under p h) small (lit< tt) (lit≤ tt) in
+      let v : Under 7 2 (last p) = under-add w (one-under 4 2 (lit≤ tt) (lit< tt) (lit≤ tt)) (lit< tt) (lit≤ tt) in
+      (v, over-add w (one-over 4 2 (lit< tt) (lit< tt) (lit≤ tt) (lit≤ tt)) 1 (lit≤ tt) (lit< tt) (lit< tt) (lit≤ tt) (v .is-finite))
+
+  -- whatever holds after the last two steps holds of the series
+  by-last : (P : Float → Type 0) → ((p : Float) → Under 1 0 p → P (last p)) → (n : ℕ) (p : Float) → Under 1 0 p → P (hornerFrom r p (reciprocals (factorials (suc n))))
+  by-last P at zero p h = at p h
+  by-last P at (suc n) p h =
       let f = factorial (suc (suc n)) in
       let two : 2 ≤ f = le-trans (le-of-eq (sym (mul-one 2))) (mul-le-mul (at-least-two n) (factorial-pos (suc n))) in
       let c : Under 1 1 (ratio 1 f) = round-at-most false 1 f 1 1 (factorial-pos (suc (suc n))) (lit< tt) (lit≤ tt) (omega arith) in
-      series-ends n (p ⊗ r ⊕ ratio 1 f) (under-more (under-add (under-mul h small (lit< tt) (lit≤ tt)) c (lit< tt) (lit≤ tt)) 1 0 (lit≤ tt))
+      by-last P at n (p ⊗ r ⊕ ratio 1 f) (under-more (under-add (under-mul h small (lit< tt) (lit≤ tt)) c (lit< tt) (lit≤ tt)) 1 0 (lit≤ tt))
     where
       at-least-two : (n : ℕ) → 2 ≤ suc (suc n)
       at-least-two n = omega arith
 
-  series-bounds : Under 7 2 (expSeries r) × Over 1 2 (expSeries r)
+  pub series-by : (P : Float → Type 0) → ((p : Float) → Under 1 0 p → P (last p)) → P (expSeries r)
   unfolding expSeries
-  series-bounds = series-ends 11 (ratio 1 (factorial 13)) (round-at-most false 1 (factorial 13) 1 0 (lit< tt) (lit< tt) (lit≤ tt) (lit≤ tt))
+  series-by P at = by-last P at 11 (ratio 1 (factorial 13)) (round-at-most false 1 (factorial 13) 1 0 (lit< tt) (lit< tt) (lit≤ tt) (lit≤ tt))
+
+  pub series-bounds : Under 7 2 (expSeries r) × Over 1 2 (expSeries r)
+  series-bounds = series-by (λ y. Under 7 2 y × Over 1 2 y) last-bounds
 
 -- ---- times 2^k
 
 -- 2^k is at most 2^j
-abbrev AtMost : ℕ → ℤ → Type 0
+abbrev pub AtMost : ℕ → ℤ → Type 0
 AtMost j (pos a) = a ≤ j
 AtMost j (negsuc a) = Unit
 
@@ -99,23 +120,23 @@ parts-within y j k h l n =
 
 -- ---- the definition between its tests
 
-abbrev kOf : Float → ℤ
+abbrev pub kOf : Float → ℤ
 kOf x = nearestWhole (x ⊗ log2e)
 
-abbrev argument : Float → Float
+abbrev pub argument : Float → Float
 argument x = x ⊖ whole (kOf x) ⊗ hi ⊖ whole (kOf x) ⊗ lo
 
-abbrev least : Float
+abbrev pub least : Float
 least = whole (negℤ (pos 708))
 
-abbrev most : Float
+abbrev pub most : Float
 most = nat 709
 
 at-most-1023 : (s : Bool) → cond s 1021 1023 ≤ 1023
 at-most-1023 true = lit≤ tt
 at-most-1023 false = lit≤ tt
 
-argument-under : (x : Float) → isNan x ≡ false → lt x least ≡ false → lt most x ≡ false → Under 1 1 (argument x)
+pub argument-under : (x : Float) → isNan x ≡ false → lt x least ≡ false → lt most x ≡ false → Under 1 1 (argument x)
 unfolding isNan lt ofInt
 argument-under nan n h k = absurd (true≢false n)
 argument-under (inf true) n h k = absurd (true≢false h)
@@ -128,7 +149,7 @@ argument-under (fin s m e) n h k =
     (reduced-under s m e (le-trans (few-steps s p d (down-pos e) z) (at-most-1023 s)) (scaled-within s p d (down-pos e) z false .is-finite))
 
 -- by which test x passes
-by-tests : (P : Float → Type 0) (x : Float) → isNan x ≡ false → (lt x least ≡ true → P (nat 0)) → (lt most x ≡ true → P (inf false))
+pub by-tests : (P : Float → Type 0) (x : Float) → isNan x ≡ false → (lt x least ≡ true → P (nat 0)) → (lt most x ≡ true → P (inf false))
     → (lt x least ≡ false → lt most x ≡ false → P (expParts (kOf x) x)) → P (expOf x)
 unfolding expOf
 by-tests P x n a b c = rw n (go (lt x least) (lt most x) refl refl)
@@ -164,7 +185,7 @@ exp-number x n = by-tests (λ (v : Float). isNan v ≡ false) x n (λ _. zero-nu
 
 -- ---- from -708 to 709 it is finite and above zero
 
-not-both : {t : Bool} → t ≡ true → t ≡ false → ⊥
+pub not-both : {t : Bool} → t ≡ true → t ≡ false → ⊥
 not-both p q = true≢false (sym p ∙ q)
 
 pub exp-positive : (x : Float) → T (le (whole (negℤ (pos 708))) x) → T (le x (nat 709)) → T (positive (expOf x))
@@ -216,7 +237,7 @@ module _ (j : ℕ) (l : j ≤ 50) where
   no-infinity (inf s) v h = v
   no-infinity (fin s m e) v h = h
 
-  not-most : (x : Float) → T (le x (ratio j 2)) → lt most x ≡ false
+  pub not-most : (x : Float) → T (le x (ratio j 2)) → lt most x ≡ false
   unfolding lt ofInt
   not-most nan h = refl
   not-most (inf true) h = refl
@@ -227,7 +248,7 @@ module _ (j : ℕ) (l : j ≤ 50) where
       few : (p d : ℕ) → p * 2 ≤ j * d → p * 1 ≤ 709 * d
       few p d h = omega (arith, mul-le-mul-right d l)
 
-  k-at-most : (x : Float) → T (le x (ratio j 2)) → lt x least ≡ false → AtMost j (kOf x)
+  pub k-at-most : (x : Float) → T (le x (ratio j 2)) → lt x least ≡ false → AtMost j (kOf x)
   k-at-most nan h k = unfold mul in zero-le
   k-at-most (inf s) h k = unfold mul in zero-le
   k-at-most (fin true m e) h k = rw (product-is true m e, nearest-is true (m * up e) (down e) (down-pos e) (size-by-tests true m e k (not-most (fin true m e) h))) (below-zero (steps true (m * up e) (down e)))

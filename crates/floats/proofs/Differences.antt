@@ -21,7 +21,7 @@ nought = fin false 0 (pos 0)
 
 -- ---- what is rounded to 0.0, and what is rounded below it
 
-round-nothing : (a c : ℕ) → 0 < c → a ≡ 0 → round binary64 false a c ≡ nought
+pub round-nothing : (a c : ℕ) → 0 < c → a ≡ 0 → round binary64 false a c ≡ nought
 unfolding round
 round-nothing a c C z = round-same binary64 false a c 0 1 C (zero-lt-suc 0) (ap (λ (n : ℕ). n * 1) z ∙ sym (zero-mul c))
 
@@ -45,8 +45,8 @@ units-at-most q k = go (ltb (q * 2 ^ k) (2 ^ 2098))
     go true = written q
     go false = unfold le in tt
 
-round-at-most : (a c : ℕ) → T (le (round binary64 true a c) nought)
-round-at-most a c = subst (λ (x : Float). T (le x nought)) (sym (round-is binary64 true a c)) (units-at-most _ _)
+pub round-negative : (a c : ℕ) → T (le (round binary64 true a c) nought)
+round-negative a c = subst (λ (x : Float). T (le x nought)) (sym (round-is binary64 true a c)) (units-at-most _ _)
 
 -- ---- the differences
 
@@ -67,7 +67,7 @@ unfolding sum
 below-both a b c C h = go (ltb a b) (ltb-false a b)
   where
     go : (t : Bool) → (t ≡ false → b ≤ a) → T (le (cond t (round binary64 true (b - a) c) (round binary64 false (a - b) c)) nought)
-    go true k = round-at-most (b - a) c
+    go true k = round-negative (b - a) c
     go false k = let l : b ≤ a = k refl in rw (round-nothing (a - b) c C (omega arith)) (unfold le in tt)
 
 above-both : (a b c : ℕ) → 0 < c → b ≤ a → T (le (sum binary64 true a false b c) nought)
@@ -75,7 +75,7 @@ unfolding sum
 above-both a b c C h = rw (le-ltb a b h) (go (ltb b a) (ltb-false b a))
   where
     go : (t : Bool) → (t ≡ false → a ≤ b) → T (le (round binary64 t (a - b) c) nought)
-    go true k = round-at-most (a - b) c
+    go true k = round-negative (a - b) c
     go false k = let l : a ≤ b = k refl in rw (round-nothing (a - b) c C (omega arith)) (unfold le in tt)
 
 both-nothing : (a b c : ℕ) → 0 < c → b + a ≤ 0 → T (le (sum binary64 false a false b c) nought)
@@ -88,7 +88,7 @@ less-larger nan y f g h = absurd f
 less-larger (inf s) y f g h = absurd f
 less-larger (fin s m e) nan f g h = absurd g
 less-larger (fin s m e) (inf t) f g h = absurd g
-less-larger (fin true m e) (fin false n d) f g h = round-at-most (m * up e * down d + n * up d * down e) (down e * down d)
+less-larger (fin true m e) (fin false n d) f g h = round-negative (m * up e * down d + n * up d * down e) (down e * down d)
 less-larger (fin false m e) (fin false n d) f g h =
     let a = m * up e * down d in
     let b = n * up d * down e in
