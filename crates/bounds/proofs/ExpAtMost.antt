@@ -18,37 +18,16 @@ use Rattle.floats.specs.Under.{Under}
 use Rattle.floats.proofs.Floats.{lt-zero, eq-zero}
 use Rattle.floats.proofs.Ranges.{le-number}
 use Rattle.floats.proofs.Rounded.{round-within}
-use Rattle.floats.proofs.Differences.{nought, round-nothing, round-negative, less-larger}
+use Rattle.floats.proofs.Differences.{nought, less-larger}
+use Rattle.floats.proofs.Lows.{zero-or-negative, times-low}
 use Rattle.floats.proofs.Bounds.{within-whole, within-mul}
 use Rattle.floats.proofs.Sizes.{under-more, under-within, under-mul, within-under}
 use Rattle.kernels.specs.Exp.{expSeries, expParts, expOf}
 use Rattle.kernels.specs.Ln.{hi, lo}
+use Rattle.bounds.proofs.LnSigns.{positive-clear}
 use Rattle.bounds.proofs.ExpBounds.{last, nextToLast, next-under, next-over, series-by, series-bounds, AtMost, kOf, argument, argument-under, least, most, by-tests, k-at-most, not-most, not-both, exp-within}
 
 -- ---- 1 and what is not above 0
-
--- with a clear sign it is a zero
-zero-or-negative : (s : Bool) (m : ℕ) (e : ℤ) → T (le (fin s m e) nought) → s ≡ false → m ≡ 0
-unfolding le
-zero-or-negative s m e h c = go s (eqb m 0) (rw (lt-zero, eq-zero) at h) c (eqb→eq m 0)
-  where
-    go : (s z : Bool) → T ((s && not z) || z) → s ≡ false → (T z → m ≡ 0) → m ≡ 0
-    go true z h c f = absurd (true≢false c)
-    go false z h c f = f h
-
--- a positive number times what is not above 0
-product-low : (x y : Float) → T (positive x) → T (finite y) → T (le y nought) → T (le (x ⊗ y) nought)
-unfolding mul
-product-low nan y p f h = absurd p
-product-low (inf s) y p f h = absurd p
-product-low (fin true m e) y p f h = absurd p
-product-low (fin false m e) nan p f h = absurd f
-product-low (fin false m e) (inf t) p f h = absurd f
-product-low (fin false m e) (fin true n d) p f h = round-negative (m * up e * (n * up d)) (down e * down d)
-product-low (fin false m e) (fin false n d) p f h =
-    let z = zero-or-negative false n d h refl in
-    let none : m * up e * (n * up d) ≡ 0 = ap (λ (k : ℕ). m * up e * (k * up d)) z ∙ simp (zero-mul, mul-zero) in
-    rw (round-nothing (m * up e * (n * up d)) (down e * down d) (mul-pos (down-pos e) (down-pos d)) none) (unfold le in tt)
 
 sum-low : (s : Bool) (a b c : ℕ) → 0 < c → a ≤ c → b ≤ c → (s ≡ false → a ≡ 0) → Within 1 (sum binary64 s a false b c)
 unfolding sum
@@ -87,7 +66,7 @@ series-low r small h = series-by r small (Within 1) at
         let q = nextToLast r small p in
         let w = under-mul (next-under r small p k) small (lit< tt) (lit≤ tt) in
         subst (λ (z : Float). Within 1 (q ⊗ r ⊕ z)) (sym one-is)
-        (plus-one (q ⊗ r) (under-more w 1 0 (lit≤ tt)) (product-low q r (next-over r small p k .is-positive) (small .is-finite) h))
+        (plus-one (q ⊗ r) (under-more w 1 0 (lit≤ tt)) (times-low q r (positive-clear q (next-over r small p k .is-positive)) (small .is-finite) h))
 
 -- ---- where k is 0, r is x
 

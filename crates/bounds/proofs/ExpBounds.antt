@@ -8,8 +8,8 @@ use borrow.Author.Tests.{le-ltb}
 use lib.IntN.{ℤ, pos, negsuc, negℤ}
 use lib.Dec.{T, lit≤, lit<}
 use lib.Pow.{pow-pos, pow-mono}
-use lib.Ieee.{Float, nan, inf, fin, unlike, up, down, round, mul, lt, le, isNan, ofInt, size, neg, add, sub, ofBits}
-use lib.Ieee.Fits.{down-pos}
+use lib.Ieee.{Float, nan, inf, fin, binary64, unlike, up, down, round, mul, lt, le, isNan, ofInt, size, neg, add, sub, ofBits, fits}
+use lib.Ieee.Fits.{down-pos, ofInt-fits, mul-fits}
 use lib.Ieee.Exact.{HasValue}
 use lib.Ieee.Scale.{finite}
 use lib.Ieee.Positive.{positive}
@@ -182,6 +182,18 @@ infinity-number s = refl
 
 pub exp-number : (x : Float) → isNan x ≡ false → isNan (expOf x) ≡ false
 exp-number x n = by-tests (λ (v : Float). isNan v ≡ false) x n (λ _. zero-number) (λ _. infinity-number false) (λ h k. positive-number (expParts (kOf x) x) (middle-positive x n h k))
+
+-- ---- it is an f64
+
+pub exp-fits : (x : Float) → T (fits binary64 (expOf x))
+unfolding expOf expParts
+exp-fits x = go (isNan x) (lt x least) (lt most x)
+  where
+    go : (a b c : Bool) → T (fits binary64 (cond a nan (cond b (nat 0) (cond c (inf false) (expSeries (argument x) ⊗ fin false 1 (kOf x))))))
+    go true b c = unfold fits in tt
+    go false true c = ofInt-fits binary64 (pos 0)
+    go false false true = unfold fits in tt
+    go false false false = mul-fits binary64 (expSeries (argument x)) (fin false 1 (kOf x))
 
 -- ---- from -708 to 709 it is finite and above zero
 

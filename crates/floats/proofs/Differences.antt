@@ -62,7 +62,7 @@ less-itself (inf s) h = absurd h
 less-itself (fin s m e) h = itself-nothing s (m * up e * down e) (down e * down e) (mul-pos (down-pos e) (down-pos e))
 
 -- of numbers a / c and b / c in size, by their signs
-below-both : (a b c : ℕ) → 0 < c → a ≤ b → T (le (sum binary64 false a true b c) nought)
+pub below-both : (a b c : ℕ) → 0 < c → a ≤ b → T (le (sum binary64 false a true b c) nought)
 unfolding sum
 below-both a b c C h = go (ltb a b) (ltb-false a b)
   where
@@ -70,7 +70,7 @@ below-both a b c C h = go (ltb a b) (ltb-false a b)
     go true k = round-negative (b - a) c
     go false k = let l : b ≤ a = k refl in rw (round-nothing (a - b) c C (omega arith)) (unfold le in tt)
 
-above-both : (a b c : ℕ) → 0 < c → b ≤ a → T (le (sum binary64 true a false b c) nought)
+pub above-both : (a b c : ℕ) → 0 < c → b ≤ a → T (le (sum binary64 true a false b c) nought)
 unfolding sum
 above-both a b c C h = rw (le-ltb a b h) (go (ltb b a) (ltb-false b a))
   where
@@ -78,7 +78,7 @@ above-both a b c C h = rw (le-ltb a b h) (go (ltb b a) (ltb-false b a))
     go true k = round-negative (a - b) c
     go false k = let l : a ≤ b = k refl in rw (round-nothing (a - b) c C (omega arith)) (unfold le in tt)
 
-both-nothing : (a b c : ℕ) → 0 < c → b + a ≤ 0 → T (le (sum binary64 false a false b c) nought)
+pub both-nothing : (a b c : ℕ) → 0 < c → b + a ≤ 0 → T (le (sum binary64 false a false b c) nought)
 unfolding sum
 both-nothing a b c C h = rw (round-nothing (a + b) c C (omega arith)) (unfold le in tt)
 

@@ -13,6 +13,7 @@ pub mod Fitting
 pub mod Fields
 pub mod Subnormal
 pub mod Differences
+pub mod Lows
 pub mod Fractions
 pub mod Zeros
 pub mod Clear

@@ -1,39 +1,41 @@
--- From finite log posteriors every step to the probabilities and to the quality is a finite number: `chances`, `quality-within`. Assumes nothing.
+-- From finite log posteriors every step to the probabilities is a finite number, and each probability lies from 0 to 1: `chance`. Assumes nothing.
 use mathlib.Core.Path.{_≡_, refl, sym, ap, _∙_, subst}
-use mathlib.Core.Bool.{Bool, true, false, not, cond}
-use mathlib.Core.List.{List}
+use mathlib.Core.Logic.{_⊎_, inl, inr}
+use mathlib.Core.Bool.{Bool, true, false, cond}
+use mathlib.Core.List.{List, [], _∷_, map}
 use Prim.Native.Nat.{ℕ, zero, suc, _+_, _*_, _^_, _≤_, _<_, zero-le}
-use native.Mathlib.Nat.{not-suc-le-zero}
+use native.Mathlib.Nat.{add-zero, not-suc-le-zero}
 use native.Mathlib.Omega.{arith}
-use borrow.Author.Tests.{eqb-true, eqb-false}
-use lib.IntN.{pos, negsuc}
-use lib.Dec.{T, eqb, lit≤, lit<}
-use lib.ListN.{getD}
+use lib.IntN.{pos}
+use lib.Dec.{T, lit≤}
+use lib.ListN.{length, getD, length-map}
 use lib.Ieee.{Float, nan, binary64, lt, ofInt, fits}
-use lib.Ieee.Fits.{ofInt-fits, add-fits, div-fits}
-use Rattle.floats.specs.F64.{_⊕_, _⊖_, _⊗_, nat, whole}
+use lib.Ieee.Fits.{add-fits, div-fits}
+use Rattle.floats.specs.F64.{_⊕_, _⊖_, _⊗_, nat, sumFrom}
 use Rattle.floats.specs.Within.{Within, Above, NotBelow}
-use Rattle.floats.proofs.Floats.{positive-by-test}
-use Rattle.floats.proofs.Bounds.{within-number, within-more, within-whole, within-add, within-sub, within-mul, within-div, above-whole, above-add}
+use Rattle.floats.proofs.Bounds.{within-number, within-more, within-whole, within-add, within-sub, within-mul, within-div, above-add}
 use Rattle.floats.proofs.Differences.{less-itself, add-either}
 use Rattle.kernels.specs.Ln.{lnOf}
 use Rattle.tens.specs.Log10.{log10Of, pow10Of}
+use Rattle.tens.specs.Normalised.{inTens, largestFrom, wholeOver, lessWhole}
 use Rattle.bounds.proofs.Log10Bounds.{within-log10}
-use Rattle.diploid_laws.proofs.Signs.{lt-itself, lt-not-back, not-below-trans, difference-not-above, not-below-add}
-use Rattle.diploid_laws.proofs.QualityBounds.{one-above, pow10-within, pow10-zero, ten-above, smaller-zero}
+use Rattle.bounds.proofs.ExpBounds.{exp-fits}
+use Rattle.bounds.proofs.ExpAtMost.{exp-at-most-one}
 use Rattle.picks.specs.Order.{larger, smaller}
-use Rattle.probabilities.specs.Quality.{inTens, topOf, sumOf, wholeOf, probabilityOf, wrongOf, qualityBy}
-use Rattle.mosaic_laws.proofs.Terms.{either}
-use Rattle.mosaic_laws.proofs.Sums.{grows}
-use Rattle.mosaic_laws.proofs.Least.{under-finite}
+use Rattle.diploid_laws.proofs.Signs.{NotAbove, lt-itself, not-below-trans, difference-not-above, not-above-le, mul-not-above, not-below-add}
+use Rattle.diploid_laws.proofs.Largest.{either-of, larger-left, larger-right}
+use Rattle.diploid_laws.proofs.QualityBounds.{one-above, pow10-zero, ten-above, ten-within, smaller-zero}
 
--- finite and not below zero
+-- ---- from 0 to n
+
 pub record Chance (n : ℕ) (x : Float) : Type 0 where
   pub within : Within n x
   pub not-negative : NotBelow x
 
-chance-add : {a b : ℕ} {x y : Float} → Chance a x → Chance b y → a + b ≤ 2 ^ 53 → Chance (a + b) (x ⊕ y)
-chance-add {x = x} {y = y} h k l = let w = within-add (h .within) (k .within) l in record { within = w; not-negative = not-below-add x y (h .not-negative) (k .not-negative) (w .is-finite) }
+pub chance-add : {a b : ℕ} {x y : Float} → Chance a x → Chance b y → a + b ≤ 2 ^ 53 → Chance (a + b) (x ⊕ y)
+chance-add {x = x} {y = y} h k l =
+    let w = within-add (h .within) (k .within) l in
+    record { within = w; not-negative = not-below-add x y (h .not-negative) (k .not-negative) (w .is-finite) }
 
 pub nothing : Chance 0 (nat 0)
 unfolding ofInt
@@ -42,163 +44,173 @@ nothing = record { within = within-whole (pos 0) 0 (lit≤ tt) (lit≤ tt); not-
 pub chance-more : {a b : ℕ} {x : Float} → Chance a x → a ≤ b → Chance b x
 chance-more h l = record { within = within-more (h .within) l; not-negative = h .not-negative }
 
--- at most 0
-module _ (l : List Float) (n : ℕ) (some : 0 < n) (few : n ≤ 36) (given : (i : ℕ) → i < n → Within (2 ^ 47) (getD l i nan)) where
-  abbrev ten : ℕ → Float
-  ten i = inTens (getD l i nan)
+-- ten to a y of at most 0
+pub pow10-chance : {n : ℕ} (y : Float) → Within n y → NotAbove y → n * 3 ≤ 2 ^ 53 → Chance 1 (pow10Of y)
+unfolding pow10Of ofInt
+pow10-chance y w h l =
+    let z = y ⊗ lnOf (nat 10) in
+    let r = exp-at-most-one z (not-above-le z (mul-not-above y (lnOf (nat 10)) h (ten-above .is-positive) (within-mul w ten-within l .is-finite))) in
+    record { within = r .0; not-negative = r .1 }
 
-  pub ten-within : (i : ℕ) → i < n → Within (2 ^ 47) (ten i)
-  ten-within i h = within-div (given i h) ten-above (lit≤ tt)
+-- ---- lists: each member, and some member
 
-  pub ten-fits : (i : ℕ) → T (fits binary64 (ten i))
-  ten-fits i = div-fits binary64 (getD l i nan) (lnOf (nat 10))
+abbrev pub Each : (Float → Type 0) → List Float → Type 0
+Each P [] = Unit
+Each P (x ∷ l) = P x × Each P l
 
-  -- ---- the largest
+abbrev Some : (Float → Type 0) → List Float → Type 0
+Some P [] = ⊥
+Some P (x ∷ l) = P x ⊎ Some P l
 
-  record Top (k : ℕ) (t : Float) : Type 0 where
-    pub at : ℕ
-    pub at-in : at < k
-    pub is-it : t ≡ ten at
-    pub none-above : (i : ℕ) → i < k → lt t (ten i) ≡ false
+-- by places
+pub each-place : (P : Float → Type 0) (l : List Float) → ((i : ℕ) → i < length l → P (getD l i nan)) → Each P l
+each-place P [] h = tt
+each-place P (x ∷ l) h = (h 0 (some (length l)), each-place P l (λ i m. h (suc i) (next i (length l) m)))
+  where
+    some : (n : ℕ) → 0 < suc n
+    some n = omega arith
 
-  top-more : (k : ℕ) → k < n → (t : Float) → Top k t → Top (suc k) (larger t (ten k))
-  top-more k m t h = go (lt t (ten k)) refl
-    where
-      t-is : t ≡ ten (h .at)
-      t-is = h .is-it
+    next : (i n : ℕ) → i < n → suc i < suc n
+    next i n m = omega arith
 
-      at-low : h .at < n
-      at-low = omega (arith, h .at-in)
+pub each-map : (P Q : Float → Type 0) (f : Float → Float) → ((x : Float) → P x → Q (f x)) → (l : List Float) → Each P l → Each Q (map f l)
+each-map P Q f h [] e = tt
+each-map P Q f h (x ∷ l) e = (h x (e .0), each-map P Q f h l (e .1))
 
-      through : (i : ℕ) → i < k → lt t (ten k) ≡ true → lt (ten k) (ten i) ≡ false
-      through i q e =
-          not-below-trans (ten i) t (ten k) (ten-fits i) (subst (λ (x : Float). T (fits binary64 x)) (sym t-is) (ten-fits (h .at))) (ten-fits k) (within-number (ten-within i (omega arith))) (within-number (subst (Within (2 ^ 47)) (sym t-is) (ten-within (h .at) at-low))) (within-number (ten-within k m)) (h .none-above i q) (lt-not-back t (ten k) e)
+each-both : (P Q R : Float → Type 0) → ((x : Float) → P x → Q x → R x) → (l : List Float) → Each P l → Each Q l → Each R l
+each-both P Q R h [] e g = tt
+each-both P Q R h (x ∷ l) e g = (h x (e .0) (g .0), each-both P Q R h l (e .1) (g .1))
 
-      split : (P : ℕ → Type 0) (i : ℕ) → i < suc k → P k → (i < k → P i) → P i
-      split P i q a b = pick (eqb i k) refl
-        where
-          pick : (c : Bool) → eqb i k ≡ c → P i
-          pick true e = subst P (sym (eqb-true i k e)) a
-          pick false e = let d = eqb-false i k e in b (omega arith)
+some-map : (P Q : Float → Type 0) (f : Float → Float) → ((x : Float) → P x → Q (f x)) → (l : List Float) → Some P l → Some Q (map f l)
+some-map P Q f h (x ∷ l) s = elim s [ inl p ↦ inl (h x p) | inr r ↦ inr (some-map P Q f h l r) ]
 
-      go : (c : Bool) → lt t (ten k) ≡ c → Top (suc k) (cond c (ten k) t)
-      go true e = record { at = k; at-in = omega arith; is-it = refl; none-above = λ i q. split (λ i. lt (ten k) (ten i) ≡ false) i q (lt-itself (ten k)) (λ r. through i r e) }
-      go false e = record { at = h .at; at-in = omega (arith, h .at-in); is-it = t-is; none-above = λ i q. split (λ i. lt t (ten i) ≡ false) i q e (h .none-above i) }
+-- ---- the largest
 
-  top-first : Top 1 (topOf larger l 1)
-  top-first = rw (under-finite (ten 0) (ten-within 0 some .is-finite)) (record { at = 0; at-in = lit< tt; is-it = refl; none-above = only })
-    where
-      only : (i : ℕ) → i < 1 → lt (ten 0) (ten i) ≡ false
-      only zero h = lt-itself (ten 0)
-      only (suc i) h = absurd (beyond i h)
-        where
-          beyond : (i : ℕ) → suc i < 1 → ⊥
-          beyond i h = omega arith
+-- a decimal logarithm that is no infinity
+pub record Term (x : Float) : Type 0 where
+  pub within : Within (2 ^ 47) x
+  pub is-f64 : T (fits binary64 x)
 
-  top-at : (k : ℕ) → suc k ≤ n → Top (suc k) (topOf larger l (suc k))
-  top-at zero h = top-first
-  top-at (suc k) h = top-more (suc k) h (topOf larger l (suc k)) (top-at k (omega arith))
+pub in-tens-term : (x : Float) → Within (2 ^ 47) x → Term (inTens x)
+in-tens-term x w = record { within = within-div w ten-above (lit≤ tt); is-f64 = div-fits binary64 x (lnOf (nat 10)) }
 
+-- t is one of x and l, and none of them is above it
+record Top (x : Float) (l : List Float) (t : Float) : Type 0 where
+  pub term : Term t
+  pub first-below : lt t x ≡ false
+  pub rest-below : Each (λ y. lt t y ≡ false) l
+  pub is-one : Some (λ y. t ≡ y) (x ∷ l)
+
+top-through : (x y t : Float) → Term x → Term y → Term t → lt y x ≡ false → lt t y ≡ false → lt t x ≡ false
+top-through x y t X Y H h k =
+    not-below-trans x y t (X .is-f64) (Y .is-f64) (H .is-f64) (within-number (X .within)) (within-number (Y .within)) (within-number (H .within)) h k
+
+top-is : (x : Float) (l : List Float) → Term x → Each Term l → Top x l (largestFrom larger x l)
+top-is x [] X L = record { term = X; first-below = lt-itself x; rest-below = tt; is-one = inl refl }
+top-is x (y ∷ l) X L =
+    let z = larger x y in
+    let Z = either-of Term (lt x y) x y X (L .0) in
+    let h = top-is z l Z (L .1) in
+    let t = largestFrom larger z l in
+    record {
+      term = h .term;
+      first-below = top-through x z t X Z (h .term) (larger-left x y) (h .first-below);
+      rest-below = (top-through y z t (L .0) Z (h .term) (larger-right x y) (h .first-below), h .rest-below);
+      is-one = elim (h .is-one) [ inl e ↦ one-of (lt x y) t e | inr r ↦ inr (inr r) ];
+    }
+  where
+    one-of : (b : Bool) (t : Float) → t ≡ cond b y x → Some (λ v. t ≡ v) (x ∷ y ∷ l)
+    one-of true t e = inr (inl e)
+    one-of false t e = inl e
+
+-- ---- a sum of chances, and where one of them is at least 1
+
+sum-chance : (n : ℕ) (s : Float) (l : List Float) → Chance n s → Each (Chance 1) l → n + length l ≤ 2 ^ 53 → Chance (n + length l) (sumFrom s l)
+sum-chance n s [] h e m = rw add-zero h
+sum-chance n s (x ∷ l) h e m =
+    subst (λ (k : ℕ). Chance k (sumFrom (s ⊕ x) l)) (one-more n (length l)) (sum-chance (n + 1) (s ⊕ x) l (chance-add h (e .0) (omega arith)) (e .1) (omega arith))
+  where
+    one-more : (n k : ℕ) → n + 1 + k ≡ n + suc k
+    one-more n k = omega arith
+
+above-left : {a b : ℕ} (x y : Float) → Above 0 x → Chance a x → Chance b y → a + b ≤ 2 ^ 53 → Above 0 (x ⊕ y)
+above-left {a} {b} x y h X Y l =
+    let e = add-either x y (X .within .is-finite) (Y .within .is-finite) in
+    subst (λ (z : Float). Above 0 z) (sym e) (above-add (Y .not-negative) h zero-le (subst (Within (a + b)) e (within-add (X .within) (Y .within) l)))
+
+sum-above : (n : ℕ) (s : Float) (l : List Float) → Chance n s → Each (Chance 1) l → n + length l ≤ 2 ^ 53 → Some (Above 0) (s ∷ l) → Above 0 (sumFrom s l)
+sum-above n s [] h e m some = elim some [ inl a ↦ a | inr r ↦ absurd r ]
+sum-above n s (x ∷ l) h e m some =
+    let both = chance-add h (e .0) (omega arith) in
+    sum-above (n + 1) (s ⊕ x) l both (e .1) (omega arith) (elim some [
+      | inl a ↦ inl (above-left s x a h (e .0) (omega arith))
+      | inr r ↦ elim r [ inl a ↦ inl (above-add (h .not-negative) a zero-le (both .within)) | inr q ↦ inr q ]
+    ])
+
+-- ---- the whole, and the probabilities
+
+module _ (x : Float) (l : List Float) (X : Term x) (L : Each Term l) (few : length l ≤ 36) where
   abbrev top : Float
-  top = topOf larger l n
+  top = largestFrom larger x l
 
-  top-is : Top n top
-  top-is = go n some refl
+  the-top : Top x l top
+  the-top = top-is x l X L
+
+  abbrev powerOf : Float → Float
+  powerOf y = pow10Of (y ⊖ top)
+
+  power : (y : Float) → Term y → lt top y ≡ false → Chance 1 (powerOf y)
+  power y Y h =
+      let t = the-top .term .within in
+      let w = within-sub (Y .within) t (lit≤ tt) in
+      pow10-chance (y ⊖ top) w (difference-not-above y top (Y .within .is-finite) (t .is-finite) w h) (lit≤ tt)
+
+  power-at-top : (y : Float) → top ≡ y → Above 0 (powerOf y)
+  power-at-top y e =
+      subst (λ (z : Float). Above 0 (pow10Of (z ⊖ top))) e
+      (subst (λ (z : Float). Above 0 z) (sym (ap pow10Of (less-itself top (the-top .term .within .is-finite)) ∙ pow10-zero false)) one-above)
+
+  abbrev powers : List Float
+  powers = map powerOf l
+
+  each-power : Each (Chance 1) powers
+  each-power = each-map (λ y. Term y × (lt top y ≡ false)) (Chance 1) powerOf (λ y h. power y (h .0) (h .1)) l
+      (each-both Term (λ y. lt top y ≡ false) (λ y. Term y × (lt top y ≡ false)) (λ y a b. (a, b)) l L (the-top .rest-below))
+
+  abbrev sum : Float
+  sum = sumFrom (powerOf x) powers
+
+  room : 1 + length powers ≤ 2 ^ 53
+  room = let e = length-map l powerOf in omega arith
+
+  sum-positive : Above 0 sum
+  sum-positive =
+      sum-above 1 (powerOf x) powers (power x X (the-top .first-below)) each-power room (some-map (λ y. top ≡ y) (Above 0) powerOf power-at-top (x ∷ l) (the-top .is-one))
+
+  sums-fit : (s : Float) (l : List Float) → T (fits binary64 s) → T (fits binary64 (sumFrom s l))
+  sums-fit s [] f = f
+  sums-fit s (y ∷ l) f = sums-fit (s ⊕ y) l (add-fits binary64 s y)
+
+  pub sum-fits : T (fits binary64 sum)
+  sum-fits = sums-fit (powerOf x) powers (unfold pow10Of in exp-fits ((x ⊖ top) ⊗ lnOf (nat 10)))
+
+  pub log-within : Within (2 ^ 12) (log10Of sum)
+  log-within = within-log10 sum sum-fits (sum-positive .is-positive)
+
+  whole-from : Within (2 ^ 48) (wholeOver larger (x ∷ l))
+  unfolding wholeOver
+  whole-from = within-more (within-add (the-top .term .within) log-within (lit≤ tt)) (lit≤ tt)
+
+module _ (l : List Float) (some : 0 < length l) (few : length l ≤ 36) (terms : Each Term l) where
+  pub whole-within : Within (2 ^ 48) (wholeOver larger l)
+  whole-within = go l some few terms
     where
-      go : (m : ℕ) → 0 < m → n ≡ m → Top n top
-      go zero h e = absurd (not-suc-le-zero h)
-      go (suc m) h e = subst (λ (k : ℕ). Top k (topOf larger l k)) (sym e) (top-at m (omega arith))
+      go : (l : List Float) → 0 < length l → length l ≤ 36 → Each Term l → Within (2 ^ 48) (wholeOver larger l)
+      go [] h k t = absurd (not-suc-le-zero h)
+      go (x ∷ l) h k t = whole-from x l (t .0) (t .1) (omega arith)
 
-  top-within : Within (2 ^ 47) top
-  top-within = subst (Within (2 ^ 47)) (sym (top-is .is-it)) (ten-within (top-is .at) (top-is .at-in))
-
-  -- ---- the sum of the powers of ten: one of them is ten to 0
-
-  power : (i : ℕ) → i < n → Chance 2 (pow10Of (ten i ⊖ top))
-  power i h =
-      let w = within-sub (ten-within i h) top-within (lit≤ tt) in
-      let r = pow10-within (ten i ⊖ top) w (difference-not-above (ten i) top (ten-within i h .is-finite) (top-within .is-finite) w (top-is .none-above i h)) (lit≤ tt) in
-      record { within = r .0; not-negative = r .1 }
-
-  power-at-top : Above 0 (pow10Of (ten (top-is .at) ⊖ top))
-  power-at-top =
-      let j = top-is .at in
-      subst (λ (p : Float). Above 0 p) (sym (ap (λ (t : Float). pow10Of (ten j ⊖ t)) (top-is .is-it) ∙ ap pow10Of (less-itself (ten j) (ten-within j (top-is .at-in) .is-finite)) ∙ pow10-zero false)) one-above
-
-  sum-chance : (k : ℕ) → k ≤ n → Chance (0 + k * 2) (sumOf l top k)
-  sum-chance k h =
-      grows Chance 0 2 (λ i s. s ⊕ pow10Of (ten i ⊖ top)) (nat 0) k
-      (λ i m x c. chance-add c (power i (omega arith)) (omega (arith, few)))
-      nothing
-
-  above-left : {m : ℕ} (x y : Float) → Above 0 x → Chance m y → Within m x → m + m ≤ 2 ^ 53 → Above 0 (x ⊕ y)
-  above-left {m} x y h k w q =
-      let e = add-either x y (w .is-finite) (k .within .is-finite) in
-      subst (λ (z : Float). Above 0 z) (sym e) (above-add (k .not-negative) h zero-le (subst (Within (m + m)) e (within-add w (k .within) q)))
-
-  sum-above : (k : ℕ) → k ≤ n → top-is .at < k → Above 0 (sumOf l top k)
-  sum-above zero h q = absurd (not-suc-le-zero q)
-  sum-above (suc k) h q = go (eqb (top-is .at) k) refl (λ r. sum-above k (omega arith) r)
-    where
-      so-far : Chance (0 + k * 2) (sumOf l top k)
-      so-far = sum-chance k (omega arith)
-
-      go : (c : Bool) → eqb (top-is .at) k ≡ c → (top-is .at < k → Above 0 (sumOf l top k)) → Above 0 (sumOf l top k ⊕ pow10Of (ten k ⊖ top))
-      go true e r =
-          above-add (so-far .not-negative) (subst (λ (i : ℕ). Above 0 (pow10Of (ten i ⊖ top))) (eqb-true (top-is .at) k e) power-at-top) zero-le (within-add (so-far .within) (power k h .within) (omega (arith, few)))
-      go false e r =
-          let d = eqb-false (top-is .at) k e in
-          above-left {m = 2 ^ 10} (sumOf l top k) (pow10Of (ten k ⊖ top)) (r (omega arith)) (chance-more (power k h) (lit≤ tt)) (within-more (so-far .within) (omega (arith, few))) (lit≤ tt)
-
-  sum-fits : (k : ℕ) → T (fits binary64 (sumOf l top k))
-  sum-fits zero = ofInt-fits binary64 (pos 0)
-  sum-fits (suc k) = add-fits binary64 (sumOf l top k) (pow10Of (ten k ⊖ top))
-
-  pub log-within : Within (2 ^ 12) (log10Of (sumOf l top n))
-  log-within = within-log10 (sumOf l top n) (sum-fits n) (sum-above n (omega arith) (top-is .at-in) .is-positive)
-
-  pub whole-within : Within (2 ^ 48) (wholeOf larger l n)
-  unfolding wholeOf
-  whole-within = within-more (within-add top-within log-within (lit≤ tt)) (lit≤ tt)
-
-  -- ---- the probabilities, and the quality
-
-  pub chance : (i : ℕ) → i < n → Chance 2 (probabilityOf smaller (wholeOf larger l n) (getD l i nan))
-  unfolding probabilityOf
-  chance i h =
-      let s = smaller-zero (ten i ⊖ wholeOf larger l n) (within-sub (ten-within i h) whole-within (lit≤ tt)) in
-      let r = pow10-within (smaller (ten i ⊖ wholeOf larger l n) (nat 0)) (s .0) (s .1) (lit≤ tt) in
-      record { within = r .0; not-negative = r .1 }
-
--- of chances, all but one, and the quality that they make
-module _ (ps : List Float) (n : ℕ) (few : n ≤ 36) (chances : (i : ℕ) → i < n → Chance 2 (getD ps i nan)) (best : ℕ) where
-  wrong-chance : (k : ℕ) → k ≤ n → Chance (0 + k * 2) (wrongOf ps best k)
-  wrong-chance k h =
-      grows Chance 0 2 (λ i s. cond (not (eqb i best)) (s ⊕ getD ps i nan) s) (nat 0) k
-      (λ i m x c.
-      either (Chance (0 + i * 2 + 2)) (not (eqb i best)) (x ⊕ getD ps i nan) x
-      (λ e. chance-add c (chances i (omega arith)) (omega (arith, few)))
-      (λ e. chance-more c (omega arith)))
-      nothing
-
-  wrong-fits : (k : ℕ) → T (fits binary64 (wrongOf ps best k))
-  wrong-fits zero = ofInt-fits binary64 (pos 0)
-  wrong-fits (suc k) = either (λ v. T (fits binary64 v)) (not (eqb k best)) (wrongOf ps best k ⊕ getD ps k nan) (wrongOf ps best k) (λ e. add-fits binary64 (wrongOf ps best k) (getD ps k nan)) (λ e. wrong-fits k)
-
-  -- −10·log10 of a sum above 0
-  pub raw-within : lt (nat 0) (wrongOf ps best n) ≡ true → Within (2 ^ 16) (whole (negsuc 9) ⊗ log10Of (wrongOf ps best n))
-  raw-within e =
-      let p = positive-by-test (wrongOf ps best n) (wrong-chance n (omega arith) .within .is-finite) (unfold ofInt in e) in
-      within-more (within-mul (within-whole (negsuc 9) 10 (lit≤ tt) (lit≤ tt)) (within-log10 (wrongOf ps best n) (wrong-fits n) p) (lit≤ tt)) (lit≤ tt)
-
-  pub quality-within : Within (2 ^ 16) (qualityBy smaller (wrongOf ps best n))
-  unfolding qualityBy
-  quality-within =
-      let w = wrongOf ps best n in
-      let thousand = within-whole (pos 1000) (2 ^ 16) (lit≤ tt) (lit≤ tt) in
-      within-div
-      (either (Within (2 ^ 16)) (lt (nat 0) w) (smaller (whole (negsuc 9) ⊗ log10Of w) (nat 1000)) (nat 1000)
-      (λ e. either (Within (2 ^ 16)) (lt (nat 1000) (whole (negsuc 9) ⊗ log10Of w)) (nat 1000) (whole (negsuc 9) ⊗ log10Of w) (λ t. thousand) (λ t. raw-within e))
-      (λ e. thousand))
-      (above-whole 10 (lit< tt) (lit≤ tt))
-      (lit≤ tt)
+  -- the probability of any number beside them
+  pub chance : (y : Float) → Term y → Chance 1 (pow10Of (lessWhole smaller (wholeOver larger l) y))
+  chance y Y =
+      let s = smaller-zero (y ⊖ wholeOver larger l) (within-sub (Y .within) whole-within (lit≤ tt)) in
+      pow10-chance (lessWhole smaller (wholeOver larger l) y) (s .0) (s .1) (lit≤ tt)
