@@ -1,6 +1,7 @@
--- On accepted inputs with a read there is a hypothesis, and nothing in the answer is a NaN or an infinity: `finite-answer`. With the refusals, the same of
--- every answer: `every-answer`. Assumes nothing.
+-- On accepted inputs with a read there is a hypothesis, nothing in the answer is a NaN or an infinity, each probability lies from 0 to 1 and the quality from
+-- −2 to 100: `finite-answer`. With the refusals, the same of every answer: `every-answer`. Assumes nothing.
 use mathlib.Core.Path.{_≡_, refl, sym, ap, _∙_, subst}
+use mathlib.Core.Logic.{inr}
 use mathlib.Core.Bool.{Bool, true, false, not, _||_, cond, true≢false}
 use mathlib.Core.List.{List, [], _∷_, map}
 use mathlib.Mathlib.Data.Bool.Basic.{and-elim-left}
@@ -8,18 +9,24 @@ use Prim.Native.Nat.{ℕ, zero, suc, pred, _-_, _^_, _≤_, _<_}
 use native.Mathlib.Nat.{not-suc-le-zero}
 use native.Mathlib.Omega.{arith}
 use borrow.Author.Tests.{ltb-true, ltb-false, leb-true, eqb-false}
+use lib.IntN.{pos, negℤ}
 use lib.Dec.{T, leb, ltb, eqb, lit≤, eqb·suc-zero}
-use lib.ListN.{length, getD, replicate, getD-replicate, length-append, length-map, List·getD-append}
-use lib.Ieee.{Float, nan, binary64, lt, fits}
+use lib.ListN.{length, getD, take, replicate, getD-replicate, length-append, length-map, List·getD-append}
+use lib.Seq.{length-take-le, getD-take}
+use lib.Ieee.{Float, nan, binary64, lt, le, fits}
 use lib.Ieee.Positive.{positive}
-use Rattle.floats.specs.F64.{nat}
+use Rattle.floats.specs.F64.{nat, whole}
 use Rattle.floats.specs.Within.{Within, NotBelow}
 use Rattle.floats.proofs.Bounds.{within-more, positive-not-below}
 use Rattle.refusals.specs.declared.Refusal.{Refusal}
 use Rattle.refusals.specs.declared.Refusal.the-variants.{TooMany, Count, Model, NoCall}
 use Rattle.limits.specs.Limits.{countsAllowed}
 use Rattle.picks.specs.Order.{larger, smaller}
-use Rattle.probabilities.specs.Quality.{wholeOf, probabilityOf, probabilities}
+use Rattle.tens.specs.Log10.{pow10Of}
+use Rattle.tens.specs.Normalised.{inTens, wholeOver, lessWhole}
+use Rattle.probabilities.specs.Quality.{tensOf, probabilities, wrongOf, qualityBy}
+use Rattle.probabilities.specs.Inner.{probabilityOf}
+use Rattle.probabilities.proofs.Normal.{probability-at, probability-beyond}
 use Rattle.probabilities.proofs.InUse.{in-use-all}
 use Rattle.lists.specs.Lists.{numbers, passing}
 use Rattle.lists.proofs.PlaceLaws.{number-at, map-at}
@@ -35,14 +42,15 @@ use Rattle.mosaic.specs.Genotype.{blank, flagsOf, calledOf, genotypeBy, genotyp
 use Rattle.models.specs.declared.params.Params.{Params}
 use Rattle.alleles.specs.declared.pair.Pair.{Pair}
 use Rattle.mosaic.specs.declared.genotype.MosaicResult.{MosaicResult}
-use Rattle.lists.proofs.OverLaws.{placed-at, placed-beyond}
+use Rattle.lists.proofs.PaddedLaws.{padded-length}
 use Rattle.probabilities.proofs.WinnerLaws.{winner-low}
 use Rattle.hypotheses.proofs.Scanned.{all-seen, at-most-36}
 use Rattle.mosaic_laws.specs.Accepted.{Accepted}
 use Rattle.mosaic_laws.proofs.Seen.{seen-some, seen-in, count-in}
 use Rattle.mosaic_laws.proofs.Places.{flag-at, found-rest}
 use Rattle.mosaic_laws.proofs.Finite.{posterior-within, found-vafs}
-use Rattle.mosaic_laws.proofs.Chances.{Chance, chance-more, nothing, chance, quality-within}
+use Rattle.mosaic_laws.proofs.Chances.{Chance, chance-more, nothing, Each, Term, each-map, each-place, in-tens-term, chance}
+use Rattle.mosaic_laws.proofs.Qualities.{wrong-chance, wrong-fits, bounded, minus-two}
 
 -- ---- the members of a list that pass a test
 
@@ -127,12 +135,15 @@ pub record VafOf (flag : Bool) (v : Float) : Type 0 where
   pub of-somatic : flag ≡ true → T (positive v) × (lt v (nat 1) ≡ true)
   pub of-other : flag ≡ false → v ≡ nat 0
 
--- no float of an answer is a NaN or an infinity
+-- no float of an answer is a NaN or an infinity; each probability lies from 0 to 1, and the quality from −2 to 100
 pub record FiniteAnswer (a : MosaicResult) : Type 0 where
   pub posterior-is : Within (2 ^ 47) (a .posterior)
-  pub quality-is : Within (2 ^ 16) (a .quality)
+  pub quality-is : Within 100 (a .quality)
+  pub quality-least : T (le (whole (negℤ (pos 2))) (a .quality))
+  -- with one hypothesis or two it is not below 0
+  pub quality-of-two : a .hypotheses ≤ 2 → NotBelow (a .quality)
   pub vafs-are : (i : ℕ) → i < 8 → VafOf (getD (a .somatic) i false) (getD (a .vafs) i nan)
-  pub chances-are : (i : ℕ) → i < 36 → Chance 2 (getD (a .probabilities) i nan)
+  pub chances-are : (i : ℕ) → i < 36 → Chance 1 (getD (a .probabilities) i nan)
   -- beyond the hypotheses stands 0.0
   pub beyond-are : (i : ℕ) → a .hypotheses ≤ i → i < 36 → getD (a .probabilities) i nan ≡ nat 0
 
@@ -161,25 +172,66 @@ module _ (p : Params) (counts : List ℕ) (ok : Accepted p counts) where
       (sym (List·getD-append m (replicate (36 - length m) (nat 0)) nan i (rw (length-map (hypotheses counts) posterior) h) ∙ map-at posterior (hypotheses counts) (pair 0 0) nan i h))
       (each-within i h)
 
-  chance-at : (i : ℕ) → i < n → getD (probabilities larger smaller posts n) i nan ≡ probabilityOf smaller (wholeOf larger posts n) (getD posts i nan)
-  unfolding probabilities
-  chance-at i h = rw (in-use-all n (at-most-36 counts)) (placed-at (replicate 36 (nat 0)) (λ i. probabilityOf smaller (wholeOf larger posts n) (getD posts i nan)) nan n (at-most-36 counts) i h)
+  posts-length : length posts ≡ 36
+  unfolding posteriors
+  posts-length = let m = map posterior (hypotheses counts) in padded-length 36 (nat 0) m (subst (λ (k : ℕ). k ≤ 36) (sym (length-map (hypotheses counts) posterior)) (at-most-36 counts))
 
-  chance-beyond : (i : ℕ) → n ≤ i → i < 36 → getD (probabilities larger smaller posts n) i nan ≡ nat 0
-  unfolding probabilities
-  chance-beyond i h m =
-      rw (in-use-all n (at-most-36 counts))
-      (placed-beyond (replicate 36 (nat 0)) (λ i. probabilityOf smaller (wholeOf larger posts n) (getD posts i nan)) nan n i h ∙ getD-replicate 36 i (nat 0) nan m)
+  -- the posteriors of the hypotheses as decimal logarithms
+  abbrev tens : List Float
+  tens = tensOf posts n
 
-  pub chance-there : 0 < n → (i : ℕ) → i < n → Chance 2 (getD (probabilities larger smaller posts n) i nan)
-  chance-there some i h = subst (Chance 2) (sym (chance-at i h)) (chance posts n some (at-most-36 counts) posteriors-within i h)
+  taken : length (take n posts) ≡ n
+  taken = length-take-le n posts (subst (λ (k : ℕ). n ≤ k) (sym posts-length) (at-most-36 counts))
 
-  chance-each : 0 < n → (i : ℕ) → i < 36 → Chance 2 (getD (probabilities larger smaller posts n) i nan)
+  pub tens-length : length tens ≡ n
+  tens-length = length-map (take n posts) inTens ∙ taken
+
+  pub tens-terms : Each Term tens
+  tens-terms =
+      each-map (Within (2 ^ 47)) Term inTens in-tens-term (take n posts)
+      (each-place (Within (2 ^ 47)) (take n posts) (λ i h.
+      let m : i < n = subst (λ (k : ℕ). i < k) taken h in
+      subst (Within (2 ^ 47)) (sym (getD-take n posts i nan m)) (posteriors-within i m)))
+
+  abbrev probs : List Float
+  probs = probabilities larger smaller posts n
+
+  pub chance-there : 0 < n → (i : ℕ) → i < n → Chance 1 (getD probs i nan)
+  unfolding probabilityOf
+  chance-there some i h =
+      let e = in-use-all n (at-most-36 counts) in
+      let at = probability-at larger smaller posts posts-length n i (subst (λ (k : ℕ). i < k) (sym e) h) in
+      let c = chance tens (subst (λ (k : ℕ). 0 < k) (sym tens-length) some) (subst (λ (k : ℕ). k ≤ 36) (sym tens-length) (at-most-36 counts)) tens-terms (inTens (getD posts i nan)) (in-tens-term (getD posts i nan) (posteriors-within i h)) in
+      subst (Chance 1) (sym at) (subst (λ (k : ℕ). Chance 1 (probabilityOf smaller (wholeOver larger (tensOf posts k)) (getD posts i nan))) (sym e) c)
+
+  chance-beyond : (i : ℕ) → n ≤ i → i < 36 → getD probs i nan ≡ nat 0
+  chance-beyond i h m = probability-beyond larger smaller posts posts-length n i (subst (λ (k : ℕ). k ≤ i) (sym (in-use-all n (at-most-36 counts))) h) m
+
+  chance-each : 0 < n → (i : ℕ) → i < 36 → Chance 1 (getD probs i nan)
   chance-each some i m = go (ltb i n) refl
     where
-      go : (t : Bool) → ltb i n ≡ t → Chance 2 (getD (probabilities larger smaller posts n) i nan)
+      go : (t : Bool) → ltb i n ≡ t → Chance 1 (getD probs i nan)
       go true e = chance-there some i (ltb-true i n e)
-      go false e = subst (Chance 2) (sym (chance-beyond i (ltb-false i n e) m)) (chance-more nothing (lit≤ tt))
+      go false e = subst (Chance 1) (sym (chance-beyond i (ltb-false i n e) m)) (chance-more nothing (lit≤ tt))
+
+  -- the probabilities of all but the winner, and the quality that they make
+  pub best-there : 0 < n → winner posts n < n
+  best-there some = low n (winner posts n) some (winner-low posts n (pred n) (omega arith))
+    where
+      low : (n b : ℕ) → 0 < n → b ≤ pred n → b < n
+      low n b h k = omega arith
+
+  abbrev pub wrong : Float
+  wrong = wrongOf probs (winner posts n) n
+
+  wrong-there : 0 < n → Chance (pred n) wrong
+  wrong-there some = wrong-chance probs n (at-most-36 counts) (chance-there some) (winner posts n) n (omega arith) (best-there some)
+
+  pub wrong-within : 0 < n → Chance 35 wrong
+  wrong-within some = chance-more (wrong-there some) (omega (arith, at-most-36 counts))
+
+  pub wrong-number : 0 < n → T (fits binary64 wrong)
+  wrong-number some = wrong-fits probs n (at-most-36 counts) (chance-there some) (winner posts n) n
 
   vaf-each : (g : Pair) → bothSeen counts g ≡ true → (i : ℕ) → i < 8 → VafOf (getD (flagsOf counts g) i false) (vafAt (foundOf first p counts g .vafs) i)
   vaf-each g both i m = rw (flag-at counts (ok .few) g i m) (go (somaticIn counts g i) refl)
@@ -196,18 +248,21 @@ module _ (p : Params) (counts : List ℕ) (ok : Accepted p counts) where
       let some = some-hypothesis counts (ok .few) read in
       let few = at-most-36 counts in
       let best = winner posts n in
-      let probs = probabilities larger smaller posts n in
-      let m = low n best some (winner-low posts n (pred n) (omega arith)) in
+      let m = best-there some in
+      let q = bounded wrong (wrong-number some) (wrong-within some) in
+      let e = in-use-all n few in
       record {
         posterior-is = each-within best m;
-        quality-is = rw (in-use-all n few) (quality-within probs n few (chance-there some) best);
+        quality-is = rw e (q .at-most-hundred);
+        quality-least = rw e (minus-two (qualityBy smaller wrong) (q .at-most-hundred .is-finite) (q .at-least));
+        quality-of-two = λ l. rw e (q .not-negative (within-more (wrong-there some .within) (one-other n l)));
         vafs-are = vaf-each (getD (hypotheses counts) best (pair 0 0)) (both-seen counts best m);
         chances-are = chance-each some;
         beyond-are = chance-beyond;
       }
     where
-      low : (n b : ℕ) → 0 < n → b ≤ pred n → b < n
-      low n b h k = omega arith
+      one-other : (n : ℕ) → n ≤ 2 → pred n ≤ 1
+      one-other n l = omega arith
 
 -- ---- every answer
 
@@ -215,6 +270,8 @@ blank-finite : (r : Refusal) → FiniteAnswer (blank r)
 blank-finite r = record {
   posterior-is = within-more (nothing .within) (lit≤ tt);
   quality-is = within-more (nothing .within) (lit≤ tt);
+  quality-least = minus-two (nat 0) (nothing .within .is-finite) (inr (nothing .not-negative));
+  quality-of-two = λ _. nothing .not-negative;
   vafs-are = λ i m. rw (getD-replicate 8 i false false m, getD-replicate 8 i (nat 0) nan m) nothing-here;
   chances-are = λ i m. rw (getD-replicate 36 i (nat 0) nan m) (chance-more nothing (lit≤ tt));
   beyond-are = λ i h m. getD-replicate 36 i (nat 0) nan m;

@@ -1,31 +1,30 @@
 -- Which zero a max and a min give changes no answer of mosaic. M7: every posterior is finite, so the steps are alike but for a zero's sign, which no power of
 -- ten sees, and a cap of 1000 is no zero: `mosaic-any`. M3: 0.01 is no zero: `share-any`. Assumes nothing.
-use mathlib.Core.Path.{_≡_, refl, sym, ap, _∙_, subst}
+use mathlib.Core.Path.{_≡_, refl, sym, ap, ap₂, _∙_, subst}
 use mathlib.Core.Bool.{Bool, true, false, _||_, cond}
-use mathlib.Core.List.{List}
+use mathlib.Core.List.{List, [], _∷_, map}
 use Prim.Native.Nat.{ℕ, zero, suc, _^_, _≤_, _<_}
 use native.Mathlib.Nat.{not-suc-le-zero}
 use native.Mathlib.Omega.{arith}
 use borrow.Author.Tests.{leb-true, eqb-false}
 use lib.IntN.{negsuc}
 use lib.Dec.{T, leb, ltb, eqb, lit≤}
-use lib.ListN.{length, getD, set, replicate}
-use lib.Ieee.{Float, nan, binary64, round, lt, fits}
+use lib.ListN.{length}
+use lib.Ieee.{Float, binary64, round, lt, fits}
 use lib.Ieee.Fits.{round-fits, add-fits, sub-fits, mul-fits, div-fits}
-use Rattle.floats.specs.F64.{_⊕_, _⊖_, _⊗_, _⊘_, nat, whole, decimal}
-use Rattle.floats.specs.Within.{Within}
+use Rattle.floats.specs.F64.{_⊕_, _⊖_, _⊗_, _⊘_, nat, whole, decimal, sumFrom}
 use Rattle.floats.proofs.Bounds.{within-sub}
-use Rattle.floats.proofs.Zeros.{Number, Alike, same, alike-sym, alike-trans, alike-equal, alike-number, add-alike, sub-alike}
+use Rattle.floats.proofs.Zeros.{Number, Alike, same, alike-sym, alike-trans, alike-number, add-alike, sub-alike}
 use Rattle.kernels.specs.Ln.{lnOf}
 use Rattle.tens.specs.Log10.{log10Of, pow10Of}
+use Rattle.tens.specs.Normalised.{largestFrom, wholeOver, lessWhole, normalisedOver}
 use Rattle.refusals.specs.declared.Refusal.the-variants.{TooMany, Count, Model, NoCall}
 use Rattle.limits.specs.Limits.{countsAllowed}
 use Rattle.models.specs.declared.params.Params.{Params}
-use Rattle.picks.specs.Order.{Pick, IsMax, IsMin, FromLeast, larger, smaller}
+use Rattle.picks.specs.Order.{Pick, IsMax, IsMin, larger, smaller}
+use Rattle.lists.specs.Lists.{padded}
 use Rattle.diploid_laws.proofs.Picks.{zero-number, max-alike, max-same, min-alike, cap-same, larger-alike, smaller-alike, larger-number, pow10-alike}
-use Rattle.lists.proofs.OverLaws.{over-same}
-use Rattle.probabilities.specs.Quality.{inTens, topOf, sumOf, wholeOf, probabilityOf, probabilities, wrongOf, qualityBy}
-use Rattle.probabilities.specs.Winner.{winner}
+use Rattle.probabilities.specs.Quality.{tensOf, probabilities, qualityBy}
 use Rattle.probabilities.proofs.InUse.{in-use-all}
 use Rattle.alleles.specs.Alleles.{totalOf}
 use Rattle.hypotheses.specs.Edition.{first}
@@ -37,107 +36,115 @@ use Rattle.mosaic.specs.Genotype.{blank, calledOf, genotypeBy, genotypeOf}
 use Rattle.mosaic.specs.declared.genotype.MosaicResult.{MosaicResult}
 use Rattle.mosaic_laws.specs.Accepted.{Accepted}
 use Rattle.mosaic_laws.proofs.OneLess.{one-less}
-use Rattle.mosaic_laws.proofs.Least.{under-finite}
-use Rattle.mosaic_laws.proofs.Chances.{Chance, ten-within, ten-fits, log-within, whole-within, raw-within}
-use Rattle.mosaic_laws.proofs.Answers.{some-hypothesis, posteriors-within, chance-there}
-
--- what is asked of a max holds of `larger`: `FromLeast` here, `IsMax` by `larger-is-max` (diploid_laws/proofs/ScoreBounds.antt)
-pub larger-from-least : FromLeast larger
-larger-from-least x f = rw (under-finite x f)
+use Rattle.mosaic_laws.proofs.Chances.{Chance, Each, Term, log-within, whole-within}
+use Rattle.mosaic_laws.proofs.Qualities.{rawOf, raw-within}
+use Rattle.mosaic_laws.proofs.Answers.{some-hypothesis, tens-length, tens-terms, wrong, wrong-within, wrong-number}
 
 -- ---- the probabilities and the quality
 
-module _ (max min : Pick) (is-max : IsMax max) (from-least : FromLeast max) (is-min : IsMin min) where
-  module _ (l : List Float) (n : ℕ) (some : 0 < n) (few : n ≤ 36) (given : (i : ℕ) → i < n → Within (2 ^ 47) (getD l i nan)) where
-    abbrev ten : ℕ → Float
-    ten i = inTens (getD l i nan)
+term-number : (x : Float) → Term x → Number x
+term-number x h = record { is-finite = h .within .is-finite; is-f64 = h .is-f64 }
 
-    ten-number : (i : ℕ) → i < n → Number (ten i)
-    ten-number i h = record { is-finite = ten-within l n some few given i h .is-finite; is-f64 = ten-fits l n some few given i }
+map-same : (f g : Float → Float) (P : Float → Type 0) → ((x : Float) → P x → f x ≡ g x) → (l : List Float) → Each P l → map f l ≡ map g l
+map-same f g P h [] e = refl
+map-same f g P h (x ∷ l) e = ap₂ _∷_ (h x (e .0)) (map-same f g P h l (e .1))
 
-    -- the largest of the first k, by either, is one number but for a zero's sign
-    record Tops (k : ℕ) : Type 0 where
-      pub alike : Alike (topOf max l k) (topOf larger l k)
-      pub number : Number (topOf larger l k)
+module _ (max min : Pick) (is-max : IsMax max) (is-min : IsMin min) where
+  -- the largest by either is one number but for a zero's sign
+  record Tops (t u : Float) : Type 0 where
+    pub alike : Alike t u
+    pub number : Number u
 
-    tops-at : (k : ℕ) → suc k ≤ n → Tops (suc k)
-    tops-at zero h =
-        let f = ten-number 0 h in
-        let own = larger-from-least (ten 0) (f .is-finite) in
-        record { alike = alike-equal (from-least (ten 0) (f .is-finite) ∙ sym own); number = subst Number (sym own) f }
-    tops-at (suc k) h =
-        let t = tops-at k (omega arith) in
-        let f = ten-number (suc k) h in
-        record {
-          alike = alike-trans (max-alike max is-max (topOf max l (suc k)) (ten (suc k)) (alike-number (alike-sym (t .alike)) (t .number)) f) (larger-alike (t .alike) same);
-          number = larger-number (topOf larger l (suc k)) (ten (suc k)) (t .number) f;
-        }
+  tops : (x y : Float) (l : List Float) → Alike x y → Number y → Each Term l → Tops (largestFrom max x l) (largestFrom larger y l)
+  tops x y [] h n e = record { alike = h; number = n }
+  tops x y (z ∷ l) h n e =
+      let f = term-number z (e .0) in
+      tops (max x z) (larger y z) l (alike-trans (max-alike max is-max x z (alike-number (alike-sym h) n) f) (larger-alike h same)) (larger-number y z n f) (e .1)
 
-    tops : Tops n
-    tops = go n some refl
+  module _ (x : Float) (l : List Float) (X : Term x) (L : Each Term l) (few : length l ≤ 36) where
+    abbrev t : Float
+    t = largestFrom max x l
+
+    abbrev u : Float
+    u = largestFrom larger x l
+
+    both : Tops t u
+    both = tops x x l same (term-number x X) L
+
+    top-number : Number t
+    top-number = alike-number (alike-sym (both .alike)) (both .number)
+
+    power-same : (y : Float) → Term y → pow10Of (y ⊖ t) ≡ pow10Of (y ⊖ u)
+    power-same y h = pow10-alike (sub-alike same (both .alike) (term-number y h) top-number)
+
+    sums : sumFrom (pow10Of (x ⊖ t)) (map (λ y. pow10Of (y ⊖ t)) l) ≡ sumFrom (pow10Of (x ⊖ u)) (map (λ y. pow10Of (y ⊖ u)) l)
+    sums = ap₂ sumFrom (power-same x X) (map-same (λ y. pow10Of (y ⊖ t)) (λ y. pow10Of (y ⊖ u)) Term power-same l L)
+
+    abbrev sum : Float
+    sum = sumFrom (pow10Of (x ⊖ u)) (map (λ y. pow10Of (y ⊖ u)) l)
+
+    wholes-from : Alike (wholeOver max (x ∷ l)) (wholeOver larger (x ∷ l))
+    unfolding wholeOver
+    wholes-from =
+        subst (λ (z : Float). Alike (t ⊕ log10Of z) (u ⊕ log10Of sum)) (sym sums)
+        (add-alike (both .alike) same top-number (record { is-finite = log-within x l X L few .is-finite; is-f64 = unfold log10Of in div-fits binary64 (lnOf sum) (lnOf (nat 10)) }))
+
+    whole-fits : T (fits binary64 (wholeOver larger (x ∷ l)))
+    unfolding wholeOver
+    whole-fits = add-fits binary64 u (log10Of sum)
+
+  module _ (l : List Float) (some : 0 < length l) (few : length l ≤ 36) (terms : Each Term l) where
+    wholes : Alike (wholeOver max l) (wholeOver larger l) × T (fits binary64 (wholeOver larger l))
+    wholes = go l some few terms
       where
-        go : (m : ℕ) → 0 < m → n ≡ m → Tops n
-        go zero h e = absurd (not-suc-le-zero h)
-        go (suc m) h e = subst Tops (sym e) (tops-at m (omega arith))
+        go : (l : List Float) → 0 < length l → length l ≤ 36 → Each Term l → Alike (wholeOver max l) (wholeOver larger l) × T (fits binary64 (wholeOver larger l))
+        go [] h k e = absurd (not-suc-le-zero h)
+        go (x ∷ l) h k e = (wholes-from x l (e .0) (e .1) (omega arith), whole-fits x l (e .0) (e .1) (omega arith))
 
-    top-number : Number (topOf max l n)
-    top-number = alike-number (alike-sym (tops .alike)) (tops .number)
+    whole-number : Number (wholeOver larger l)
+    whole-number = record { is-finite = whole-within l some few terms .is-finite; is-f64 = wholes .1 }
 
-    sums : sumOf l (topOf max l n) n ≡ sumOf l (topOf larger l n) n
-    sums =
-        over-same (λ i s. s ⊕ pow10Of (ten i ⊖ topOf max l n)) (λ i s. s ⊕ pow10Of (ten i ⊖ topOf larger l n)) (nat 0) n
-        (λ i h s. ap (λ (z : Float). s ⊕ z) (pow10-alike (sub-alike same (tops .alike) (ten-number i h) top-number)))
+    probability-same : (y : Float) → Term y → pow10Of (lessWhole min (wholeOver max l) y) ≡ pow10Of (lessWhole smaller (wholeOver larger l) y)
+    probability-same y h =
+        let w = wholeOver larger l in
+        let d = sub-alike same (wholes .0) (term-number y h) (alike-number (alike-sym (wholes .0)) whole-number) in
+        let k : Number (y ⊖ w) = record { is-finite = within-sub (h .within) (whole-within l some few terms) (lit≤ tt) .is-finite; is-f64 = sub-fits binary64 y w } in
+        pow10-alike (alike-trans (min-alike min is-min (y ⊖ wholeOver max l) (nat 0) (alike-number (alike-sym d) k) zero-number) (smaller-alike d same))
 
-    wholes : Alike (wholeOf max l n) (wholeOf larger l n)
-    unfolding wholeOf
-    wholes =
-        subst (λ (z : Float). Alike (topOf max l n ⊕ log10Of z) (wholeOf larger l n)) (sym sums)
-        (add-alike (tops .alike) same top-number (record { is-finite = log-within l n some few given .is-finite; is-f64 = unfold log10Of in div-fits binary64 (lnOf (sumOf l (topOf larger l n) n)) (lnOf (nat 10)) }))
+    pub normalised-any : map pow10Of (normalisedOver max min l) ≡ map pow10Of (normalisedOver larger smaller l)
+    normalised-any = go l terms
+      where
+        go : (k : List Float) → Each Term k → map pow10Of (map (lessWhole min (wholeOver max l)) k) ≡ map pow10Of (map (lessWhole smaller (wholeOver larger l)) k)
+        go [] e = refl
+        go (y ∷ k) e = ap₂ _∷_ (probability-same y (e .0)) (go k (e .1))
 
-    whole-number : Number (wholeOf larger l n)
-    whole-number = record { is-finite = whole-within l n some few given .is-finite; is-f64 = unfold wholeOf in add-fits binary64 (topOf larger l n) (log10Of (sumOf l (topOf larger l n) n)) }
-
-    probability-same : (i : ℕ) → i < n → probabilityOf min (wholeOf max l n) (getD l i nan) ≡ probabilityOf smaller (wholeOf larger l n) (getD l i nan)
-    unfolding probabilityOf
-    probability-same i h =
-        let d = sub-alike same wholes (ten-number i h) (alike-number (alike-sym wholes) whole-number) in
-        let k : Number (ten i ⊖ wholeOf larger l n) = record {
-          is-finite = within-sub (ten-within l n some few given i h) (whole-within l n some few given) (lit≤ tt) .is-finite;
-          is-f64 = sub-fits binary64 (ten i) (wholeOf larger l n);
-        } in
-        pow10-alike (alike-trans (min-alike min is-min (ten i ⊖ wholeOf max l n) (nat 0) (alike-number (alike-sym d) k) zero-number) (smaller-alike d same))
-
-    pub probabilities-any : probabilities max min l n ≡ probabilities larger smaller l n
-    unfolding probabilities
-    probabilities-any =
-        rw (in-use-all n few)
-        (over-same (λ i s. set s i (probabilityOf min (wholeOf max l n) (getD l i nan))) (λ i s. set s i (probabilityOf smaller (wholeOf larger l n) (getD l i nan))) (replicate 36 (nat 0)) n
-        (λ i h s. ap (λ (z : Float). set s i z) (probability-same i h)))
-
-  module _ (ps : List Float) (n : ℕ) (few : n ≤ 36) (chances : (i : ℕ) → i < n → Chance 2 (getD ps i nan)) (best : ℕ) where
-    pub quality-any : qualityBy min (wrongOf ps best n) ≡ qualityBy smaller (wrongOf ps best n)
+  module _ (w : Float) (f : T (fits binary64 w)) (c : Chance 35 w) where
+    pub quality-any : qualityBy min w ≡ qualityBy smaller w
     unfolding qualityBy
-    quality-any = go (lt (nat 0) (wrongOf ps best n)) refl
+    quality-any = go (lt (nat 0) w) refl
       where
-        raw : Float
-        raw = whole (negsuc 9) ⊗ log10Of (wrongOf ps best n)
-
-        go : (t : Bool) → lt (nat 0) (wrongOf ps best n) ≡ t → cond t (min raw (nat 1000)) (nat 1000) ⊘ nat 10 ≡ cond t (smaller raw (nat 1000)) (nat 1000) ⊘ nat 10
+        go : (t : Bool) → lt (nat 0) w ≡ t → cond t (min (rawOf w) (nat 1000)) (nat 1000) ⊘ nat 10 ≡ cond t (smaller (rawOf w) (nat 1000)) (nat 1000) ⊘ nat 10
         go true e =
-            ap (λ (z : Float). z ⊘ nat 10) (cap-same min is-min raw (record { is-finite = raw-within ps n few chances best e .is-finite; is-f64 = mul-fits binary64 (whole (negsuc 9)) (log10Of (wrongOf ps best n)) }))
+            ap (λ (z : Float). z ⊘ nat 10) (cap-same min is-min (rawOf w) (record { is-finite = raw-within w f c e .is-finite; is-f64 = mul-fits binary64 (whole (negsuc 9)) (log10Of w) }))
         go false e = refl
 
   -- ---- the answer
 
+  probabilities-any : (p : Params) (counts : List ℕ) (ok : Accepted p counts) → 0 < length (hypotheses counts)
+      → probabilities max min (posteriors first p counts) (length (hypotheses counts)) ≡ probabilities larger smaller (posteriors first p counts) (length (hypotheses counts))
+  unfolding probabilities
+  probabilities-any p counts ok some =
+      let few = at-most-36 counts in
+      let long = tens-length p counts ok in
+      let l = tensOf (posteriors first p counts) (length (hypotheses counts)) in
+      rw (in-use-all (length (hypotheses counts)) few)
+      (ap (padded 36 (nat 0)) (normalised-any l (subst (λ (k : ℕ). 0 < k) (sym long) some) (subst (λ (k : ℕ). k ≤ 36) (sym long) few) (tens-terms p counts ok)))
+
   called-any : (p : Params) (counts : List ℕ) → Accepted p counts → 0 < totalOf counts → calledOf max min first p counts ≡ calledOf larger smaller first p counts
   unfolding calledOf
   called-any p counts ok read =
-      let n = length (hypotheses counts) in
-      let posts = posteriors first p counts in
-      let probs = probabilities larger smaller posts n in
       let some = some-hypothesis counts (ok .few) read in
-      let few = at-most-36 counts in
-      rw (probabilities-any posts n some few (posteriors-within p counts ok), in-use-all n few, quality-any probs n few (chance-there p counts ok some) (winner posts n))
+      rw (probabilities-any p counts ok some, in-use-all (length (hypotheses counts)) (at-most-36 counts), quality-any (wrong p counts ok) (wrong-number p counts ok some) (wrong-within p counts ok some))
 
   -- of any counts and of parameters that are f64, as the struct's fields are; refusals do not come to a pick
   pub mosaic-any : (p : Params) (counts : List ℕ) → T (fits binary64 (p .alpha)) → T (fits binary64 (p .beta)) → genotypeBy max min first p counts ≡ genotypeOf p counts

@@ -7,6 +7,7 @@ pub mod Least
 pub mod Places
 pub mod Finite
 pub mod Chances
+pub mod Qualities
 pub mod Answers
 pub mod OneLess
 pub mod AnyPick
