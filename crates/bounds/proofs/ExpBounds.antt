@@ -20,6 +20,7 @@ use Rattle.floats.proofs.Ranges.{le-number, le-not-lt}
 use Rattle.floats.proofs.KeyOrder.{signed}
 use Rattle.floats.proofs.Rounded.{fraction-val, round-smaller, le-values}
 use Rattle.floats.proofs.Bounds.{within-whole, positive-not-below}
+use Rattle.floats.proofs.Zeros.{zeroOf, zero-plus}
 use Rattle.floats.proofs.Sizes.{round-at-most, round-over, under-more, under-within, under-mul, over-mul, under-add, over-add}
 use Rattle.kernels.specs.Exp.{nearestWhole, factorial, factorials, expSeries, expParts, expOf}
 use Rattle.kernels.specs.Ln.{hi, lo}
@@ -302,3 +303,26 @@ pub exp-of-zero : (s : Bool) → expOf (fin s 0 (pos 0)) ≡ fin false 1 (pos 0)
 unfolding expOf expParts expSeries size isNan neg add sub mul round lt ofInt ofBits
 exp-of-zero true = refl
 exp-of-zero false = refl
+
+-- ---- it is never −0.0: added to either zero it is itself
+
+zero-beside : (s : Bool) (y : Float) → T (positive y) → T (fits binary64 y) → zeroOf s ⊕ y ≡ y
+zero-beside s nan p f = absurd p
+zero-beside s (inf t) p f = absurd p
+zero-beside s (fin true m e) p f = absurd p
+zero-beside s (fin false zero e) p f = absurd p
+zero-beside s (fin false (suc m) e) p f = zero-plus false s m e f
+
+zeros-beside : (s : Bool) → zeroOf s ⊕ nat 0 ≡ nat 0
+unfolding add round ofInt
+zeros-beside true = refl
+zeros-beside false = refl
+
+pub exp-beside-zero : (s : Bool) (x : Float) → zeroOf s ⊕ expOf x ≡ expOf x
+exp-beside-zero s x = go (isNan x) refl
+  where
+    go : (t : Bool) → isNan x ≡ t → zeroOf s ⊕ expOf x ≡ expOf x
+    go true n = unfold expOf add in rw n refl
+    go false n =
+        by-tests (λ y. zeroOf s ⊕ y ≡ y) x n (λ _. zeros-beside s) (λ _. unfold add in refl)
+        (λ h k. zero-beside s (expParts (kOf x) x) (middle-positive x n h k) (unfold expParts in mul-fits binary64 (expSeries (argument x)) (fin false 1 (kOf x))))

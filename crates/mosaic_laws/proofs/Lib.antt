@@ -11,6 +11,7 @@ pub mod Qualities
 pub mod Answers
 pub mod OneLess
 pub mod AnyPick
+pub mod Folded
 pub mod Winner
 pub mod AtOnce
 pub mod PriorAtOnce

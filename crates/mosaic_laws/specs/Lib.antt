@@ -2,3 +2,4 @@
 pub mod Accepted
 pub mod Largest
 pub mod AtOnce
+pub mod Folded
