@@ -1,31 +1,31 @@
--- exp x is at most 1 for every x of at most 0, minus infinity and −0.0 among them: `exp-at-most-one`. Where k is 0 the last step of the series adds to 1 what is
--- not above 0, and rounding does not pass 1; where k is below 0 the series is at most 7/4, and 2^k at most 1/2. Assumes nothing.
+-- exp x is at most 1 for every x of at most 0, minus infinity and −0.0 among them: `exp-at-most-one`. Where k is 0 the last step of the
+-- series adds to 1 what is not above 0, and rounding does not pass 1; where k is below 0 the series is at most 7/4, and 2^k at most 1/2.
+-- Assumes nothing.
 use mathlib.Core.Path.{_≡_, refl, sym, ap, _∙_, subst}
-use mathlib.Core.Bool.{Bool, true, false, not, _&&_, _||_, cond, true≢false}
+use mathlib.Core.Bool.{Bool, true, false, cond, true≢false}
 use Prim.Native.Nat.{ℕ, zero, suc, _+_, _-_, _*_, _^_, _≤_, _<_, zero-le}
-use native.Mathlib.Nat.{le-trans, le-of-eq, zero-mul, mul-zero, mul-one, one-mul, mul-pos, not-suc-le-zero}
+use native.Mathlib.Nat.{zero-mul, mul-pos, not-suc-le-zero}
 use native.Mathlib.Omega.{arith}
 use lib.IntN.{ℤ, pos, negsuc}
-use lib.Dec.{T, ltb, eqb, eqb→eq, lit≤, lit<}
+use lib.Dec.{T, ltb, lit≤, lit<}
 use lib.Pow.{pow-mono}
 use lib.Ieee.{Float, nan, inf, fin, binary64, up, down, round, neg, sum, add, sub, mul, lt, le, isNan, ofInt, ofBits}
 use lib.Ieee.Fits.{down-pos}
 use lib.Ieee.Scale.{finite}
-use lib.Ieee.Positive.{positive}
 use Rattle.floats.specs.F64.{_⊕_, _⊖_, _⊗_, whole, nat, ratio}
 use Rattle.floats.specs.Within.{Within, NotBelow}
 use Rattle.floats.specs.Under.{Under}
-use Rattle.floats.proofs.Floats.{lt-zero, eq-zero}
 use Rattle.floats.proofs.Ranges.{le-number}
 use Rattle.floats.proofs.Rounded.{round-within}
 use Rattle.floats.proofs.Differences.{nought, less-larger}
 use Rattle.floats.proofs.Lows.{zero-or-negative, times-low}
 use Rattle.floats.proofs.Bounds.{within-whole, within-mul}
-use Rattle.floats.proofs.Sizes.{under-more, under-within, under-mul, within-under}
+use Rattle.floats.proofs.Sizes.{under-more, under-within, under-mul}
 use Rattle.kernels.specs.Exp.{expSeries, expParts, expOf}
 use Rattle.kernels.specs.Ln.{hi, lo}
 use Rattle.bounds.proofs.LnSigns.{positive-clear}
-use Rattle.bounds.proofs.ExpBounds.{last, nextToLast, next-under, next-over, series-by, series-bounds, AtMost, kOf, argument, argument-under, least, most, by-tests, k-at-most, not-most, not-both, exp-within}
+use Rattle.bounds.proofs.ExpBounds.{last, nextToLast, next-under, next-over, series-by, series-bounds, AtMost, kOf, argument-under}
+use Rattle.bounds.proofs.ExpBounds.{least, most, by-tests, k-at-most, not-most, not-both, exp-within}
 
 -- ---- 1 and what is not above 0
 
@@ -43,7 +43,8 @@ unfolding add
 plus-one nan u h = absurd (u .is-finite)
 plus-one (inf s) u h = absurd (u .is-finite)
 plus-one (fin s m e) u h =
-    sum-low s (m * up e * down (pos 0)) (1 * up (pos 0) * down e) (down e * down (pos 0)) (mul-pos (down-pos e) (lit< tt)) (few (m * up e) (down e) (u .small)) (same (down e))
+    sum-low s (m * up e * down (pos 0)) (1 * up (pos 0) * down e) (down e * down (pos 0)) (mul-pos (down-pos e) (lit< tt))
+    (few (m * up e) (down e) (u .small)) (same (down e))
     (λ c. ap (λ (k : ℕ). k * up e * down (pos 0)) (zero-or-negative s m e h c) ∙ simp zero-mul)
   where
     few : (p d : ℕ) → p * 2 ^ 0 ≤ 1 * d → p * 1 ≤ d * 1
@@ -66,7 +67,8 @@ series-low r small h = series-by r small (Within 1) at
         let q = nextToLast r small p in
         let w = under-mul (next-under r small p k) small (lit< tt) (lit≤ tt) in
         subst (λ (z : Float). Within 1 (q ⊗ r ⊕ z)) (sym one-is)
-        (plus-one (q ⊗ r) (under-more w 1 0 (lit≤ tt)) (times-low q r (positive-clear q (next-over r small p k .is-positive)) (small .is-finite) h))
+        (plus-one (q ⊗ r) (under-more w 1 0 (lit≤ tt))
+        (times-low q r (positive-clear q (next-over r small p k .is-positive)) (small .is-finite) h))
 
 -- ---- where k is 0, r is x
 
@@ -112,11 +114,13 @@ abbrev argumentAt : ℤ → Float → Float
 argumentAt k x = x ⊖ whole k ⊗ hi ⊖ whole k ⊗ lo
 
 -- at k = 0
-first-low : (x : Float) → T (finite x) → T (le x nought) → Under 1 1 (argumentAt (pos 0) x) → Within 1 (expSeries (argumentAt (pos 0) x) ⊗ fin false 1 (pos 0))
+first-low : (x : Float) → T (finite x) → T (le x nought) → Under 1 1 (argumentAt (pos 0) x)
+    → Within 1 (expSeries (argumentAt (pos 0) x) ⊗ fin false 1 (pos 0))
 first-low x f h small =
     let same : argumentAt (pos 0) x ≡ x ⊖ nought ⊖ nought = rw (nothing-hi, nothing-lo) refl in
     let r : Under 1 1 (x ⊖ nought ⊖ nought) = subst (Under 1 1) same small in
-    let y = subst (λ (r : Float). Within 1 (expSeries r)) (sym same) (series-low (x ⊖ nought ⊖ nought) r (argument-low x f h (r .is-finite))) in
+    let y = subst (λ (r : Float). Within 1 (expSeries r)) (sym same)
+    (series-low (x ⊖ nought ⊖ nought) r (argument-low x f h (r .is-finite))) in
     within-mul {b = 1} y (record { is-finite = tt; small = lit≤ tt }) (lit≤ tt)
 
 middle-low : (x : Float) → isNan x ≡ false → T (le x nought) → lt x least ≡ false → lt most x ≡ false → Within 1 (expParts (kOf x) x)
@@ -124,7 +128,8 @@ unfolding expParts
 middle-low x n h a b = go (kOf x) (argument-under x n a b) (k-at-most 0 zero-le x (subst (λ (z : Float). T (le x z)) (sym no-halves) h) a)
   where
     go : (k : ℤ) → Under 1 1 (argumentAt k x) → AtMost 0 k → Within 1 (expSeries (argumentAt k x) ⊗ fin false 1 k)
-    go (negsuc j) small l = under-within (under-mul (series-bounds (argumentAt (negsuc j) x) small .0) (half-power j) (lit< tt) (lit≤ tt)) 1 (lit≤ tt)
+    go (negsuc j) small l =
+        under-within (under-mul (series-bounds (argumentAt (negsuc j) x) small .0) (half-power j) (lit< tt) (lit≤ tt)) 1 (lit≤ tt)
     go (pos (suc j)) small l = absurd (not-suc-le-zero l)
     go (pos zero) small l = first-low x (finite-between x n h a) h small
 
@@ -133,8 +138,8 @@ middle-low x n h a b = go (kOf x) (argument-under x n a b) (k-at-most 0 zero-le 
 pub exp-at-most-one : (x : Float) → T (le x (nat 0)) → Within 1 (expOf x) × NotBelow (expOf x)
 exp-at-most-one x h =
     let low : T (le x nought) = unfold ofInt in h in
-    let n = le-number x (nat 0) h in
-    (
-      by-tests (Within 1) x n (λ _. within-whole (pos 0) 1 zero-le (lit≤ tt)) (λ t. absurd (not-both t (not-most 0 zero-le x (subst (λ (z : Float). T (le x z)) (sym no-halves) low)))) (middle-low x n low),
+    let n = le-number x (nat 0) h in (
+      by-tests (Within 1) x n (λ _. within-whole (pos 0) 1 zero-le (lit≤ tt))
+          (λ t. absurd (not-both t (not-most 0 zero-le x (subst (λ (z : Float). T (le x z)) (sym no-halves) low)))) (middle-low x n low),
       exp-within x h .1,
     )

@@ -53,7 +53,9 @@ module _ (r : Float) (small : Under 1 1 r) where
   next-under p h = under-add (under-mul h small (lit< tt) (lit≤ tt)) (one-under 2 1 (lit≤ tt) (lit< tt) (lit≤ tt)) (lit< tt) (lit≤ tt)
 
   pub next-over : (p : Float) → Under 1 0 p → Over 1 1 (nextToLast p)
-  next-over p h = over-add (under-mul h small (lit< tt) (lit≤ tt)) (one-over 2 1 (lit< tt) (lit< tt) (lit≤ tt) (lit≤ tt)) 1 (lit≤ tt) (lit< tt) (lit< tt) (lit≤ tt) (next-under p h .is-finite)
+  next-over p h =
+      over-add (under-mul h small (lit< tt) (lit≤ tt)) (one-over 2 1 (lit< tt) (lit< tt) (lit≤ tt) (lit≤ tt)) 1 (lit≤ tt) (lit< tt)
+      (lit< tt) (lit≤ tt) (next-under p h .is-finite)
 
   last-bounds : (p : Float) → Under 1 0 p → Under 7 2 (last p) × Over 1 2 (last p)
   last-bounds p h =
@@ -62,20 +64,23 @@ module _ (r : Float) (small : Under 1 1 r) where
       (v, over-add w (one-over 4 2 (lit< tt) (lit< tt) (lit≤ tt) (lit≤ tt)) 1 (lit≤ tt) (lit< tt) (lit< tt) (lit≤ tt) (v .is-finite))
 
   -- whatever holds after the last two steps holds of the series
-  by-last : (P : Float → Type 0) → ((p : Float) → Under 1 0 p → P (last p)) → (n : ℕ) (p : Float) → Under 1 0 p → P (hornerFrom r p (reciprocals (factorials (suc n))))
+  by-last : (P : Float → Type 0) → ((p : Float) → Under 1 0 p → P (last p)) → (n : ℕ) (p : Float) → Under 1 0 p
+      → P (hornerFrom r p (reciprocals (factorials (suc n))))
   by-last P at zero p h = at p h
   by-last P at (suc n) p h =
       let f = factorial (suc (suc n)) in
       let two : 2 ≤ f = le-trans (le-of-eq (sym (mul-one 2))) (mul-le-mul (at-least-two n) (factorial-pos (suc n))) in
       let c : Under 1 1 (ratio 1 f) = round-at-most false 1 f 1 1 (factorial-pos (suc (suc n))) (lit< tt) (lit≤ tt) (omega arith) in
-      by-last P at n (p ⊗ r ⊕ ratio 1 f) (under-more (under-add (under-mul h small (lit< tt) (lit≤ tt)) c (lit< tt) (lit≤ tt)) 1 0 (lit≤ tt))
+      by-last P at n (p ⊗ r ⊕ ratio 1 f) (under-more (under-add (under-mul h small (lit< tt) (lit≤ tt)) c (lit< tt) (lit≤ tt)) 1 0
+      (lit≤ tt))
     where
       at-least-two : (n : ℕ) → 2 ≤ suc (suc n)
       at-least-two n = omega arith
 
   pub series-by : (P : Float → Type 0) → ((p : Float) → Under 1 0 p → P (last p)) → P (expSeries r)
   unfolding expSeries
-  series-by P at = by-last P at 11 (ratio 1 (factorial 13)) (round-at-most false 1 (factorial 13) 1 0 (lit< tt) (lit< tt) (lit≤ tt) (lit≤ tt))
+  series-by P at =
+      by-last P at 11 (ratio 1 (factorial 13)) (round-at-most false 1 (factorial 13) 1 0 (lit< tt) (lit< tt) (lit≤ tt) (lit≤ tt))
 
   pub series-bounds : Under 7 2 (expSeries r) × Over 1 2 (expSeries r)
   series-bounds = series-by (λ y. Under 7 2 y × Over 1 2 y) last-bounds
@@ -190,7 +195,8 @@ pub exp-fits : (x : Float) → T (fits binary64 (expOf x))
 unfolding expOf expParts
 exp-fits x = go (isNan x) (lt x least) (lt most x)
   where
-    go : (a b c : Bool) → T (fits binary64 (cond a nan (cond b (nat 0) (cond c (inf false) (expSeries (argument x) ⊗ fin false 1 (kOf x))))))
+    go : (a b c : Bool)
+        → T (fits binary64 (cond a nan (cond b (nat 0) (cond c (inf false) (expSeries (argument x) ⊗ fin false 1 (kOf x))))))
     go true b c = unfold fits in tt
     go false true c = ofInt-fits binary64 (pos 0)
     go false false true = unfold fits in tt
@@ -325,4 +331,5 @@ exp-beside-zero s x = go (isNan x) refl
     go true n = unfold expOf add in rw n refl
     go false n =
         by-tests (λ y. zeroOf s ⊕ y ≡ y) x n (λ _. zeros-beside s) (λ _. unfold add in refl)
-        (λ h k. zero-beside s (expParts (kOf x) x) (middle-positive x n h k) (unfold expParts in mul-fits binary64 (expSeries (argument x)) (fin false 1 (kOf x))))
+        (λ h k. zero-beside s (expParts (kOf x) x) (middle-positive x n h k)
+        (unfold expParts in mul-fits binary64 (expSeries (argument x)) (fin false 1 (kOf x))))

@@ -1,20 +1,20 @@
--- `lnOf` of an f64 above zero and of at most 1 is not above 0: `ln-low`. With x = 2^k·m, k is not above 0; where it is below, k·hi is larger in size than all
--- that is added to it, and where it is 0, m is at most 1 and every step is not above 0. From 1 to 35 it is at most 133/32: `ln-under`. Assumes nothing.
-use mathlib.Core.Path.{_≡_, refl, sym, ap, _∙_, subst}
-use mathlib.Core.Bool.{Bool, true, false, cond, true≢false}
+-- `lnOf` of an f64 above zero and of at most 1 is not above 0: `ln-low`. With x = 2^k·m, k is not above 0; where it is below, k·hi is
+-- larger in size than all that is added to it, and where it is 0, m is at most 1 and every step is not above 0. From 1 to 35 it is at
+-- most 133/32: `ln-under`. Assumes nothing.
+use mathlib.Core.Path.{_≡_, refl, sym, ap, subst}
+use mathlib.Core.Bool.{Bool, true, false, cond}
 use Prim.Native.Nat.{ℕ, zero, suc, _+_, _-_, _*_, _^_, _≤_, _<_}
-use native.Mathlib.Nat.{le-trans, le-of-eq, one-mul, zero-lt-suc, mul-pos, mul-le-mul-left, mul-le-mul-right, le-of-mul-le-mul-right}
+use native.Mathlib.Nat.{le-trans, le-of-eq, one-mul, zero-lt-suc, mul-le-mul-left, mul-le-mul-right, le-of-mul-le-mul-right}
 use native.Mathlib.Omega.{arith}
 use lib.IntN.{ℤ, pos, negsuc, natAbs, _+ℤ_}
 use borrow.Author.Tests.{lt-ltb, leb-true, leb-false}
 use lib.Dec.{T, leb, lit≤, lit<}
 use lib.Pow.{pow-mono, pow-pos}
 use lib.Ieee.{Float, nan, inf, fin, binary64, up, down, round, neg, mul, le, ofInt, ofBits, fits}
-use lib.Ieee.Fits.{up-pos, down-pos}
 use lib.Ieee.Scale.{finite}
 use lib.Ieee.Positive.{num, den, den-pos, positive, le→cross, cross→le, through}
-use Rattle.floats.specs.F64.{_⊕_, _⊖_, _⊗_, _⊘_, nat, whole, ratio}
-use Rattle.floats.specs.Apart.{exponent, significand, TakenApart}
+use Rattle.floats.specs.F64.{_⊕_, _⊖_, _⊗_, nat, whole, ratio}
+use Rattle.floats.specs.Apart.{exponent, significand}
 use Rattle.floats.specs.Within.{Within}
 use Rattle.floats.specs.Under.{Under, Over}
 use Rattle.floats.proofs.Fitting.{exponent-small}
@@ -25,7 +25,9 @@ use Rattle.floats.proofs.Bounds.{within-whole, above-whole, above-add, positive
 use Rattle.floats.proofs.Sizes.{under-more, under-within, under-neg, under-mul, under-add, under-sub, over-mul, within-under}
 use Rattle.kernels.specs.Ln.{hi, lo, series, lnNearOne, lnParts, lnReduced, lnOf}
 use Rattle.bounds.proofs.LnApart.{ln-apart}
-use Rattle.bounds.proofs.LnSigns.{clear-mul, one-over, one-under, both-over, shareOf, series-under, two-under, near-one-under, hi-over, hi-under, lo-under, series-clear, nothing-hi, nothing-lo, nothing-under, turn, turn-over, half-over, half-under, halved-share, kept-share, apart, from-one, to-two, under-next}
+use Rattle.bounds.proofs.LnSigns.{clear-mul, shareOf, series-under, two-under, near-one-under, hi-over, hi-under, lo-under}
+use Rattle.bounds.proofs.LnSigns.{series-clear, nothing-hi, nothing-lo, nothing-under, turn, turn-over, half-over, half-under}
+use Rattle.bounds.proofs.LnSigns.{halved-share, kept-share, apart, from-one, to-two, under-next}
 
 -- ---- k·hi + (t + k·lo), for a k below 0
 
@@ -44,7 +46,12 @@ parts-low j m l s =
     let over : Over 22 5 (k ⊗ hi) = over-mul one hi-over (lit< tt) (lit< tt) (lit≤ tt) (high .is-finite) in
     let low : Under 1 5 (k ⊗ lo) = under-more (under-mul w lo-under (lit< tt) (lit≤ tt)) 1 5 (lit≤ tt) in
     let rest : Under 18 5 (lnNearOne m ⊕ neg (k ⊗ lo)) = under-add (near-one-under m s) (under-neg low) (lit< tt) (lit≤ tt) in
-    rw (whole-negative j, negative-times k hi (a .is-positive) (unfold ofBits in tt), negative-times k lo (a .is-positive) (unfold ofBits in tt)) (low-beside over rest (lit≤ tt))
+    rw (
+      whole-negative j,
+      negative-times k hi (a .is-positive) (unfold ofBits in tt),
+      negative-times k lo (a .is-positive)
+          (unfold ofBits in tt),
+    ) (low-beside over rest (lit≤ tt))
 
 -- ---- for a k of 0 and an m of at most 1
 
@@ -68,7 +75,8 @@ near-one-low m s h =
     let q = under-mul z (series-under (sm ⊗ sm) z) (lit< tt) (lit≤ tt) in
     let qc = clear-mul (sm ⊗ sm) (series (sm ⊗ sm)) zc (series-clear (sm ⊗ sm) z zc) (q .is-finite) in
     let r = under-mul d q (lit< tt) (lit≤ tt) in
-    low-plus (nat 2 ⊗ sm) (nat 2 ⊗ sm ⊗ (sm ⊗ sm ⊗ series (sm ⊗ sm))) (d .is-finite) (r .is-finite) dl (low-times (nat 2 ⊗ sm) (sm ⊗ sm ⊗ series (sm ⊗ sm)) (d .is-finite) dl qc)
+    low-plus (nat 2 ⊗ sm) (nat 2 ⊗ sm ⊗ (sm ⊗ sm ⊗ series (sm ⊗ sm))) (d .is-finite) (r .is-finite) dl
+    (low-times (nat 2 ⊗ sm) (sm ⊗ sm ⊗ series (sm ⊗ sm)) (d .is-finite) dl qc)
 
 nothing-low : T (le (nat 0) nought)
 unfolding ofInt round le
@@ -137,7 +145,8 @@ no-six : (a b u : ℕ) → 0 < b → 64 ≤ u → 8 * b ≤ a * 8 → a * u ≤ 
 no-six a b u B U h k = omega (arith, mul-le-mul-left a U)
 
 next-exponent : (j : ℕ) → negsuc (suc j) +ℤ pos 1 ≡ negsuc j
-next-exponent j = let k : 1 < suc (suc j) = omega arith in let e : suc (suc j) - 2 ≡ j = omega arith in rw (lt-ltb 1 (suc (suc j)) k) (ap negsuc e)
+next-exponent j =
+    let k : 1 < suc (suc j) = omega arith in let e : suc (suc j) - 2 ≡ j = omega arith in rw (lt-ltb 1 (suc (suc j)) k) (ap negsuc e)
 
 module _ (x : Float) (f : T (fits binary64 x)) (p : T (positive x)) where
   abbrev m : Float
@@ -160,18 +169,27 @@ module _ (x : Float) (f : T (fits binary64 x)) (p : T (positive x)) where
   half-positive = over-mul one half-over (lit< tt) (lit< tt) (lit≤ tt) (half-under-one .is-finite) .is-positive
 
   from-turn : T (le turn m) → 5 * den m ≤ num m * 4
-  from-turn h = through 5 (num turn) (num m) 4 (den turn) (den m) (den-pos turn) (turn-over .large) (le→cross turn m (turn-over .is-positive) (one .is-positive) h)
+  from-turn h =
+      through 5 (num turn) (num m) 4 (den turn) (den m) (den-pos turn) (turn-over .large)
+      (le→cross turn m (turn-over .is-positive) (one .is-positive) h)
 
   reduced-low : (k : ℤ) → natAbs k ≤ 1074 → num m * up k ≤ 1 * den m * down k → T (le (lnReduced k m) nought)
   unfolding lnReduced
   reduced-low k l h = go (le turn m) refl k l h
     where
-      go : (t : Bool) → le turn m ≡ t → (k : ℤ) → natAbs k ≤ 1074 → num m * up k ≤ 1 * den m * down k → T (le (cond t (lnParts (k +ℤ pos 1) (m ⊗ ratio 1 2)) (lnParts k m)) nought)
+      go : (t : Bool) → le turn m ≡ t → (k : ℤ) → natAbs k ≤ 1074 → num m * up k ≤ 1 * den m * down k
+          → T (le (cond t (lnParts (k +ℤ pos 1) (m ⊗ ratio 1 2)) (lnParts k m)) nought)
       go true e (pos k) l h = absurd (no-turn (num m) (den m) (2 ^ k) (den-pos m) (pow-pos k) (from-turn (subst T (sym e) tt)) h)
-      go true e (negsuc zero) l h = parts-nothing (m ⊗ ratio 1 2) (halved-share m one two (subst T (sym e) tt)) (share-low (m ⊗ ratio 1 2) half-positive half-under-one)
-      go true e (negsuc (suc j)) l h = rw (next-exponent j) (parts-low j (m ⊗ ratio 1 2) (omega arith) (halved-share m one two (subst T (sym e) tt)))
-      go false e (pos zero) l h = parts-nothing m (kept-share m one two e) (share-low m (one .is-positive) (record { is-finite = two .is-finite; small = omega arith }))
-      go false e (pos (suc k)) l h = absurd (no-double (num m) (den m) (2 ^ suc k) (den-pos m) (pow-mono {i = 1} {j = suc k} (omega arith)) (one .large) h)
+      go true e (negsuc zero) l h =
+          parts-nothing (m ⊗ ratio 1 2) (halved-share m one two (subst T (sym e) tt))
+          (share-low (m ⊗ ratio 1 2) half-positive half-under-one)
+      go true e (negsuc (suc j)) l h =
+          rw (next-exponent j) (parts-low j (m ⊗ ratio 1 2) (omega arith) (halved-share m one two (subst T (sym e) tt)))
+      go false e (pos zero) l h =
+          parts-nothing m (kept-share m one two e)
+          (share-low m (one .is-positive) (record { is-finite = two .is-finite; small = omega arith }))
+      go false e (pos (suc k)) l h =
+          absurd (no-double (num m) (den m) (2 ^ suc k) (den-pos m) (pow-mono {i = 1} {j = suc k} (omega arith)) (one .large) h)
       go false e (negsuc j) l h = parts-low j m (le-trans l (lit≤ tt)) (kept-share m one two e)
 
   ln-low-from : num x ≤ 1 * den x → T (le (lnOf x) nought)

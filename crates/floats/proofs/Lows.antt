@@ -1,11 +1,11 @@
--- What is not above zero, by the test: products, quotients and sums of it; and what is rounded with the sign set is the negative of what is rounded without.
--- Assumes nothing.
-use mathlib.Core.Path.{_≡_, refl, sym, ap, _∙_, subst}
+-- What is not above zero, by the test: products, quotients and sums of it; and what is rounded with the sign set is the negative of what
+-- is rounded without. Assumes nothing.
+use mathlib.Core.Path.{_≡_, refl, sym, ap, _∙_}
 use mathlib.Core.Bool.{Bool, true, false, not, _&&_, _||_, cond, true≢false}
-use Prim.Native.Nat.{ℕ, zero, suc, _+_, _*_, _^_, _≤_, _<_, zero-le}
-use native.Mathlib.Nat.{le-trans, le-of-eq, zero-mul, mul-zero, mul-pos, mul-le-mul-right, le-of-mul-le-mul-right}
+use Prim.Native.Nat.{ℕ, zero, suc, _+_, _*_, _^_, _≤_, _<_}
+use native.Mathlib.Nat.{zero-mul, mul-zero, mul-pos, mul-le-mul-right, le-of-mul-le-mul-right}
 use native.Mathlib.Omega.{arith}
-use lib.IntN.{ℤ, pos}
+use lib.IntN.{ℤ}
 use lib.Dec.{T, ltb, eqb, eqb→eq, ltb→lt}
 use lib.Pow.{pow-pos}
 use lib.Ieee.{Float, nan, inf, fin, binary64, up, down, odd, units, round, neg, sum, add, mul, div, le}
@@ -72,7 +72,8 @@ low-over (fin false m e) (fin false n d) f h p =
     (ap (λ (k : ℕ). k * up e * down d) (zero-or-negative false m e h refl) ∙ simp zero-mul))
 
 -- the sum of two
-sum-low : (s : Bool) (a : ℕ) (t : Bool) (b c : ℕ) → 0 < c → (s ≡ false → a ≡ 0) → (t ≡ false → b ≡ 0) → T (le (sum binary64 s a t b c) nought)
+sum-low : (s : Bool) (a : ℕ) (t : Bool) (b c : ℕ) → 0 < c → (s ≡ false → a ≡ 0) → (t ≡ false → b ≡ 0)
+    → T (le (sum binary64 s a t b c) nought)
 sum-low true a true b c C h k = unfold sum in round-negative (a + b) c
 sum-low true a false b c C h k = let z = k refl in above-both a b c C (omega arith)
 sum-low false a true b c C h k = let z = h refl in below-both a b c C (omega arith)
@@ -112,7 +113,9 @@ low-beside {a} {b} {j} {x = fin false m e} {y = fin t n d} h k l = go t
 
     go : (t : Bool) → T (le (sum binary64 true p t q (down e * down d)) nought)
     go true = unfold sum in round-negative (p + q) (down e * down d)
-    go false = above-both p q (down e * down d) (mul-pos (down-pos e) (down-pos d)) (below (m * up e) (n * up d) (down e) (down d) (2 ^ j) (pow-pos j) (h .large) (k .small))
+    go false =
+        above-both p q (down e * down d) (mul-pos (down-pos e) (down-pos d))
+        (below (m * up e) (n * up d) (down e) (down d) (2 ^ j) (pow-pos j) (h .large) (k .small))
 
 -- ---- what is rounded with the sign set
 
@@ -161,7 +164,9 @@ low-low nan y f g h k t = absurd f
 low-low (inf s) y f g h k t = absurd f
 low-low (fin s m e) nan f g h k t = absurd g
 low-low (fin s m e) (inf u) f g h k t = absurd g
-low-low (fin true m e) (fin true n d) f g h k t = clear-not-below (round binary64 false (m * up e * (n * up d)) (down e * down d)) (round-clear (m * up e * (n * up d)) (down e * down d) t)
+low-low (fin true m e) (fin true n d) f g h k t =
+    clear-not-below (round binary64 false (m * up e * (n * up d)) (down e * down d))
+    (round-clear (m * up e * (n * up d)) (down e * down d) t)
 low-low (fin true m e) (fin false n d) f g h k t =
     rounded-not-below true (m * up e * (n * up d)) (down e * down d) (mul-pos (down-pos e) (down-pos d)) t
     (λ _. ap (λ (z : ℕ). m * up e * (z * up d)) (zero-or-negative false n d k refl) ∙ simp (zero-mul, mul-zero))
@@ -169,7 +174,8 @@ low-low (fin false m e) (fin true n d) f g h k t =
     rounded-not-below true (m * up e * (n * up d)) (down e * down d) (mul-pos (down-pos e) (down-pos d)) t
     (λ _. ap (λ (z : ℕ). z * up e * (n * up d)) (zero-or-negative false m e h refl) ∙ simp zero-mul)
 low-low (fin false m e) (fin false n d) f g h k t =
-    rounded-not-below false (m * up e * (n * up d)) (down e * down d) (mul-pos (down-pos e) (down-pos d)) t (λ c. absurd (true≢false (sym c)))
+    rounded-not-below false (m * up e * (n * up d)) (down e * down d) (mul-pos (down-pos e) (down-pos d)) t
+    (λ c. absurd (true≢false (sym c)))
 
 pub not-below-over : (x y : Float) → NotBelow x → T (positive y) → T (finite (x ⊘ y)) → NotBelow (x ⊘ y)
 unfolding div
@@ -181,7 +187,8 @@ not-below-over (fin s m e) (fin true n d) h p f = absurd p
 not-below-over (fin false m e) (fin false n d) h p f =
     let N = ltb→lt 0 n p in
     let z = eqb-zero n N in
-    rw z (rounded-not-below false (m * up e * down d) (n * up d * down e) (mul-pos (mul-pos N (up-pos d)) (down-pos e)) (rw z at f) (λ c. absurd (true≢false (sym c))))
+    rw z (rounded-not-below false (m * up e * down d) (n * up d * down e) (mul-pos (mul-pos N (up-pos d)) (down-pos e)) (rw z at f)
+    (λ c. absurd (true≢false (sym c))))
 not-below-over (fin true m e) (fin false n d) h p f =
     let N = ltb→lt 0 n p in
     let z = eqb-zero n N in

@@ -1,5 +1,5 @@
--- On accepted inputs with a read there is a hypothesis, nothing in the answer is a NaN or an infinity, each probability lies from 0 to 1 and the quality from
--- −2 to 100: `finite-answer`. With the refusals, the same of every answer: `every-answer`. Assumes nothing.
+-- On accepted inputs with a read there is a hypothesis, nothing in the answer is a NaN or an infinity, each probability lies from 0 to 1
+-- and the quality from −2 to 100: `finite-answer`. With the refusals, the same of every answer: `every-answer`. Assumes nothing.
 use mathlib.Core.Path.{_≡_, refl, sym, ap, _∙_, subst}
 use mathlib.Core.Logic.{inr}
 use mathlib.Core.Bool.{Bool, true, false, not, _||_, cond, true≢false}
@@ -22,8 +22,7 @@ use Rattle.refusals.specs.declared.Refusal.{Refusal}
 use Rattle.refusals.specs.declared.Refusal.the-variants.{TooMany, Count, Model, NoCall}
 use Rattle.limits.specs.Limits.{countsAllowed}
 use Rattle.picks.specs.Order.{larger, smaller}
-use Rattle.tens.specs.Log10.{pow10Of}
-use Rattle.tens.specs.Normalised.{inTens, wholeOver, lessWhole}
+use Rattle.tens.specs.Normalised.{inTens, wholeOver}
 use Rattle.probabilities.specs.Quality.{tensOf, probabilities, wrongOf, qualityBy}
 use Rattle.probabilities.specs.Inner.{probabilityOf}
 use Rattle.probabilities.proofs.Normal.{probability-at, probability-beyond}
@@ -174,7 +173,9 @@ module _ (p : Params) (counts : List ℕ) (ok : Accepted p counts) where
 
   posts-length : length posts ≡ 36
   unfolding posteriors
-  posts-length = let m = map posterior (hypotheses counts) in padded-length 36 (nat 0) m (subst (λ (k : ℕ). k ≤ 36) (sym (length-map (hypotheses counts) posterior)) (at-most-36 counts))
+  posts-length =
+      let m = map posterior (hypotheses counts) in padded-length 36 (nat 0) m
+      (subst (λ (k : ℕ). k ≤ 36) (sym (length-map (hypotheses counts) posterior)) (at-most-36 counts))
 
   -- the posteriors of the hypotheses as decimal logarithms
   abbrev tens : List Float
@@ -201,11 +202,15 @@ module _ (p : Params) (counts : List ℕ) (ok : Accepted p counts) where
   chance-there some i h =
       let e = in-use-all n (at-most-36 counts) in
       let at = probability-at larger smaller posts posts-length n i (subst (λ (k : ℕ). i < k) (sym e) h) in
-      let c = chance tens (subst (λ (k : ℕ). 0 < k) (sym tens-length) some) (subst (λ (k : ℕ). k ≤ 36) (sym tens-length) (at-most-36 counts)) tens-terms (inTens (getD posts i nan)) (in-tens-term (getD posts i nan) (posteriors-within i h)) in
-      subst (Chance 1) (sym at) (subst (λ (k : ℕ). Chance 1 (probabilityOf smaller (wholeOver larger (tensOf posts k)) (getD posts i nan))) (sym e) c)
+      let c = chance tens (subst (λ (k : ℕ). 0 < k) (sym tens-length) some)
+      (subst (λ (k : ℕ). k ≤ 36) (sym tens-length) (at-most-36 counts)) tens-terms (inTens (getD posts i nan))
+      (in-tens-term (getD posts i nan) (posteriors-within i h)) in
+      subst (Chance 1) (sym at) (subst (λ (k : ℕ). Chance 1
+      (probabilityOf smaller (wholeOver larger (tensOf posts k)) (getD posts i nan))) (sym e) c)
 
   chance-beyond : (i : ℕ) → n ≤ i → i < 36 → getD probs i nan ≡ nat 0
-  chance-beyond i h m = probability-beyond larger smaller posts posts-length n i (subst (λ (k : ℕ). k ≤ i) (sym (in-use-all n (at-most-36 counts))) h) m
+  chance-beyond i h m =
+      probability-beyond larger smaller posts posts-length n i (subst (λ (k : ℕ). k ≤ i) (sym (in-use-all n (at-most-36 counts))) h) m
 
   chance-each : 0 < n → (i : ℕ) → i < 36 → Chance 1 (getD probs i nan)
   chance-each some i m = go (ltb i n) refl

@@ -1,9 +1,9 @@
 -- Which zero a max and a min give changes no answer of mosaic. M7: every posterior is finite, so the steps are alike but for a zero's sign, which no power of
 -- ten sees, and a cap of 1000 is no zero: `mosaic-any`. M3: 0.01 is no zero: `share-any`. Assumes nothing.
-use mathlib.Core.Path.{_≡_, refl, sym, ap, ap₂, _∙_, subst}
+use mathlib.Core.Path.{_≡_, refl, sym, ap, ap₂, subst}
 use mathlib.Core.Bool.{Bool, true, false, _||_, cond}
 use mathlib.Core.List.{List, [], _∷_, map}
-use Prim.Native.Nat.{ℕ, zero, suc, _^_, _≤_, _<_}
+use Prim.Native.Nat.{ℕ, _≤_, _<_}
 use native.Mathlib.Nat.{not-suc-le-zero}
 use native.Mathlib.Omega.{arith}
 use borrow.Author.Tests.{leb-true, eqb-false}
@@ -12,7 +12,7 @@ use lib.Dec.{T, leb, ltb, eqb, lit≤}
 use lib.ListN.{length}
 use lib.Ieee.{Float, binary64, round, lt, fits}
 use lib.Ieee.Fits.{round-fits, add-fits, sub-fits, mul-fits, div-fits}
-use Rattle.floats.specs.F64.{_⊕_, _⊖_, _⊗_, _⊘_, nat, whole, decimal, sumFrom}
+use Rattle.floats.specs.F64.{_⊕_, _⊖_, _⊘_, nat, whole, decimal, sumFrom}
 use Rattle.floats.proofs.Bounds.{within-sub}
 use Rattle.floats.proofs.Zeros.{Number, Alike, same, alike-sym, alike-trans, alike-number, add-alike, sub-alike}
 use Rattle.kernels.specs.Ln.{lnOf}
@@ -59,7 +59,8 @@ module _ (max min : Pick) (is-max : IsMax max) (is-min : IsMin min) where
   tops x y [] h n e = record { alike = h; number = n }
   tops x y (z ∷ l) h n e =
       let f = term-number z (e .0) in
-      tops (max x z) (larger y z) l (alike-trans (max-alike max is-max x z (alike-number (alike-sym h) n) f) (larger-alike h same)) (larger-number y z n f) (e .1)
+      tops (max x z) (larger y z) l (alike-trans (max-alike max is-max x z (alike-number (alike-sym h) n) f) (larger-alike h same))
+      (larger-number y z n f) (e .1)
 
   module _ (x : Float) (l : List Float) (X : Term x) (L : Each Term l) (few : length l ≤ 36) where
     abbrev t : Float
@@ -87,7 +88,12 @@ module _ (max min : Pick) (is-max : IsMax max) (is-min : IsMin min) where
     unfolding wholeOver
     wholes-from =
         subst (λ (z : Float). Alike (t ⊕ log10Of z) (u ⊕ log10Of sum)) (sym sums)
-        (add-alike (both .alike) same top-number (record { is-finite = log-within x l X L few .is-finite; is-f64 = unfold log10Of in div-fits binary64 (lnOf sum) (lnOf (nat 10)) }))
+        (add-alike (both .alike) same top-number
+        (record {
+          is-finite = log-within x l X L few .is-finite;
+          is-f64 = unfold log10Of in div-fits binary64 (lnOf sum)
+              (lnOf (nat 10));
+        }))
 
     whole-fits : T (fits binary64 (wholeOver larger (x ∷ l)))
     unfolding wholeOver
@@ -97,24 +103,32 @@ module _ (max min : Pick) (is-max : IsMax max) (is-min : IsMin min) where
     wholes : Alike (wholeOver max l) (wholeOver larger l) × T (fits binary64 (wholeOver larger l))
     wholes = go l some few terms
       where
-        go : (l : List Float) → 0 < length l → length l ≤ 36 → Each Term l → Alike (wholeOver max l) (wholeOver larger l) × T (fits binary64 (wholeOver larger l))
+        go : (l : List Float) → 0 < length l → length l ≤ 36 → Each Term l
+            → Alike (wholeOver max l) (wholeOver larger l) × T (fits binary64 (wholeOver larger l))
         go [] h k e = absurd (not-suc-le-zero h)
         go (x ∷ l) h k e = (wholes-from x l (e .0) (e .1) (omega arith), whole-fits x l (e .0) (e .1) (omega arith))
 
     whole-number : Number (wholeOver larger l)
     whole-number = record { is-finite = whole-within l some few terms .is-finite; is-f64 = wholes .1 }
 
-    probability-same : (y : Float) → Term y → pow10Of (lessWhole min (wholeOver max l) y) ≡ pow10Of (lessWhole smaller (wholeOver larger l) y)
+    probability-same : (y : Float) → Term y → pow10Of (lessWhole min (wholeOver max l) y)
+        ≡ pow10Of (lessWhole smaller (wholeOver larger l) y)
     probability-same y h =
         let w = wholeOver larger l in
         let d = sub-alike same (wholes .0) (term-number y h) (alike-number (alike-sym (wholes .0)) whole-number) in
-        let k : Number (y ⊖ w) = record { is-finite = within-sub (h .within) (whole-within l some few terms) (lit≤ tt) .is-finite; is-f64 = sub-fits binary64 y w } in
-        pow10-alike (alike-trans (min-alike min is-min (y ⊖ wholeOver max l) (nat 0) (alike-number (alike-sym d) k) zero-number) (smaller-alike d same))
+        let k : Number (y ⊖ w) = record {
+          is-finite = within-sub (h .within) (whole-within l some few terms)
+              (lit≤ tt) .is-finite;
+          is-f64 = sub-fits binary64 y w;
+        } in
+        pow10-alike (alike-trans (min-alike min is-min (y ⊖ wholeOver max l) (nat 0) (alike-number (alike-sym d) k) zero-number)
+        (smaller-alike d same))
 
     pub normalised-any : map pow10Of (normalisedOver max min l) ≡ map pow10Of (normalisedOver larger smaller l)
     normalised-any = go l terms
       where
-        go : (k : List Float) → Each Term k → map pow10Of (map (lessWhole min (wholeOver max l)) k) ≡ map pow10Of (map (lessWhole smaller (wholeOver larger l)) k)
+        go : (k : List Float) → Each Term k → map pow10Of (map (lessWhole min (wholeOver max l)) k)
+            ≡ map pow10Of (map (lessWhole smaller (wholeOver larger l)) k)
         go [] e = refl
         go (y ∷ k) e = ap₂ _∷_ (probability-same y (e .0)) (go k (e .1))
 
@@ -123,28 +137,37 @@ module _ (max min : Pick) (is-max : IsMax max) (is-min : IsMin min) where
     unfolding qualityBy
     quality-any = go (lt (nat 0) w) refl
       where
-        go : (t : Bool) → lt (nat 0) w ≡ t → cond t (min (rawOf w) (nat 1000)) (nat 1000) ⊘ nat 10 ≡ cond t (smaller (rawOf w) (nat 1000)) (nat 1000) ⊘ nat 10
+        go : (t : Bool) → lt (nat 0) w ≡ t → cond t (min (rawOf w) (nat 1000)) (nat 1000) ⊘ nat 10
+            ≡ cond t (smaller (rawOf w) (nat 1000)) (nat 1000) ⊘ nat 10
         go true e =
-            ap (λ (z : Float). z ⊘ nat 10) (cap-same min is-min (rawOf w) (record { is-finite = raw-within w f c e .is-finite; is-f64 = mul-fits binary64 (whole (negsuc 9)) (log10Of w) }))
+            ap (λ (z : Float). z ⊘ nat 10) (cap-same min is-min (rawOf w)
+            (record { is-finite = raw-within w f c e .is-finite; is-f64 = mul-fits binary64 (whole (negsuc 9)) (log10Of w) }))
         go false e = refl
 
   -- ---- the answer
 
   probabilities-any : (p : Params) (counts : List ℕ) (ok : Accepted p counts) → 0 < length (hypotheses counts)
-      → probabilities max min (posteriors first p counts) (length (hypotheses counts)) ≡ probabilities larger smaller (posteriors first p counts) (length (hypotheses counts))
+      → probabilities max min (posteriors first p counts) (length (hypotheses counts)) ≡ probabilities larger smaller
+      (posteriors first p counts) (length (hypotheses counts))
   unfolding probabilities
   probabilities-any p counts ok some =
       let few = at-most-36 counts in
       let long = tens-length p counts ok in
       let l = tensOf (posteriors first p counts) (length (hypotheses counts)) in
       rw (in-use-all (length (hypotheses counts)) few)
-      (ap (padded 36 (nat 0)) (normalised-any l (subst (λ (k : ℕ). 0 < k) (sym long) some) (subst (λ (k : ℕ). k ≤ 36) (sym long) few) (tens-terms p counts ok)))
+      (ap (padded 36 (nat 0)) (normalised-any l (subst (λ (k : ℕ). 0 < k) (sym long) some) (subst (λ (k : ℕ). k ≤ 36) (sym long) few)
+      (tens-terms p counts ok)))
 
   called-any : (p : Params) (counts : List ℕ) → Accepted p counts → 0 < totalOf counts → calledOf max min first p counts ≡ calledOf larger smaller first p counts
   unfolding calledOf
   called-any p counts ok read =
       let some = some-hypothesis counts (ok .few) read in
-      rw (probabilities-any p counts ok some, in-use-all (length (hypotheses counts)) (at-most-36 counts), quality-any (wrong p counts ok) (wrong-number p counts ok some) (wrong-within p counts ok some))
+      rw (
+        probabilities-any p counts ok some,
+        in-use-all (length (hypotheses counts)) (at-most-36 counts),
+        quality-any (wrong p counts ok)
+            (wrong-number p counts ok some) (wrong-within p counts ok some),
+      )
 
   -- of any counts and of parameters that are f64, as the struct's fields are; refusals do not come to a pick
   pub mosaic-any : (p : Params) (counts : List ℕ) → T (fits binary64 (p .alpha)) → T (fits binary64 (p .beta)) → genotypeBy max min first p counts ≡ genotypeOf p counts

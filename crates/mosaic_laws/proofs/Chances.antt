@@ -1,9 +1,10 @@
--- From finite log posteriors every step to the probabilities is a finite number, and each probability lies from 0 to 1: `chance`. Assumes nothing.
+-- From finite log posteriors every step to the probabilities is a finite number, and each probability lies from 0 to 1: `chance`.
+-- Assumes nothing.
 use mathlib.Core.Path.{_≡_, refl, sym, ap, _∙_, subst}
 use mathlib.Core.Logic.{_⊎_, inl, inr}
 use mathlib.Core.Bool.{Bool, true, false, cond}
 use mathlib.Core.List.{List, [], _∷_, map}
-use Prim.Native.Nat.{ℕ, zero, suc, _+_, _*_, _^_, _≤_, _<_, zero-le}
+use Prim.Native.Nat.{ℕ, suc, _+_, _*_, _^_, _≤_, _<_, zero-le}
 use native.Mathlib.Nat.{add-zero, not-suc-le-zero}
 use native.Mathlib.Omega.{arith}
 use lib.IntN.{pos}
@@ -22,7 +23,8 @@ use Rattle.bounds.proofs.Log10Bounds.{within-log10}
 use Rattle.bounds.proofs.ExpBounds.{exp-fits}
 use Rattle.bounds.proofs.ExpAtMost.{exp-at-most-one}
 use Rattle.picks.specs.Order.{larger, smaller}
-use Rattle.diploid_laws.proofs.Signs.{NotAbove, lt-itself, not-below-trans, difference-not-above, not-above-le, mul-not-above, not-below-add}
+use Rattle.diploid_laws.proofs.Signs.{NotAbove, lt-itself, not-below-trans, difference-not-above, not-above-le, mul-not-above}
+use Rattle.diploid_laws.proofs.Signs.{not-below-add}
 use Rattle.diploid_laws.proofs.Largest.{either-of, larger-left, larger-right}
 use Rattle.diploid_laws.proofs.QualityBounds.{one-above, pow10-zero, ten-above, ten-within, smaller-zero}
 
@@ -49,7 +51,8 @@ pub pow10-chance : {n : ℕ} (y : Float) → Within n y → NotAbove y → n * 3
 unfolding pow10Of ofInt
 pow10-chance y w h l =
     let z = y ⊗ lnOf (nat 10) in
-    let r = exp-at-most-one z (not-above-le z (mul-not-above y (lnOf (nat 10)) h (ten-above .is-positive) (within-mul w ten-within l .is-finite))) in
+    let r = exp-at-most-one z (not-above-le z
+    (mul-not-above y (lnOf (nat 10)) h (ten-above .is-positive) (within-mul w ten-within l .is-finite))) in
     record { within = r .0; not-negative = r .1 }
 
 -- ---- lists: each member, and some member
@@ -103,7 +106,8 @@ record Top (x : Float) (l : List Float) (t : Float) : Type 0 where
 
 top-through : (x y t : Float) → Term x → Term y → Term t → lt y x ≡ false → lt t y ≡ false → lt t x ≡ false
 top-through x y t X Y H h k =
-    not-below-trans x y t (X .is-f64) (Y .is-f64) (H .is-f64) (within-number (X .within)) (within-number (Y .within)) (within-number (H .within)) h k
+    not-below-trans x y t (X .is-f64) (Y .is-f64) (H .is-f64) (within-number (X .within)) (within-number (Y .within))
+    (within-number (H .within)) h k
 
 top-is : (x : Float) (l : List Float) → Term x → Each Term l → Top x l (largestFrom larger x l)
 top-is x [] X L = record { term = X; first-below = lt-itself x; rest-below = tt; is-one = inl refl }
@@ -125,10 +129,12 @@ top-is x (y ∷ l) X L =
 
 -- ---- a sum of chances, and where one of them is at least 1
 
-sum-chance : (n : ℕ) (s : Float) (l : List Float) → Chance n s → Each (Chance 1) l → n + length l ≤ 2 ^ 53 → Chance (n + length l) (sumFrom s l)
+sum-chance : (n : ℕ) (s : Float) (l : List Float) → Chance n s → Each (Chance 1) l → n + length l ≤ 2 ^ 53
+    → Chance (n + length l) (sumFrom s l)
 sum-chance n s [] h e m = rw add-zero h
 sum-chance n s (x ∷ l) h e m =
-    subst (λ (k : ℕ). Chance k (sumFrom (s ⊕ x) l)) (one-more n (length l)) (sum-chance (n + 1) (s ⊕ x) l (chance-add h (e .0) (omega arith)) (e .1) (omega arith))
+    subst (λ (k : ℕ). Chance k (sumFrom (s ⊕ x) l)) (one-more n (length l))
+    (sum-chance (n + 1) (s ⊕ x) l (chance-add h (e .0) (omega arith)) (e .1) (omega arith))
   where
     one-more : (n k : ℕ) → n + 1 + k ≡ n + suc k
     one-more n k = omega arith
@@ -136,9 +142,11 @@ sum-chance n s (x ∷ l) h e m =
 above-left : {a b : ℕ} (x y : Float) → Above 0 x → Chance a x → Chance b y → a + b ≤ 2 ^ 53 → Above 0 (x ⊕ y)
 above-left {a} {b} x y h X Y l =
     let e = add-either x y (X .within .is-finite) (Y .within .is-finite) in
-    subst (λ (z : Float). Above 0 z) (sym e) (above-add (Y .not-negative) h zero-le (subst (Within (a + b)) e (within-add (X .within) (Y .within) l)))
+    subst (λ (z : Float). Above 0 z) (sym e)
+    (above-add (Y .not-negative) h zero-le (subst (Within (a + b)) e (within-add (X .within) (Y .within) l)))
 
-sum-above : (n : ℕ) (s : Float) (l : List Float) → Chance n s → Each (Chance 1) l → n + length l ≤ 2 ^ 53 → Some (Above 0) (s ∷ l) → Above 0 (sumFrom s l)
+sum-above : (n : ℕ) (s : Float) (l : List Float) → Chance n s → Each (Chance 1) l → n + length l ≤ 2 ^ 53 → Some (Above 0) (s ∷ l)
+    → Above 0 (sumFrom s l)
 sum-above n s [] h e m some = elim some [ inl a ↦ a | inr r ↦ absurd r ]
 sum-above n s (x ∷ l) h e m some =
     let both = chance-add h (e .0) (omega arith) in
@@ -168,7 +176,8 @@ module _ (x : Float) (l : List Float) (X : Term x) (L : Each Term l) (few : leng
   power-at-top : (y : Float) → top ≡ y → Above 0 (powerOf y)
   power-at-top y e =
       subst (λ (z : Float). Above 0 (pow10Of (z ⊖ top))) e
-      (subst (λ (z : Float). Above 0 z) (sym (ap pow10Of (less-itself top (the-top .term .within .is-finite)) ∙ pow10-zero false)) one-above)
+      (subst (λ (z : Float). Above 0 z) (sym (ap pow10Of (less-itself top (the-top .term .within .is-finite))
+      ∙ pow10-zero false)) one-above)
 
   abbrev powers : List Float
   powers = map powerOf l
@@ -185,7 +194,8 @@ module _ (x : Float) (l : List Float) (X : Term x) (L : Each Term l) (few : leng
 
   sum-positive : Above 0 sum
   sum-positive =
-      sum-above 1 (powerOf x) powers (power x X (the-top .first-below)) each-power room (some-map (λ y. top ≡ y) (Above 0) powerOf power-at-top (x ∷ l) (the-top .is-one))
+      sum-above 1 (powerOf x) powers (power x X (the-top .first-below)) each-power room
+      (some-map (λ y. top ≡ y) (Above 0) powerOf power-at-top (x ∷ l) (the-top .is-one))
 
   sums-fit : (s : Float) (l : List Float) → T (fits binary64 s) → T (fits binary64 (sumFrom s l))
   sums-fit s [] f = f

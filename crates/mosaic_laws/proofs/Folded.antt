@@ -1,11 +1,11 @@
--- kanpig's mosaic finds the largest from minus infinity on and sums from a zero on, its diploid from the first number on. At every list of f64 both make the same
--- whole: `folded-whole`. A NaN in front, which a max from minus infinity passes over, comes back by the sum. Assumes nothing.
+-- kanpig's mosaic finds the largest from minus infinity on and sums from a zero on, its diploid from the first number on. At every list
+-- of f64 both make the same whole: `folded-whole`. A NaN in front, which a max from minus infinity passes over, comes back by the sum.
+-- Assumes nothing.
 use mathlib.Core.Path.{_≡_, refl, sym, ap, _∙_}
 use mathlib.Core.Bool.{Bool, true, false, true≢false}
 use mathlib.Core.List.{List, [], _∷_, map}
-use lib.IntN.{pos}
-use lib.Ieee.{Float, nan, inf, fin, binary64, add, sub, mul, div, neg, lt, isNan, ofBits}
-use Rattle.floats.specs.F64.{_⊕_, _⊖_, _⊗_, _⊘_, nat, sumFrom}
+use lib.Ieee.{Float, nan, inf, fin, add, sub, mul, div, neg, lt, isNan, ofBits}
+use Rattle.floats.specs.F64.{_⊕_, _⊖_, _⊗_, nat, sumFrom}
 use Rattle.floats.proofs.Zeros.{zeroOf}
 use Rattle.kernels.specs.Ln.{lnOf}
 use Rattle.kernels.specs.Exp.{expOf}
@@ -23,7 +23,8 @@ unfolding pow10Of
 power-beside-zero s y = exp-beside-zero s (y ⊗ lnOf (nat 10))
 
 -- where a max of minus infinity and the first number is that number
-pub folded-from : (max : Pick) (s : Bool) (x : Float) (l : List Float) → max (inf true) x ≡ x → wholeFolded max s (x ∷ l) ≡ wholeOver max (x ∷ l)
+pub folded-from : (max : Pick) (s : Bool) (x : Float) (l : List Float) → max (inf true) x ≡ x → wholeFolded max s (x ∷ l)
+    ≡ wholeOver max (x ∷ l)
 unfolding wholeFolded wholeOver
 folded-from max s x l h = rw h (ap (λ (z : Float). t ⊕ log10Of (sumFrom z (map (λ y. pow10Of (y ⊖ t)) l))) (power-beside-zero s (x ⊖ t)))
   where

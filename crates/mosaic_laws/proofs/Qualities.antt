@@ -1,5 +1,5 @@
--- The quality, from probabilities that lie from 0 to 1: at most 100 in size, at least −2, and not below 0 where the probabilities of all but the winner sum to at
--- most 1, as one or none of them does. Assumes nothing.
+-- The quality, from probabilities that lie from 0 to 1: at most 100, at least −2, and not below 0 where the probabilities of all but the
+-- winner sum to at most 1, as one of them does: `bounded`. Assumes nothing.
 use mathlib.Core.Path.{_≡_, refl, sym, ap, _∙_, subst}
 use mathlib.Core.Logic.{_⊎_, inl, inr}
 use mathlib.Core.Bool.{Bool, true, false, not, cond}
@@ -21,7 +21,6 @@ use Rattle.floats.specs.Within.{Within, NotBelow}
 use Rattle.floats.specs.Under.{Under, Over}
 use Rattle.floats.proofs.Floats.{positive-by-test}
 use Rattle.floats.proofs.Bounds.{within-more, within-whole, within-mul}
-use Rattle.floats.proofs.Ranges.{within-range}
 use Rattle.floats.proofs.Fractions.{lt-fractions, le-fractions}
 use Rattle.floats.proofs.Differences.{nought, not-below}
 use Rattle.floats.proofs.Lows.{low-over, low-low, not-below-over}
@@ -36,7 +35,7 @@ use Rattle.bounds.proofs.LnBelow.{ln-low, ln-under}
 use Rattle.picks.specs.Order.{smaller}
 use Rattle.probabilities.specs.Quality.{wrongOf, qualityBy}
 use Rattle.mosaic_laws.proofs.Terms.{either}
-use Rattle.mosaic_laws.proofs.Chances.{Chance, chance-add, nothing, chance-more}
+use Rattle.mosaic_laws.proofs.Chances.{Chance, chance-add, nothing}
 
 -- ---- the probabilities of all but the winner
 
@@ -44,7 +43,9 @@ module _ (ps : List Float) (n : ℕ) (few : n ≤ 36) (chances : (i : ℕ) → i
   -- before the winner's place each adds 1 at most
   before : (k : ℕ) → k ≤ n → k ≤ best → Chance k (wrongOf ps best k)
   before zero l b = nothing
-  before (suc k) l b = rw (ne-eqb k best (omega arith)) (subst (λ (j : ℕ). Chance j (wrongOf ps best k ⊕ getD ps k nan)) (add-one k) (chance-add (before k (omega arith) (omega arith)) (chances k l) (omega (arith, few))))
+  before (suc k) l b =
+      rw (ne-eqb k best (omega arith)) (subst (λ (j : ℕ). Chance j (wrongOf ps best k ⊕ getD ps k nan)) (add-one k)
+      (chance-add (before k (omega arith) (omega arith)) (chances k l) (omega (arith, few))))
 
   -- and it adds nothing
   pub wrong-chance : (k : ℕ) → k ≤ n → best < k → Chance (pred k) (wrongOf ps best k)
@@ -54,12 +55,14 @@ module _ (ps : List Float) (n : ℕ) (few : n ≤ 36) (chances : (i : ℕ) → i
       one-more : (k : ℕ) → best < k → pred k + 1 ≡ k
       one-more k h = omega arith
 
-      go : (t : Bool) → eqb k best ≡ t → (best < k → Chance (pred k) (wrongOf ps best k)) → Chance k (cond (not t) (wrongOf ps best k ⊕ getD ps k nan) (wrongOf ps best k))
+      go : (t : Bool) → eqb k best ≡ t → (best < k → Chance (pred k) (wrongOf ps best k))
+          → Chance k (cond (not t) (wrongOf ps best k ⊕ getD ps k nan) (wrongOf ps best k))
       go true e r = let same = eqb-true k best e in before k (omega arith) (omega arith)
       go false e r =
           let other = eqb-false k best e in
           let h : best < k = omega arith in
-          subst (λ (j : ℕ). Chance j (wrongOf ps best k ⊕ getD ps k nan)) (one-more k h) (chance-add (r h) (chances k l) (omega (arith, few)))
+          subst (λ (j : ℕ). Chance j (wrongOf ps best k ⊕ getD ps k nan)) (one-more k h)
+          (chance-add (r h) (chances k l) (omega (arith, few)))
 
   pub wrong-fits : (k : ℕ) → T (fits binary64 (wrongOf ps best k))
   wrong-fits zero = ofInt-fits binary64 (pos 0)
@@ -107,7 +110,8 @@ not-from-one w h f e =
 not-over-thousand : (x : Float) → NotBelow x → T (finite x) → lt (nat 1000) x ≡ false → Within 1000 x
 unfolding ofInt round
 not-over-thousand x h f e =
-    let b = ltb-false (num (nat 1000) * den x) (num x * den (nat 1000)) (sym (lt-fractions (nat 1000) x (record { not-below = tt }) h) ∙ e) in
+    let b = ltb-false (num (nat 1000) * den x) (num x * den (nat 1000))
+    (sym (lt-fractions (nat 1000) x (record { not-below = tt }) h) ∙ e) in
     record { is-finite = f; small = omega arith }
 
 hundred : nat 1000 ⊘ nat 10 ≡ nat 100
@@ -137,20 +141,27 @@ module _ (w : Float) (f : T (fits binary64 w)) (c : Chance 35 w) where
       let ten = lnOf (nat 10) in
       let low = ln-low w f p (cross→le w (nat 1) p one-positive (one-most w (k .small))) in
       let l = within-log10 w f p in
-      low-low (whole (negsuc 9)) (lnOf w ⊘ ten) (minus-ten-within .is-finite) (l .is-finite) minus-ten-low (low-over (lnOf w) ten (within-ln w f p .is-finite) low (ten-over .is-positive))
+      low-low (whole (negsuc 9)) (lnOf w ⊘ ten) (minus-ten-within .is-finite) (l .is-finite) minus-ten-low
+      (low-over (lnOf w) ten (within-ln w f p .is-finite) low (ten-over .is-positive))
       (within-mul minus-ten-within l (lit≤ tt) .is-finite)
 
   -- and one from 1 to 35 has at most 133/32, which is 15/8 as a decimal logarithm
   raw-small : lt (nat 0) w ≡ true → T (le (nat 1) w) → Under 300 4 (rawOf w)
   unfolding log10Of
   raw-small e h =
-      let l : Under 30 4 (lnOf w ⊘ lnOf (nat 10)) = under-div (ln-under w f (above-zero e) h (c .within)) ten-over 30 4 (lit≤ tt) (lit< tt) (lit< tt) (lit≤ tt) in
+      let l : Under 30 4 (lnOf w ⊘ lnOf (nat 10)) = under-div (ln-under w f (above-zero e) h (c .within)) ten-over 30 4 (lit≤ tt)
+      (lit< tt) (lit< tt) (lit≤ tt) in
       under-mul (within-under minus-ten-within) l (lit< tt) (lit≤ tt)
 
   at-hundred : Bounded w (nat 1000 ⊘ nat 10)
   at-hundred =
       let clear : NotBelow (nat 100) = unfold ofInt round in record { not-below = tt } in
-      rw hundred (record { at-most-hundred = within-whole (pos 100) 100 (lit≤ tt) (lit≤ tt); at-least = inr clear; not-negative = λ _. clear })
+      rw hundred (record {
+        at-most-hundred = within-whole (pos 100) 100 (lit≤ tt)
+            (lit≤ tt);
+        at-least = inr clear;
+        not-negative = λ _. clear;
+      })
 
   below-cap : lt (nat 0) w ≡ true → lt (nat 1000) (rawOf w) ≡ false → Bounded w (rawOf w ⊘ nat 10)
   below-cap e h = go (le (nat 1) w) refl
@@ -160,19 +171,32 @@ module _ (w : Float) (f : T (fits binary64 w)) (c : Chance 35 w) where
 
       go : (t : Bool) → le (nat 1) w ≡ t → Bounded w (rawOf w ⊘ nat 10)
       go true g =
-          let q : Under 15 3 (rawOf w ⊘ nat 10) = under-div (raw-small e (subst T (sym g) tt)) (tenth-over 4) 15 3 (lit≤ tt) (lit< tt) (lit< tt) (lit≤ tt) in
-          record { at-most-hundred = under-within q 100 (lit≤ tt); at-least = inl (under-within q 2 (lit≤ tt)); not-negative = λ k. low k (q .is-finite) }
+          let q : Under 15 3 (rawOf w ⊘ nat 10) = under-div (raw-small e (subst T (sym g) tt)) (tenth-over 4) 15 3 (lit≤ tt) (lit< tt)
+          (lit< tt) (lit≤ tt) in
+          record {
+            at-most-hundred =
+                under-within q 100 (lit≤ tt);
+            at-least = inl (under-within q 2 (lit≤ tt));
+            not-negative = λ k. low k (q .is-finite);
+          }
       go false g =
           let k = not-from-one w (c .not-negative) (c .within .is-finite) g in
           let r = not-over-thousand (rawOf w) (raw-not-below e k) (raw-within e .is-finite) h in
-          let q : Under 100 0 (rawOf w ⊘ nat 10) = under-div (within-under r) (tenth-over 0) 100 0 (lit≤ tt) (lit< tt) (lit< tt) (lit≤ tt) in
-          record { at-most-hundred = under-within q 100 (lit≤ tt); at-least = inr (low k (q .is-finite)); not-negative = λ k. low k (q .is-finite) }
+          let q : Under 100 0 (rawOf w ⊘ nat 10) = under-div (within-under r) (tenth-over 0) 100 0 (lit≤ tt) (lit< tt) (lit< tt)
+          (lit≤ tt) in
+          record {
+            at-most-hundred =
+                under-within q 100 (lit≤ tt);
+            at-least = inr (low k (q .is-finite));
+            not-negative = λ k. low k (q .is-finite);
+          }
 
   pub bounded : Bounded w (qualityBy smaller w)
   unfolding qualityBy
   bounded = go (lt (nat 0) w) (lt (nat 1000) (rawOf w)) refl refl
     where
-      go : (t u : Bool) → lt (nat 0) w ≡ t → lt (nat 1000) (rawOf w) ≡ u → Bounded w (cond t (cond u (nat 1000) (rawOf w)) (nat 1000) ⊘ nat 10)
+      go : (t u : Bool) → lt (nat 0) w ≡ t → lt (nat 1000) (rawOf w) ≡ u
+          → Bounded w (cond t (cond u (nat 1000) (rawOf w)) (nat 1000) ⊘ nat 10)
       go false u e h = at-hundred
       go true true e h = at-hundred
       go true false e h = below-cap e h

@@ -1,9 +1,9 @@
 -- The larger and the smaller of two numbers. Definitions only (RULES.md, G2, G4, M3, M7).
-use mathlib.Core.Bool.{true, cond}
+use mathlib.Core.Bool.{cond}
 use mathlib.Core.Path.{_≡_}
 use mathlib.Core.Logic.{_⊎_}
 use lib.Dec.{T}
-use lib.Ieee.{Float, inf, lt, le}
+use lib.Ieee.{Float, lt, le}
 use lib.Ieee.Scale.{finite}
 
 -- what gives one of two numbers
@@ -17,10 +17,6 @@ IsMax max = (a b : Float) → T (finite a) → T (finite b) → ((max a b ≡ a)
 -- a min, likewise: one that the other is not below
 abbrev pub IsMin : Pick → Type 0
 IsMin min = (a b : Float) → T (finite a) → T (finite b) → ((min a b ≡ a) × T (le a b)) ⊎ ((min a b ≡ b) × T (le b a))
-
--- of minus infinity, from which a fold may start, and a finite number a max gives the number
-abbrev pub FromLeast : Pick → Type 0
-FromLeast max = (x : Float) → T (finite x) → max (inf true) x ≡ x
 
 -- The larger and the smaller, as the contracts take them. Where two zeros of unlike sign meet, Rust does not say which of them its max and min give, so the
 -- definitions of diploid and of mosaic's M7 stand over any `Pick`, and laws say that no answer depends on it (`genotype-any`,

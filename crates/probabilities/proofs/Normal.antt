@@ -1,7 +1,8 @@
--- What the loops work out is M7's: the steps of `normalisedOver` over posteriors in their places, and what stands in each place. Assumes nothing.
+-- What the loops work out is M7's: the steps of `normalisedOver` over posteriors in their places, and what stands in each place. Assumes
+-- nothing.
 use mathlib.Core.Path.{_≡_, refl, sym, ap, _∙_, subst}
 use mathlib.Core.List.{List, [], _∷_, _++_, map}
-use Prim.Native.Nat.{ℕ, zero, suc, _+_, _-_, _≤_, _<_}
+use Prim.Native.Nat.{ℕ, suc, _+_, _-_, _≤_, _<_}
 use native.Mathlib.Nat.{le-of-lt}
 use native.Mathlib.Numerals.{add-one}
 use native.Mathlib.Omega.{arith}
@@ -10,7 +11,7 @@ use lib.Seq.{length-take-le, take-suc, drop-cons, getD-take, getD-append-add}
 use lib.Ieee.{Float, nan}
 use Rattle.floats.specs.F64.{_⊕_, _⊖_, nat, sumFrom}
 use Rattle.tens.specs.Log10.{log10Of, pow10Of}
-use Rattle.tens.specs.Normalised.{inTens, largestFrom, lessWhole, wholeOver, normalisedOver}
+use Rattle.tens.specs.Normalised.{inTens, lessWhole, wholeOver, normalisedOver}
 use Rattle.picks.specs.Order.{Pick}
 use Rattle.lists.specs.Lists.{padded}
 use Rattle.lists.proofs.PaddedLaws.{padded-next}
@@ -44,7 +45,8 @@ unfolding wholeOver
 whole-is max l n h m =
     let r = drop 1 (take n l) in
     let top = topOf max l n in
-    ap (λ (z : List Float). top ⊕ log10Of (sumFrom (pow10Of (inTens (getD l 0 nan) ⊖ top)) z)) (sym (map-after (λ y. pow10Of (y ⊖ top)) inTens r))
+    ap (λ (z : List Float). top ⊕ log10Of (sumFrom (pow10Of (inTens (getD l 0 nan) ⊖ top)) z))
+    (sym (map-after (λ y. pow10Of (y ⊖ top)) inTens r))
     ∙ ap (λ (z : List Float). wholeOver max (map inTens z)) (sym (rest-next l n 0 h m))
 
 -- ---- the probabilities in their places
@@ -56,7 +58,8 @@ places-next g d k l i h m =
     let len : length before ≡ i = length-map (take i l) g ∙ length-take-le i l (le-of-lt m) in
     ap (λ (j : ℕ). set (padded k d before) j (g (getD l i nan))) (sym len)
     ∙ padded-next k d before (g (getD l i nan)) (subst (λ (j : ℕ). j < k) (sym len) h)
-    ∙ ap (padded k d) (sym (map-append (take i l) (getD l i nan)) ∙ ap (map g) (sym (ap (λ (j : ℕ). take j l) (add-one i) ∙ take-suc l i nan m)))
+    ∙ ap (padded k d) (sym (map-append (take i l) (getD l i nan)) ∙ ap (map g)
+    (sym (ap (λ (j : ℕ). take j l) (add-one i) ∙ take-suc l i nan m)))
   where
     map-append : (l : List Float) (x : Float) → map g (l ++ (x ∷ [])) ≡ map g l ++ (g x ∷ [])
     map-append [] x = refl

@@ -1,5 +1,5 @@
--- For the code: what the loops of `probabilities` work out of posteriors that are not yet decimal logarithms. Definitions only; that they are the steps of M7 is
--- proved in proofs/Normal.antt.
+-- For the code: what the loops of `probabilities` work out of posteriors that are not yet decimal logarithms. Definitions only; that
+-- they are the steps of M7 is proved in proofs/Normal.antt.
 use Prim.Native.Nat.{ℕ}
 use mathlib.Core.List.{List, map}
 use lib.ListN.{getD, take, drop}

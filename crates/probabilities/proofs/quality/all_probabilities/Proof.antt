@@ -2,8 +2,8 @@
 use mathlib.Core.Path.{_≡_, refl, sym, ap, _∙_}
 use mathlib.Core.List.{map}
 use Prim.Native.Nat.{ℕ, _≤_, _-_}
-use lib.ListN.{length, getD, set, take}
-use lib.Ieee.{nan, ofInt, ofBits}
+use lib.ListN.{length, take}
+use lib.Ieee.{ofInt, ofBits}
 use Rattle.floats.specs.F64.{nat}
 use Rattle.tens.specs.Log10.{pow10Of}
 use Rattle.tens.specs.Normalised.{normalisedOver}
@@ -72,11 +72,11 @@ loop-again c =
     let loop = c .before .before .loop in
     let a = c .before .before .before .before .before .before .args in
     let w = c .before .before .before .whole .result in
-    let len : length (a .t1) ≡ 36 = search needs in
-    (
+    let len : length (a .t1) ≡ 36 = search needs in (
       search needs,
       search needs,
-      rw (c .probability .ensures, loop .inv .2) (places-next (probabilityOf smaller w) (nat 0) 36 (a .t1) (loop .i) (omega arith) (omega arith)),
+      rw (c .probability .ensures, loop .inv .2)
+          (places-next (probabilityOf smaller w) (nat 0) 36 (a .t1) (loop .i) (omega arith) (omega arith)),
     )
 
 returns-2 : tie.Need-returns-2 Inv-loop μ-loop
@@ -85,7 +85,8 @@ returns-2 c =
     let a = start .before .args in
     let len : length (a .t1) ≡ 36 = search needs in
     let all : c .before .loop .i ≡ inUse (a .n) = omega arith in
-    rw (c .before .loop .inv .2, all, c .before .before .whole .ensures, start .in-use .ensures) (sym (in-places larger smaller (a .t1) len (a .n)))
+    rw (c .before .loop .inv .2, all, c .before .before .whole .ensures, start .in-use .ensures)
+    (sym (in-places larger smaller (a .t1) len (a .n)))
 
 pub all-probabilities-spec : {M : Type 1} → statement M
 all-probabilities-spec =

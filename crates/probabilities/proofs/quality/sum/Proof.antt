@@ -19,7 +19,8 @@ abbrev power : Float → Float → Float
 power largest x = pow10Of (inTens x ⊖ largest)
 
 abbrev Inv-loop : tie.InvT-loop
-Inv-loop n largest posteriors all₀ i₀ all i = (i ≤ 36) × (sumFrom all (map (power largest) (drop i (take n posteriors))) ≡ sumOf largest posteriors n)
+Inv-loop n largest posteriors all₀ i₀ all i =
+    (i ≤ 36) × (sumFrom all (map (power largest) (drop i (take n posteriors))) ≡ sumOf largest posteriors n)
 
 abbrev μ-loop : tie.MeasureT-loop
 μ-loop n largest posteriors all₀ i₀ all i = n - i
@@ -54,15 +55,19 @@ loop-again c =
     let a = c .before .before .before .before .args in
     let len : length (a .t1) ≡ 36 = search needs in
     let next : drop (loop .i) (take (a .n) (a .t1)) ≡ getD (a .t1) (loop .i) nan ∷ drop (loop .i + 1) (take (a .n) (a .t1)) =
-        rest-next (a .t1) (a .n) (loop .i) (omega arith) (search needs) in
-    (search needs, rw (c .pow102 .ensures, ← ln-ten) (ap (λ (l : List Float). sumFrom (loop .all) (map (power (a .largest)) l)) (sym next) ∙ loop .inv .1))
+    rest-next (a .t1) (a .n) (loop .i) (omega arith) (search needs) in (
+      search needs,
+      rw (c .pow102 .ensures, ← ln-ten)
+          (ap (λ (l : List Float). sumFrom (loop .all) (map (power (a .largest)) l)) (sym next) ∙ loop .inv .1),
+    )
 
 returns : tie.Need-returns Inv-loop μ-loop
 returns c =
     let loop = c .before .loop in
     let a = c .before .before .before .args in
     let len : length (a .t1) ≡ 36 = search needs in
-    ap (λ (l : List Float). sumFrom (loop .all) (map (power (a .largest)) l)) (sym (rest-none (a .t1) (a .n) (loop .i) (omega arith) (omega arith))) ∙ loop .inv .1
+    ap (λ (l : List Float). sumFrom (loop .all) (map (power (a .largest)) l))
+    (sym (rest-none (a .t1) (a .n) (loop .i) (omega arith) (omega arith))) ∙ loop .inv .1
 
 pub sum-spec : {M : Type 1} → statement M
 sum-spec =

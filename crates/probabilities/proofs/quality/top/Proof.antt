@@ -3,7 +3,7 @@ use mathlib.Core.Path.{_≡_, refl, sym, ap, _∙_}
 use mathlib.Core.List.{List, _∷_, map}
 use Prim.Native.Nat.{_≤_, _+_, _-_}
 use lib.ListN.{length, getD, take, drop}
-use lib.Ieee.{Float, nan, ofBits}
+use lib.Ieee.{Float, nan}
 use Rattle.tens.specs.Normalised.{inTens, largestFrom}
 use Rattle.tens.proofs.Log10Laws.{ln-ten}
 use Rattle.picks.specs.Order.{larger}
@@ -15,7 +15,8 @@ use Rattle.probabilities.proofs.quality.top.Statement.{statement}
 use Rattle.probabilities.proofs.quality.top.Tie as tie
 
 abbrev Inv-loop : tie.InvT-loop
-Inv-loop n posteriors largest₀ i₀ largest i = (i ≤ 36) × (largestFrom larger largest (map inTens (drop i (take n posteriors))) ≡ topOf larger posteriors n)
+Inv-loop n posteriors largest₀ i₀ largest i =
+    (i ≤ 36) × (largestFrom larger largest (map inTens (drop i (take n posteriors))) ≡ topOf larger posteriors n)
 
 abbrev μ-loop : tie.MeasureT-loop
 μ-loop n posteriors largest₀ i₀ largest i = n - i
@@ -47,15 +48,19 @@ loop-again c =
     let a = c .before .before .before .args in
     let len : length (a .t1) ≡ 36 = search needs in
     let next : drop (loop .i) (take (a .n) (a .t1)) ≡ getD (a .t1) (loop .i) nan ∷ drop (loop .i + 1) (take (a .n) (a .t1)) =
-        rest-next (a .t1) (a .n) (loop .i) (omega arith) (search needs) in
-    (search needs, rw (c .max .ensures, ← ln-ten) (ap (λ (l : List Float). largestFrom larger (loop .largest) (map inTens l)) (sym next) ∙ loop .inv .1))
+    rest-next (a .t1) (a .n) (loop .i) (omega arith) (search needs) in (
+      search needs,
+      rw (c .max .ensures, ← ln-ten)
+          (ap (λ (l : List Float). largestFrom larger (loop .largest) (map inTens l)) (sym next) ∙ loop .inv .1),
+    )
 
 returns : tie.Need-returns Inv-loop μ-loop
 returns c =
     let loop = c .before .loop in
     let a = c .before .before .args in
     let len : length (a .t1) ≡ 36 = search needs in
-    ap (λ (l : List Float). largestFrom larger (loop .largest) (map inTens l)) (sym (rest-none (a .t1) (a .n) (loop .i) (omega arith) (omega arith))) ∙ loop .inv .1
+    ap (λ (l : List Float). largestFrom larger (loop .largest) (map inTens l))
+    (sym (rest-none (a .t1) (a .n) (loop .i) (omega arith) (omega arith))) ∙ loop .inv .1
 
 pub top-spec : {M : Type 1} → statement M
 top-spec =

@@ -21,7 +21,8 @@ returns : tie.Need-returns
 returns c =
     let a = c .before .before .before .args in
     let len : length (a .posteriors) ≡ 36 = search needs in
-    rw (c .log10 .ensures, c .before .sum .ensures, c .before .before .top .ensures) (whole-is larger (a .posteriors) (a .n) (omega arith) (search needs))
+    rw (c .log10 .ensures, c .before .sum .ensures, c .before .before .top .ensures)
+    (whole-is larger (a .posteriors) (a .n) (omega arith) (search needs))
 
 pub whole-spec : {M : Type 1} → statement M
 whole-spec = tie.close (tie.spec top-requires sum-requires log10-requires returns)
