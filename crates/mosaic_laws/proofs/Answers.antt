@@ -9,14 +9,12 @@ use Prim.Native.Nat.{ℕ, zero, suc, pred, _-_, _^_, _≤_, _<_}
 use native.Mathlib.Nat.{not-suc-le-zero}
 use native.Mathlib.Omega.{arith}
 use borrow.Author.Tests.{ltb-true, ltb-false, leb-true, eqb-false}
-use lib.IntN.{pos, negℤ}
 use lib.Dec.{T, leb, ltb, eqb, lit≤, eqb·suc-zero}
 use lib.ListN.{length, getD, take, replicate, getD-replicate, length-append, length-map, List·getD-append}
 use lib.Seq.{length-take-le, getD-take}
-use lib.Ieee.{Float, nan, binary64, lt, le, fits}
-use lib.Ieee.Positive.{positive}
-use Rattle.floats.specs.F64.{nat, whole}
-use Rattle.floats.specs.Within.{Within, NotBelow}
+use lib.Ieee.{Float, nan, binary64, fits}
+use Rattle.floats.specs.F64.{nat}
+use Rattle.floats.specs.Within.{Within}
 use Rattle.floats.proofs.Bounds.{within-more, positive-not-below}
 use Rattle.refusals.specs.declared.Refusal.{Refusal}
 use Rattle.refusals.specs.declared.Refusal.the-variants.{TooMany, Count, Model, NoCall}
@@ -40,15 +38,15 @@ use Rattle.hypotheses.specs.Choice.{posteriors}
 use Rattle.mosaic.specs.Genotype.{blank, flagsOf, calledOf, genotypeBy, genotypeOf}
 use Rattle.models.specs.declared.params.Params.{Params}
 use Rattle.alleles.specs.declared.pair.Pair.{Pair}
-use Rattle.mosaic.specs.declared.genotype.MosaicResult.{MosaicResult}
 use Rattle.lists.proofs.PaddedLaws.{padded-length}
 use Rattle.probabilities.proofs.WinnerLaws.{winner-low}
 use Rattle.hypotheses.proofs.Scanned.{all-seen, at-most-36}
 use Rattle.mosaic_laws.specs.Accepted.{Accepted}
+use Rattle.mosaic_laws.specs.Answers.{Chance, VafOf, FiniteAnswer}
 use Rattle.mosaic_laws.proofs.Seen.{seen-some, seen-in, count-in}
 use Rattle.mosaic_laws.proofs.Places.{flag-at, found-rest}
 use Rattle.mosaic_laws.proofs.Finite.{posterior-within, found-vafs}
-use Rattle.mosaic_laws.proofs.Chances.{Chance, chance-more, nothing, Each, Term, each-map, each-place, in-tens-term, chance}
+use Rattle.mosaic_laws.proofs.Chances.{chance-more, nothing, Each, Term, each-map, each-place, in-tens-term, chance}
 use Rattle.mosaic_laws.proofs.Qualities.{wrong-chance, wrong-fits, bounded, minus-two}
 
 -- ---- the members of a list that pass a test
@@ -127,24 +125,6 @@ some-hypothesis counts few h =
     omega (arith, some-seen counts few h, length-append (singles l) (pairs l), length-map l (λ i. pair i i))
 
 -- ---- the answer
-
--- the VAF at the place of an allele: finite and not below zero; above zero and below 1 where its flag is true, and 0.0 where it is not
-pub record VafOf (flag : Bool) (v : Float) : Type 0 where
-  pub not-negative : NotBelow v
-  pub of-somatic : flag ≡ true → T (positive v) × (lt v (nat 1) ≡ true)
-  pub of-other : flag ≡ false → v ≡ nat 0
-
--- no float of an answer is a NaN or an infinity; each probability lies from 0 to 1, and the quality from −2 to 100
-pub record FiniteAnswer (a : MosaicResult) : Type 0 where
-  pub posterior-is : Within (2 ^ 47) (a .posterior)
-  pub quality-is : Within 100 (a .quality)
-  pub quality-least : T (le (whole (negℤ (pos 2))) (a .quality))
-  -- with one hypothesis or two it is not below 0
-  pub quality-of-two : a .hypotheses ≤ 2 → NotBelow (a .quality)
-  pub vafs-are : (i : ℕ) → i < 8 → VafOf (getD (a .somatic) i false) (getD (a .vafs) i nan)
-  pub chances-are : (i : ℕ) → i < 36 → Chance 1 (getD (a .probabilities) i nan)
-  -- beyond the hypotheses stands 0.0
-  pub beyond-are : (i : ℕ) → a .hypotheses ≤ i → i < 36 → getD (a .probabilities) i nan ≡ nat 0
 
 nothing-here : VafOf false (nat 0)
 nothing-here = record { not-negative = nothing .not-negative; of-somatic = λ e. absurd (true≢false (sym e)); of-other = λ e. refl }

@@ -35,8 +35,9 @@ use Rattle.mosaic.specs.Allowed.{paramsAllowed}
 use Rattle.mosaic.specs.Genotype.{blank, calledOf, genotypeBy, genotypeOf}
 use Rattle.mosaic.specs.declared.genotype.MosaicResult.{MosaicResult}
 use Rattle.mosaic_laws.specs.Accepted.{Accepted}
+use Rattle.mosaic_laws.specs.Answers.{Chance}
 use Rattle.mosaic_laws.proofs.OneLess.{one-less}
-use Rattle.mosaic_laws.proofs.Chances.{Chance, Each, Term, log-within, whole-within}
+use Rattle.mosaic_laws.proofs.Chances.{Each, Term, log-within, whole-within}
 use Rattle.mosaic_laws.proofs.Qualities.{rawOf, raw-within}
 use Rattle.mosaic_laws.proofs.Answers.{some-hypothesis, tens-length, tens-terms, wrong, wrong-within, wrong-number}
 

@@ -13,7 +13,7 @@ use lib.ListN.{length, getD, length-map}
 use lib.Ieee.{Float, nan, binary64, lt, ofInt, fits}
 use lib.Ieee.Fits.{add-fits, div-fits}
 use Rattle.floats.specs.F64.{_⊕_, _⊖_, _⊗_, nat, sumFrom}
-use Rattle.floats.specs.Within.{Within, Above, NotBelow}
+use Rattle.floats.specs.Within.{Within, Above}
 use Rattle.floats.proofs.Bounds.{within-number, within-more, within-whole, within-add, within-sub, within-mul, within-div, above-add}
 use Rattle.floats.proofs.Differences.{less-itself, add-either}
 use Rattle.kernels.specs.Ln.{lnOf}
@@ -27,12 +27,9 @@ use Rattle.diploid_laws.proofs.Signs.{NotAbove, lt-itself, not-below-trans, dif
 use Rattle.diploid_laws.proofs.Signs.{not-below-add}
 use Rattle.diploid_laws.proofs.Largest.{either-of, larger-left, larger-right}
 use Rattle.diploid_laws.proofs.QualityBounds.{one-above, pow10-zero, ten-above, ten-within, smaller-zero}
+use Rattle.mosaic_laws.specs.Answers.{Chance}
 
 -- ---- from 0 to n
-
-pub record Chance (n : ℕ) (x : Float) : Type 0 where
-  pub within : Within n x
-  pub not-negative : NotBelow x
 
 pub chance-add : {a b : ℕ} {x y : Float} → Chance a x → Chance b y → a + b ≤ 2 ^ 53 → Chance (a + b) (x ⊕ y)
 chance-add {x = x} {y = y} h k l =

@@ -34,8 +34,9 @@ use Rattle.bounds.proofs.LnSigns.{under-div}
 use Rattle.bounds.proofs.LnBelow.{ln-low, ln-under}
 use Rattle.picks.specs.Order.{smaller}
 use Rattle.probabilities.specs.Quality.{wrongOf, qualityBy}
+use Rattle.mosaic_laws.specs.Answers.{Chance}
 use Rattle.mosaic_laws.proofs.Terms.{either}
-use Rattle.mosaic_laws.proofs.Chances.{Chance, chance-add, nothing}
+use Rattle.mosaic_laws.proofs.Chances.{chance-add, nothing}
 
 -- ---- the probabilities of all but the winner
 

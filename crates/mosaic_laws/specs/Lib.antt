@@ -3,3 +3,4 @@ pub mod Accepted
 pub mod Largest
 pub mod AtOnce
 pub mod Folded
+pub mod Answers
