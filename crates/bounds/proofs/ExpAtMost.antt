@@ -9,7 +9,7 @@ use native.Mathlib.Omega.{arith}
 use lib.IntN.{ℤ, pos, negsuc}
 use lib.Dec.{T, ltb, lit≤, lit<}
 use lib.Pow.{pow-mono}
-use lib.Ieee.{Float, nan, inf, fin, binary64, up, down, round, neg, sum, add, sub, mul, lt, le, isNan, ofInt, ofBits}
+use lib.Ieee.{Float, nan, inf, fin, binary64, up, down, round, neg, sum, add, sub, lt, le, isNan, ofInt}
 use lib.Ieee.Fits.{down-pos}
 use lib.Ieee.Scale.{finite}
 use Rattle.floats.specs.F64.{_⊕_, _⊖_, _⊗_, whole, nat, ratio}
@@ -23,7 +23,7 @@ use Rattle.floats.proofs.Bounds.{within-whole, within-mul}
 use Rattle.floats.proofs.Sizes.{under-more, under-within, under-mul}
 use Rattle.kernels.specs.Exp.{expSeries, expParts, expOf}
 use Rattle.kernels.specs.Ln.{hi, lo}
-use Rattle.bounds.proofs.LnSigns.{positive-clear}
+use Rattle.bounds.proofs.LnSigns.{positive-clear, nothing-hi, nothing-lo}
 use Rattle.bounds.proofs.ExpBounds.{last, nextToLast, next-under, next-over, series-by, series-bounds, AtMost, kOf, argument-under}
 use Rattle.bounds.proofs.ExpBounds.{least, most, by-tests, k-at-most, not-most, not-both, exp-within}
 
@@ -72,13 +72,9 @@ series-low r small h = series-by r small (Within 1) at
 
 -- ---- where k is 0, r is x
 
-nothing-hi : whole (pos 0) ⊗ hi ≡ nought
-unfolding mul round ofInt ofBits
-nothing-hi = refl
-
-nothing-lo : whole (pos 0) ⊗ lo ≡ nought
-unfolding mul round ofInt ofBits
-nothing-lo = refl
+zero-is : nat 0 ≡ nought
+unfolding ofInt round
+zero-is = refl
 
 finite-before : (x : Float) → T (finite (x ⊖ nought)) → T (finite x)
 unfolding sub neg add
@@ -117,10 +113,10 @@ argumentAt k x = x ⊖ whole k ⊗ hi ⊖ whole k ⊗ lo
 first-low : (x : Float) → T (finite x) → T (le x nought) → Under 1 1 (argumentAt (pos 0) x)
     → Within 1 (expSeries (argumentAt (pos 0) x) ⊗ fin false 1 (pos 0))
 first-low x f h small =
-    let same : argumentAt (pos 0) x ≡ x ⊖ nought ⊖ nought = rw (nothing-hi, nothing-lo) refl in
+    let same : argumentAt (pos 0) x ≡ x ⊖ nought ⊖ nought = rw (nothing-hi, nothing-lo, zero-is) refl in
     let r : Under 1 1 (x ⊖ nought ⊖ nought) = subst (Under 1 1) same small in
-    let y = subst (λ (r : Float). Within 1 (expSeries r)) (sym same)
-    (series-low (x ⊖ nought ⊖ nought) r (argument-low x f h (r .is-finite))) in
+    let low = series-low (x ⊖ nought ⊖ nought) r (argument-low x f h (r .is-finite)) in
+    let y = subst (λ (r : Float). Within 1 (expSeries r)) (sym same) low in
     within-mul {b = 1} y (record { is-finite = tt; small = lit≤ tt }) (lit≤ tt)
 
 middle-low : (x : Float) → isNan x ≡ false → T (le x nought) → lt x least ≡ false → lt most x ≡ false → Within 1 (expParts (kOf x) x)
@@ -138,8 +134,7 @@ middle-low x n h a b = go (kOf x) (argument-under x n a b) (k-at-most 0 zero-le 
 pub exp-at-most-one : (x : Float) → T (le x (nat 0)) → Within 1 (expOf x) × NotBelow (expOf x)
 exp-at-most-one x h =
     let low : T (le x nought) = unfold ofInt in h in
-    let n = le-number x (nat 0) h in (
-      by-tests (Within 1) x n (λ _. within-whole (pos 0) 1 zero-le (lit≤ tt))
-          (λ t. absurd (not-both t (not-most 0 zero-le x (subst (λ (z : Float). T (le x z)) (sym no-halves) low)))) (middle-low x n low),
-      exp-within x h .1,
-    )
+    let n = le-number x (nat 0) h in
+    let below = not-most 0 zero-le x (subst (λ (z : Float). T (le x z)) (sym no-halves) low) in
+    let none = within-whole (pos 0) 1 zero-le (lit≤ tt) in
+    (by-tests (Within 1) x n (λ _. none) (λ t. absurd (not-both t below)) (middle-low x n low), exp-within x h .1)

@@ -54,8 +54,9 @@ module _ (r : Float) (small : Under 1 1 r) where
 
   pub next-over : (p : Float) → Under 1 0 p → Over 1 1 (nextToLast p)
   next-over p h =
-      over-add (under-mul h small (lit< tt) (lit≤ tt)) (one-over 2 1 (lit< tt) (lit< tt) (lit≤ tt) (lit≤ tt)) 1 (lit≤ tt) (lit< tt)
-      (lit< tt) (lit≤ tt) (next-under p h .is-finite)
+      let one = one-over 2 1 (lit< tt) (lit< tt) (lit≤ tt) (lit≤ tt) in
+      let product = under-mul h small (lit< tt) (lit≤ tt) in
+      over-add product one 1 (lit≤ tt) (lit< tt) (lit< tt) (lit≤ tt) (next-under p h .is-finite)
 
   last-bounds : (p : Float) → Under 1 0 p → Under 7 2 (last p) × Over 1 2 (last p)
   last-bounds p h =
@@ -71,8 +72,8 @@ module _ (r : Float) (small : Under 1 1 r) where
       let f = factorial (suc (suc n)) in
       let two : 2 ≤ f = le-trans (le-of-eq (sym (mul-one 2))) (mul-le-mul (at-least-two n) (factorial-pos (suc n))) in
       let c : Under 1 1 (ratio 1 f) = round-at-most false 1 f 1 1 (factorial-pos (suc (suc n))) (lit< tt) (lit≤ tt) (omega arith) in
-      by-last P at n (p ⊗ r ⊕ ratio 1 f) (under-more (under-add (under-mul h small (lit< tt) (lit≤ tt)) c (lit< tt) (lit≤ tt)) 1 0
-      (lit≤ tt))
+      let sum = under-add (under-mul h small (lit< tt) (lit≤ tt)) c (lit< tt) (lit≤ tt) in
+      by-last P at n (p ⊗ r ⊕ ratio 1 f) (under-more sum 1 0 (lit≤ tt))
     where
       at-least-two : (n : ℕ) → 2 ≤ suc (suc n)
       at-least-two n = omega arith

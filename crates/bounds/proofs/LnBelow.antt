@@ -27,7 +27,7 @@ use Rattle.kernels.specs.Ln.{hi, lo, series, lnNearOne, lnParts, lnReduced, lnO
 use Rattle.bounds.proofs.LnApart.{ln-apart}
 use Rattle.bounds.proofs.LnSigns.{clear-mul, shareOf, series-under, two-under, near-one-under, hi-over, hi-under, lo-under}
 use Rattle.bounds.proofs.LnSigns.{series-clear, nothing-hi, nothing-lo, nothing-under, turn, turn-over, half-over, half-under}
-use Rattle.bounds.proofs.LnSigns.{halved-share, kept-share, apart, from-one, to-two, under-next}
+use Rattle.bounds.proofs.LnSigns.{halved-share, kept-share, apart, from-one, to-two, under-next, one-positive, one-cross}
 
 -- ---- k·hi + (t + k·lo), for a k below 0
 
@@ -46,12 +46,9 @@ parts-low j m l s =
     let over : Over 22 5 (k ⊗ hi) = over-mul one hi-over (lit< tt) (lit< tt) (lit≤ tt) (high .is-finite) in
     let low : Under 1 5 (k ⊗ lo) = under-more (under-mul w lo-under (lit< tt) (lit≤ tt)) 1 5 (lit≤ tt) in
     let rest : Under 18 5 (lnNearOne m ⊕ neg (k ⊗ lo)) = under-add (near-one-under m s) (under-neg low) (lit< tt) (lit≤ tt) in
-    rw (
-      whole-negative j,
-      negative-times k hi (a .is-positive) (unfold ofBits in tt),
-      negative-times k lo (a .is-positive)
-          (unfold ofBits in tt),
-    ) (low-beside over rest (lit≤ tt))
+    let high-is = negative-times k hi (a .is-positive) (unfold ofBits in tt) in
+    let low-is = negative-times k lo (a .is-positive) (unfold ofBits in tt) in
+    rw (whole-negative j, high-is, low-is) (low-beside over rest (lit≤ tt))
 
 -- ---- for a k of 0 and an m of at most 1
 
@@ -91,10 +88,6 @@ parts-nothing m s h =
     (low-plus (nat 0) (lnNearOne m ⊕ nat 0) (nothing-under .is-finite) (rest .is-finite) nothing-low
     (low-plus (lnNearOne m) (nat 0) (t .is-finite) (nothing-under .is-finite) (near-one-low m s h) nothing-low))
 
-unit : T (positive (nat 1))
-unfolding ofInt round
-unit = tt
-
 at-most-one : (m : Float) → num m * 2 ^ 0 ≤ 1 * den m → num m * den (nat 1) ≤ num (nat 1) * den m
 unfolding ofInt round
 at-most-one m h = omega arith
@@ -103,27 +96,13 @@ at-most-one m h = omega arith
 share-low : (m : Float) → T (positive m) → Under 1 0 m → T (le (shareOf m) nought)
 share-low m p u =
     let one : Under 1 0 (nat 1) = within-under (within-whole (pos 1) 1 (lit≤ tt) (lit≤ tt)) in
-    let low = cross→le m (nat 1) p unit (at-most-one m (u .small)) in
+    let low = cross→le m (nat 1) p one-positive (at-most-one m (u .small)) in
     let difference = under-sub u one (lit< tt) (lit≤ tt) in
     let sum = under-within (under-add u one (lit< tt) (lit≤ tt)) 2 (lit≤ tt) in
     let up = above-add (positive-not-below m p) (above-whole 1 (lit< tt) (lit≤ tt)) (lit≤ tt) sum in
     low-over (m ⊖ nat 1) (m ⊕ nat 1) (difference .is-finite) (less-larger m (nat 1) (u .is-finite) (one .is-finite) low) (up .is-positive)
 
--- ---- x = 2^k·m of at most 1: k is not above 0, and where it is 0, so is m at most 1
-
--- a / b times u / v is n / d, which is at most z, and 1 ≤ a / b
-within-power : (a b n d z u v : ℕ) → 0 < d → a * u * d ≡ n * (b * v) → n ≤ z * d → a * u ≤ z * b * v
-within-power a b n d z u v D e h =
-    let r : a * u * d ≤ z * b * v * d = omega (arith, mul-le-mul-right (b * v) h) in
-    le-of-mul-le-mul-right r D
-
--- 5/4 ≤ a / b and a / b times u is at most 1
-no-turn : (a b u : ℕ) → 0 < b → 0 < u → 5 * b ≤ a * 4 → a * u ≤ 1 * b * 1 → ⊥
-no-turn a b u B U h k = omega (arith, mul-le-mul-left a U)
-
--- 1 ≤ a / b and a / b times u is at most 1, for a u from 2 on
-no-double : (a b u : ℕ) → 0 < b → 2 ≤ u → 8 * b ≤ a * 8 → a * u ≤ 1 * b * 1 → ⊥
-no-double a b u B U h k = omega (arith, mul-le-mul-left a U)
+-- ---- for a k from 0 to 5
 
 hi-most : Under 23 5 hi
 unfolding ofBits
@@ -137,6 +116,23 @@ parts-under k m l s =
     let low : Under 1 5 (nat k ⊗ lo) = under-more (under-mul w lo-under (lit< tt) (lit≤ tt)) 1 5 (lit≤ tt) in
     under-add high (under-add (near-one-under m s) low (lit< tt) (lit≤ tt)) (lit< tt) (lit≤ tt)
 
+-- ---- x = 2^k·m of at most 1: k is not above 0, and where it is 0, m is at most 1. From 1 to 35: k is at most 5, and at most 4 where m is
+-- halved
+
+-- a / b times u / v is n / d, which is at most z
+within-power : (a b n d z u v : ℕ) → 0 < d → a * u * d ≡ n * (b * v) → n ≤ z * d → a * u ≤ z * b * v
+within-power a b n d z u v D e h =
+    let r : a * u * d ≤ z * b * v * d = omega (arith, mul-le-mul-right (b * v) h) in
+    le-of-mul-le-mul-right r D
+
+-- 5/4 ≤ a / b and a / b times u is at most 1
+no-turn : (a b u : ℕ) → 0 < b → 0 < u → 5 * b ≤ a * 4 → a * u ≤ 1 * b * 1 → ⊥
+no-turn a b u B U h k = omega (arith, mul-le-mul-left a U)
+
+-- 1 ≤ a / b and a / b times u is at most 1, for a u from 2 on
+no-double : (a b u : ℕ) → 0 < b → 2 ≤ u → 8 * b ≤ a * 8 → a * u ≤ 1 * b * 1 → ⊥
+no-double a b u B U h k = omega (arith, mul-le-mul-left a U)
+
 -- a / b times u is at most 35, for a u from 32 on with 5/4 ≤ a / b, and for a u from 64 on with 1 ≤ a / b
 no-five : (a b u : ℕ) → 0 < b → 32 ≤ u → 5 * b ≤ a * 4 → a * u ≤ 35 * b * 1 → ⊥
 no-five a b u B U h k = omega (arith, mul-le-mul-left a U)
@@ -144,9 +140,18 @@ no-five a b u B U h k = omega (arith, mul-le-mul-left a U)
 no-six : (a b u : ℕ) → 0 < b → 64 ≤ u → 8 * b ≤ a * 8 → a * u ≤ 35 * b * 1 → ⊥
 no-six a b u B U h k = omega (arith, mul-le-mul-left a U)
 
+power-few : (k n : ℕ) → (suc n ≤ k → ⊥) → k ≤ n
+power-few k n h = go (leb k n) refl
+  where
+    go : (t : Bool) → leb k n ≡ t → k ≤ n
+    go true e = leb-true k n e
+    go false e = absurd (h (leb-false k n e))
+
 next-exponent : (j : ℕ) → negsuc (suc j) +ℤ pos 1 ≡ negsuc j
 next-exponent j =
-    let k : 1 < suc (suc j) = omega arith in let e : suc (suc j) - 2 ≡ j = omega arith in rw (lt-ltb 1 (suc (suc j)) k) (ap negsuc e)
+    let k : 1 < suc (suc j) = omega arith in
+    let e : suc (suc j) - 2 ≡ j = omega arith in
+    rw (lt-ltb 1 (suc (suc j)) k) (ap negsuc e)
 
 module _ (x : Float) (f : T (fits binary64 x)) (p : T (positive x)) where
   abbrev m : Float
@@ -192,16 +197,9 @@ module _ (x : Float) (f : T (fits binary64 x)) (p : T (positive x)) where
           absurd (no-double (num m) (den m) (2 ^ suc k) (den-pos m) (pow-mono {i = 1} {j = suc k} (omega arith)) (one .large) h)
       go false e (negsuc j) l h = parts-low j m (le-trans l (lit≤ tt)) (kept-share m one two e)
 
-  ln-low-from : num x ≤ 1 * den x → T (le (lnOf x) nought)
-  ln-low-from h = rw (ln-apart x f p) (reduced-low (exponent x) (exponent-small x f p) (at-most 1 h))
-
-  -- from 1 on and at most 35: k is at most 5, and at most 4 where m is halved
-  power-few : (k n : ℕ) → (suc n ≤ k → ⊥) → k ≤ n
-  power-few k n h = go (leb k n) refl
-    where
-      go : (t : Bool) → leb k n ≡ t → k ≤ n
-      go true e = leb-true k n e
-      go false e = absurd (h (leb-false k n e))
+  -- above zero and at most 1: not above 0
+  pub ln-low : Within 1 x → T (le (lnOf x) nought)
+  ln-low w = rw (ln-apart x f p) (reduced-low (exponent x) (exponent-small x f p) (at-most 1 (w .small)))
 
   reduced-under : (k : ℤ) → 1 * down k < 2 * up k → num m * up k ≤ 35 * den m * down k → Under 133 5 (lnReduced k m)
   unfolding lnReduced
@@ -217,23 +215,8 @@ module _ (x : Float) (f : T (fits binary64 x)) (p : T (positive x)) where
           let few = power-few k 5 (λ l. no-six (num m) (den m) (2 ^ k) (den-pos m) (pow-mono {i = 6} {j = k} l) (one .large) h) in
           parts-under k m few (kept-share m one two e)
 
-  ln-under-from : 1 * den x ≤ num x → num x ≤ 35 * den x → Under 133 5 (lnOf x)
-  ln-under-from l h = rw (ln-apart x f p) (reduced-under (exponent x) (under-next x f p 1 l) (at-most 35 h))
-
--- ---- by the test
-
-one-cross : (x : Float) → num x * den (nat 1) ≤ num (nat 1) * den x → num x ≤ 1 * den x
-unfolding ofInt round
-one-cross x h = omega arith
-
-cross-one : (x : Float) → num (nat 1) * den x ≤ num x * den (nat 1) → 1 * den x ≤ num x
-unfolding ofInt round
-cross-one x h = omega arith
-
--- above zero and at most 1: not above 0
-pub ln-low : (x : Float) → T (fits binary64 x) → T (positive x) → T (le x (nat 1)) → T (le (lnOf x) nought)
-ln-low x f p h = ln-low-from x f p (one-cross x (le→cross x (nat 1) p unit h))
-
--- from 1 to 35: at most 133/32 in size
-pub ln-under : (x : Float) → T (fits binary64 x) → T (positive x) → T (le (nat 1) x) → Within 35 x → Under 133 5 (lnOf x)
-ln-under x f p h w = ln-under-from x f p (cross-one x (le→cross (nat 1) x unit p h)) (w .small)
+  -- from 1 to 35: at most 133/32 in size
+  pub ln-under : T (le (nat 1) x) → Within 35 x → Under 133 5 (lnOf x)
+  ln-under h w =
+      let from = one-cross x (le→cross (nat 1) x one-positive p h) in
+      rw (ln-apart x f p) (reduced-under (exponent x) (under-next x f p 1 from) (at-most 35 (w .small)))

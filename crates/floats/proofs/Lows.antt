@@ -148,7 +148,7 @@ negative-times (fin false m e) (fin false n d) p q = negative-is (m * up e * (n 
 
 -- ---- what is not below zero: the product of two, and a quotient
 
-clear-not-below : (x : Float) → T (clear x) → NotBelow x
+pub clear-not-below : (x : Float) → T (clear x) → NotBelow x
 clear-not-below nan h = absurd h
 clear-not-below (inf s) h = absurd h
 clear-not-below (fin true m e) h = absurd h

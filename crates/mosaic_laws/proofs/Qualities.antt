@@ -15,7 +15,7 @@ use lib.ListN.{getD}
 use lib.Ieee.{Float, nan, inf, fin, binary64, up, down, div, round, lt, le, ofInt, ofBits, fits}
 use lib.Ieee.Fits.{ofInt-fits, add-fits}
 use lib.Ieee.Scale.{finite}
-use lib.Ieee.Positive.{num, den, positive, cross→le}
+use lib.Ieee.Positive.{num, den, positive}
 use Rattle.floats.specs.F64.{_⊕_, _⊗_, _⊘_, nat, whole}
 use Rattle.floats.specs.Within.{Within, NotBelow}
 use Rattle.floats.specs.Under.{Under, Over}
@@ -45,8 +45,8 @@ module _ (ps : List Float) (n : ℕ) (few : n ≤ 36) (chances : (i : ℕ) → i
   before : (k : ℕ) → k ≤ n → k ≤ best → Chance k (wrongOf ps best k)
   before zero l b = nothing
   before (suc k) l b =
-      rw (ne-eqb k best (omega arith)) (subst (λ (j : ℕ). Chance j (wrongOf ps best k ⊕ getD ps k nan)) (add-one k)
-      (chance-add (before k (omega arith) (omega arith)) (chances k l) (omega (arith, few))))
+      let sum = chance-add (before k (omega arith) (omega arith)) (chances k l) (omega (arith, few)) in
+      rw (ne-eqb k best (omega arith)) (subst (λ (j : ℕ). Chance j (wrongOf ps best k ⊕ getD ps k nan)) (add-one k) sum)
 
   -- and it adds nothing
   pub wrong-chance : (k : ℕ) → k ≤ n → best < k → Chance (pred k) (wrongOf ps best k)
@@ -76,6 +76,7 @@ module _ (ps : List Float) (n : ℕ) (few : n ≤ 36) (chances : (i : ℕ) → i
 abbrev pub rawOf : Float → Float
 rawOf w = whole (negsuc 9) ⊗ log10Of w
 
+-- what is known of the quality q that a sum of w makes
 pub record Bounded (w q : Float) : Type 0 where
   pub at-most-hundred : Within 100 q
   pub at-least : Within 2 q ⊎ NotBelow q
@@ -93,26 +94,19 @@ minus-ten-low : T (le (whole (negsuc 9)) nought)
 unfolding le ofInt round
 minus-ten-low = tt
 
-one-positive : T (positive (nat 1))
-unfolding ofInt round
-one-positive = tt
-
-one-most : (w : Float) → num w ≤ 1 * den w → num w * den (nat 1) ≤ num (nat 1) * den w
-unfolding ofInt round
-one-most w h = omega arith
-
--- at least 1, or at most 1
+-- what is not from 1 on is at most 1
 not-from-one : (w : Float) → NotBelow w → T (finite w) → le (nat 1) w ≡ false → Within 1 w
 unfolding ofInt round
 not-from-one w h f e =
-    let b = leb-false (num (nat 1) * den w) (num w * den (nat 1)) (sym (le-fractions (nat 1) w (record { not-below = tt }) h) ∙ e) in
+    let by-size = le-fractions (nat 1) w (record { not-below = tt }) h in
+    let b = leb-false (num (nat 1) * den w) (num w * den (nat 1)) (sym by-size ∙ e) in
     record { is-finite = f; small = omega arith }
 
 not-over-thousand : (x : Float) → NotBelow x → T (finite x) → lt (nat 1000) x ≡ false → Within 1000 x
 unfolding ofInt round
 not-over-thousand x h f e =
-    let b = ltb-false (num (nat 1000) * den x) (num x * den (nat 1000))
-    (sym (lt-fractions (nat 1000) x (record { not-below = tt }) h) ∙ e) in
+    let by-size = lt-fractions (nat 1000) x (record { not-below = tt }) h in
+    let b = ltb-false (num (nat 1000) * den x) (num x * den (nat 1000)) (sym by-size ∙ e) in
     record { is-finite = f; small = omega arith }
 
 hundred : nat 1000 ⊘ nat 10 ≡ nat 100
@@ -140,7 +134,7 @@ module _ (w : Float) (f : T (fits binary64 w)) (c : Chance 35 w) where
   raw-not-below e k =
       let p = above-zero e in
       let ten = lnOf (nat 10) in
-      let low = ln-low w f p (cross→le w (nat 1) p one-positive (one-most w (k .small))) in
+      let low = ln-low w f p k in
       let l = within-log10 w f p in
       low-low (whole (negsuc 9)) (lnOf w ⊘ ten) (minus-ten-within .is-finite) (l .is-finite) minus-ten-low
       (low-over (lnOf w) ten (within-ln w f p .is-finite) low (ten-over .is-positive))
@@ -150,19 +144,15 @@ module _ (w : Float) (f : T (fits binary64 w)) (c : Chance 35 w) where
   raw-small : lt (nat 0) w ≡ true → T (le (nat 1) w) → Under 300 4 (rawOf w)
   unfolding log10Of
   raw-small e h =
-      let l : Under 30 4 (lnOf w ⊘ lnOf (nat 10)) = under-div (ln-under w f (above-zero e) h (c .within)) ten-over 30 4 (lit≤ tt)
-      (lit< tt) (lit< tt) (lit≤ tt) in
-      under-mul (within-under minus-ten-within) l (lit< tt) (lit≤ tt)
+      let ln = ln-under w f (above-zero e) h (c .within) in
+      let log10 = under-div ln ten-over 30 4 (lit≤ tt) (lit< tt) (lit< tt) (lit≤ tt) in
+      under-mul (within-under minus-ten-within) log10 (lit< tt) (lit≤ tt)
 
   at-hundred : Bounded w (nat 1000 ⊘ nat 10)
   at-hundred =
       let clear : NotBelow (nat 100) = unfold ofInt round in record { not-below = tt } in
-      rw hundred (record {
-        at-most-hundred = within-whole (pos 100) 100 (lit≤ tt)
-            (lit≤ tt);
-        at-least = inr clear;
-        not-negative = λ _. clear;
-      })
+      let most = within-whole (pos 100) 100 (lit≤ tt) (lit≤ tt) in
+      rw hundred (record { at-most-hundred = most; at-least = inr clear; not-negative = λ _. clear })
 
   below-cap : lt (nat 0) w ≡ true → lt (nat 1000) (rawOf w) ≡ false → Bounded w (rawOf w ⊘ nat 10)
   below-cap e h = go (le (nat 1) w) refl
@@ -172,22 +162,19 @@ module _ (w : Float) (f : T (fits binary64 w)) (c : Chance 35 w) where
 
       go : (t : Bool) → le (nat 1) w ≡ t → Bounded w (rawOf w ⊘ nat 10)
       go true g =
-          let q : Under 15 3 (rawOf w ⊘ nat 10) = under-div (raw-small e (subst T (sym g) tt)) (tenth-over 4) 15 3 (lit≤ tt) (lit< tt)
-          (lit< tt) (lit≤ tt) in
+          let r = raw-small e (subst T (sym g) tt) in
+          let q : Under 15 3 (rawOf w ⊘ nat 10) = under-div r (tenth-over 4) 15 3 (lit≤ tt) (lit< tt) (lit< tt) (lit≤ tt) in
           record {
-            at-most-hundred =
-                under-within q 100 (lit≤ tt);
+            at-most-hundred = under-within q 100 (lit≤ tt);
             at-least = inl (under-within q 2 (lit≤ tt));
             not-negative = λ k. low k (q .is-finite);
           }
       go false g =
           let k = not-from-one w (c .not-negative) (c .within .is-finite) g in
           let r = not-over-thousand (rawOf w) (raw-not-below e k) (raw-within e .is-finite) h in
-          let q : Under 100 0 (rawOf w ⊘ nat 10) = under-div (within-under r) (tenth-over 0) 100 0 (lit≤ tt) (lit< tt) (lit< tt)
-          (lit≤ tt) in
+          let q = under-div (within-under r) (tenth-over 0) 100 0 (lit≤ tt) (lit< tt) (lit< tt) (lit≤ tt) in
           record {
-            at-most-hundred =
-                under-within q 100 (lit≤ tt);
+            at-most-hundred = under-within q 100 (lit≤ tt);
             at-least = inr (low k (q .is-finite));
             not-negative = λ k. low k (q .is-finite);
           }
