@@ -38,6 +38,7 @@ use Rattle.hypotheses.specs.Choice.{posteriors}
 use Rattle.mosaic.specs.Genotype.{blank, flagsOf, calledOf, genotypeBy, genotypeOf}
 use Rattle.models.specs.declared.params.Params.{Params}
 use Rattle.alleles.specs.declared.pair.Pair.{Pair}
+use Rattle.mosaic.specs.declared.genotype.MosaicResult.{MosaicResult}
 use Rattle.lists.proofs.PaddedLaws.{padded-length}
 use Rattle.probabilities.proofs.WinnerLaws.{winner-low}
 use Rattle.hypotheses.proofs.Scanned.{all-seen, at-most-36}
@@ -52,7 +53,8 @@ use Rattle.mosaic_laws.proofs.Qualities.{wrong-chance, wrong-fits, boun
 -- ---- the members of a list that pass a test
 
 module _ {A : Type 0} (t : A → Bool) (d : A) where
-  passed-front : (b : Bool) (x : A) (l : List A) → t x ≡ b → ((i : ℕ) → i < length l → t (getD l i d) ≡ true) → (i : ℕ) → i < length (cond b (x ∷ l) l) → t (getD (cond b (x ∷ l) l) i d) ≡ true
+  passed-front : (b : Bool) (x : A) (l : List A) → t x ≡ b → ((i : ℕ) → i < length l → t (getD l i d) ≡ true) → (i : ℕ)
+      → i < length (cond b (x ∷ l) l) → t (getD (cond b (x ∷ l) l) i d) ≡ true
   passed-front true x l e h zero m = e
   passed-front true x l e h (suc i) m = h i (omega arith)
   passed-front false x l e h i m = h i m
@@ -77,7 +79,8 @@ module _ {A : Type 0} (t : A → Bool) (d : A) where
 
 both-seen : (counts : List ℕ) (i : ℕ) → i < length (hypotheses counts) → bothSeen counts (getD (hypotheses counts) i (pair 0 0)) ≡ true
 both-seen counts =
-    subst (λ (l : List Pair). (i : ℕ) → i < length l → bothSeen counts (getD l i (pair 0 0)) ≡ true) (all-seen counts) (passed (bothSeen counts) (pair 0 0) allPairs)
+    subst (λ (l : List Pair). (i : ℕ) → i < length l → bothSeen counts (getD l i (pair 0 0)) ≡ true) (all-seen counts)
+    (passed (bothSeen counts) (pair 0 0) allPairs)
 
 -- where there is a read, an allele is seen
 record Read (counts : List ℕ) (k : ℕ) : Type 0 where
@@ -91,7 +94,9 @@ read counts (suc k) h = go (ltb 0 (countAt counts k)) refl (λ m. read counts k 
   where
     go : (b : Bool) → ltb 0 (countAt counts k) ≡ b → (0 < totalOver counts k → Read counts k) → Read counts (suc k)
     go true e r = record { allele = k; below = omega arith; is-seen = e }
-    go false e r = let z = ltb-false 0 (countAt counts k) e in let q = r (omega arith) in record { allele = q .allele; below = omega (arith, q .below); is-seen = q .is-seen }
+    go false e r =
+        let z = ltb-false 0 (countAt counts k) e in let q = r (omega arith) in
+        record { allele = q .allele; below = omega (arith, q .below); is-seen = q .is-seen }
 
 some-seen : (counts : List ℕ) → length counts ≤ 8 → 0 < totalOf counts → 0 < length (seenAlleles counts)
 some-seen counts few h =
@@ -148,14 +153,15 @@ module _ (p : Params) (counts : List ℕ) (ok : Accepted p counts) where
   posteriors-within i h =
       let m = map posterior (hypotheses counts) in
       subst (Within (2 ^ 47))
-      (sym (List·getD-append m (replicate (36 - length m) (nat 0)) nan i (rw (length-map (hypotheses counts) posterior) h) ∙ map-at posterior (hypotheses counts) (pair 0 0) nan i h))
+      (sym (List·getD-append m (replicate (36 - length m) (nat 0)) nan i (rw (length-map (hypotheses counts) posterior) h)
+      ∙ map-at posterior (hypotheses counts) (pair 0 0) nan i h))
       (each-within i h)
 
   posts-length : length posts ≡ 36
   unfolding posteriors
   posts-length =
-      let m = map posterior (hypotheses counts) in padded-length 36 (nat 0) m
-      (subst (λ (k : ℕ). k ≤ 36) (sym (length-map (hypotheses counts) posterior)) (at-most-36 counts))
+      let few = subst (λ (k : ℕ). k ≤ 36) (sym (length-map (hypotheses counts) posterior)) (at-most-36 counts) in
+      padded-length 36 (nat 0) (map posterior (hypotheses counts)) few
 
   -- the posteriors of the hypotheses as decimal logarithms
   abbrev tens : List Float
@@ -164,8 +170,14 @@ module _ (p : Params) (counts : List ℕ) (ok : Accepted p counts) where
   taken : length (take n posts) ≡ n
   taken = length-take-le n posts (subst (λ (k : ℕ). n ≤ k) (sym posts-length) (at-most-36 counts))
 
-  pub tens-length : length tens ≡ n
+  tens-length : length tens ≡ n
   tens-length = length-map (take n posts) inTens ∙ taken
+
+  pub tens-some : 0 < n → 0 < length tens
+  tens-some some = subst (λ (k : ℕ). 0 < k) (sym tens-length) some
+
+  pub tens-few : length tens ≤ 36
+  tens-few = subst (λ (k : ℕ). k ≤ 36) (sym tens-length) (at-most-36 counts)
 
   pub tens-terms : Each Term tens
   tens-terms =
@@ -182,15 +194,14 @@ module _ (p : Params) (counts : List ℕ) (ok : Accepted p counts) where
   chance-there some i h =
       let e = in-use-all n (at-most-36 counts) in
       let at = probability-at larger smaller posts posts-length n i (subst (λ (k : ℕ). i < k) (sym e) h) in
-      let c = chance tens (subst (λ (k : ℕ). 0 < k) (sym tens-length) some)
-      (subst (λ (k : ℕ). k ≤ 36) (sym tens-length) (at-most-36 counts)) tens-terms (inTens (getD posts i nan))
-      (in-tens-term (getD posts i nan) (posteriors-within i h)) in
-      subst (Chance 1) (sym at) (subst (λ (k : ℕ). Chance 1
-      (probabilityOf smaller (wholeOver larger (tensOf posts k)) (getD posts i nan))) (sym e) c)
+      let x = getD posts i nan in
+      let c = chance tens (tens-some some) tens-few tens-terms (inTens x) (in-tens-term x (posteriors-within i h)) in
+      subst (Chance 1) (sym at) (subst (λ (k : ℕ). Chance 1 (probabilityOf smaller (wholeOver larger (tensOf posts k)) x)) (sym e) c)
 
   chance-beyond : (i : ℕ) → n ≤ i → i < 36 → getD probs i nan ≡ nat 0
   chance-beyond i h m =
-      probability-beyond larger smaller posts posts-length n i (subst (λ (k : ℕ). k ≤ i) (sym (in-use-all n (at-most-36 counts))) h) m
+      let e = in-use-all n (at-most-36 counts) in
+      probability-beyond larger smaller posts posts-length n i (subst (λ (k : ℕ). k ≤ i) (sym e) h) m
 
   chance-each : 0 < n → (i : ℕ) → i < 36 → Chance 1 (getD probs i nan)
   chance-each some i m = go (ltb i n) refl
@@ -218,13 +229,18 @@ module _ (p : Params) (counts : List ℕ) (ok : Accepted p counts) where
   pub wrong-number : 0 < n → T (fits binary64 wrong)
   wrong-number some = wrong-fits probs n (at-most-36 counts) (chance-there some) (winner posts n) n
 
-  vaf-each : (g : Pair) → bothSeen counts g ≡ true → (i : ℕ) → i < 8 → VafOf (getD (flagsOf counts g) i false) (vafAt (foundOf first p counts g .vafs) i)
+  vaf-each : (g : Pair) → bothSeen counts g ≡ true → (i : ℕ) → i < 8
+      → VafOf (getD (flagsOf counts g) i false) (vafAt (foundOf first p counts g .vafs) i)
   vaf-each g both i m = rw (flag-at counts (ok .few) g i m) (go (somaticIn counts g i) refl)
     where
       go : (t : Bool) → somaticIn counts g i ≡ t → VafOf t (vafAt (foundOf first p counts g .vafs) i)
       go true e =
           let f = found-vafs p counts ok g both i (seen-in counts i (and-elim-left (seenIn counts i) (not (germlineIn g i)) e)) e in
-          record { not-negative = positive-not-below (vafAt (foundOf first p counts g .vafs) i) (f .0 .above-zero); of-somatic = λ q. (f .0 .above-zero, f .1); of-other = λ q. absurd (true≢false q) }
+          record {
+            not-negative = positive-not-below (vafAt (foundOf first p counts g .vafs) i) (f .0 .above-zero);
+            of-somatic = λ q. (f .0 .above-zero, f .1);
+            of-other = λ q. absurd (true≢false q);
+          }
       go false e = subst (VafOf false) (sym (found-rest counts (ok .few) g first p i m e)) nothing-here
 
   pub finite-answer : 0 < totalOf counts → FiniteAnswer (calledOf larger smaller first p counts)
@@ -263,13 +279,18 @@ blank-finite r = record {
 }
 
 -- a call or a refusal, whatever the counts and the parameters, which are f64
-pub every-answer : (p : Params) (counts : List ℕ) → T (fits binary64 (p .alpha)) → T (fits binary64 (p .beta)) → FiniteAnswer (genotypeOf p counts)
+pub every-answer : (p : Params) (counts : List ℕ) → T (fits binary64 (p .alpha)) → T (fits binary64 (p .beta))
+    → FiniteAnswer (genotypeOf p counts)
 unfolding genotypeBy
 every-answer p counts f h =
-    go (leb (length counts) 8) (paramsAllowed p) (countsAllowed counts) (ltb (totalOf counts) (p .depth)) (eqb (totalOf counts) 0) refl refl refl refl
+    go (leb (length counts) 8) (paramsAllowed p) (countsAllowed counts) (ltb (totalOf counts) (p .depth))
+    (eqb (totalOf counts) 0) refl refl refl refl
   where
+    called : MosaicResult
+    called = calledOf larger smaller first p counts
+
     go : (a b c d e : Bool) → leb (length counts) 8 ≡ a → paramsAllowed p ≡ b → countsAllowed counts ≡ c → eqb (totalOf counts) 0 ≡ e
-        → FiniteAnswer (cond a (cond b (cond c (cond (d || e) (blank NoCall) (calledOf larger smaller first p counts)) (blank Count)) (blank Model)) (blank TooMany))
+        → FiniteAnswer (cond a (cond b (cond c (cond (d || e) (blank NoCall) called) (blank Count)) (blank Model)) (blank TooMany))
     go false b c d e q r s t = blank-finite TooMany
     go true false c d e q r s t = blank-finite Model
     go true true false d e q r s t = blank-finite Count
@@ -277,4 +298,6 @@ every-answer p counts f h =
     go true true true false true q r s t = blank-finite NoCall
     go true true true false false q r s t =
         let some = eqb-false (totalOf counts) 0 t in
-        finite-answer p counts (record { params-are = r; alpha-is-f64 = f; beta-is-f64 = h; counts-are = s; few = leb-true (length counts) 8 q }) (omega arith)
+        let few = leb-true (length counts) 8 q in
+        let ok : Accepted p counts = record { params-are = r; alpha-is-f64 = f; beta-is-f64 = h; counts-are = s; few = few } in
+        finite-answer p counts ok (omega arith)

@@ -1,5 +1,5 @@
--- Which zero a max and a min give changes no answer of mosaic. M7: every posterior is finite, so the steps are alike but for a zero's sign, which no power of
--- ten sees, and a cap of 1000 is no zero: `mosaic-any`. M3: 0.01 is no zero: `share-any`. Assumes nothing.
+-- Which zero a max and a min give changes no answer of mosaic. M7: every posterior is finite, so the steps are alike but for a zero's
+-- sign, which no power of ten sees, and a cap of 1000 is no zero: `mosaic-any`. M3: 0.01 is no zero: `share-any`. Assumes nothing.
 use mathlib.Core.Path.{_≡_, refl, sym, ap, ap₂, subst}
 use mathlib.Core.Bool.{Bool, true, false, _||_, cond}
 use mathlib.Core.List.{List, [], _∷_, map}
@@ -23,7 +23,8 @@ use Rattle.limits.specs.Limits.{countsAllowed}
 use Rattle.models.specs.declared.params.Params.{Params}
 use Rattle.picks.specs.Order.{Pick, IsMax, IsMin, larger, smaller}
 use Rattle.lists.specs.Lists.{padded}
-use Rattle.diploid_laws.proofs.Picks.{zero-number, max-alike, max-same, min-alike, cap-same, larger-alike, smaller-alike, larger-number, pow10-alike}
+use Rattle.diploid_laws.proofs.Picks.{zero-number, max-alike, max-same, min-alike, cap-same, larger-alike, smaller-alike, larger-number}
+use Rattle.diploid_laws.proofs.Picks.{pow10-alike}
 use Rattle.probabilities.specs.Quality.{tensOf, probabilities, qualityBy}
 use Rattle.probabilities.proofs.InUse.{in-use-all}
 use Rattle.alleles.specs.Alleles.{totalOf}
@@ -39,7 +40,7 @@ use Rattle.mosaic_laws.specs.Answers.{Chance}
 use Rattle.mosaic_laws.proofs.OneLess.{one-less}
 use Rattle.mosaic_laws.proofs.Chances.{Each, Term, log-within, whole-within}
 use Rattle.mosaic_laws.proofs.Qualities.{rawOf, raw-within}
-use Rattle.mosaic_laws.proofs.Answers.{some-hypothesis, tens-length, tens-terms, wrong, wrong-within, wrong-number}
+use Rattle.mosaic_laws.proofs.Answers.{some-hypothesis, tens-some, tens-few, tens-terms, wrong, wrong-within, wrong-number}
 
 -- ---- the probabilities and the quality
 
@@ -51,17 +52,20 @@ map-same f g P h [] e = refl
 map-same f g P h (x ∷ l) e = ap₂ _∷_ (h x (e .0)) (map-same f g P h l (e .1))
 
 module _ (max min : Pick) (is-max : IsMax max) (is-min : IsMin min) where
-  -- the largest by either is one number but for a zero's sign
-  record Tops (t u : Float) : Type 0 where
+  -- by either it is one number but for a zero's sign
+  record Beside (t u : Float) : Type 0 where
     pub alike : Alike t u
     pub number : Number u
 
-  tops : (x y : Float) (l : List Float) → Alike x y → Number y → Each Term l → Tops (largestFrom max x l) (largestFrom larger y l)
-  tops x y [] h n e = record { alike = h; number = n }
-  tops x y (z ∷ l) h n e =
+  other-number : {t u : Float} → Beside t u → Number t
+  other-number h = alike-number (alike-sym (h .alike)) (h .number)
+
+  tops : (x y : Float) (l : List Float) → Beside x y → Each Term l → Beside (largestFrom max x l) (largestFrom larger y l)
+  tops x y [] h e = h
+  tops x y (z ∷ l) h e =
       let f = term-number z (e .0) in
-      tops (max x z) (larger y z) l (alike-trans (max-alike max is-max x z (alike-number (alike-sym h) n) f) (larger-alike h same))
-      (larger-number y z n f) (e .1)
+      let next = alike-trans (max-alike max is-max x z (other-number h) f) (larger-alike (h .alike) same) in
+      tops (max x z) (larger y z) l (record { alike = next; number = larger-number y z (h .number) f }) (e .1)
 
   module _ (x : Float) (l : List Float) (X : Term x) (L : Each Term l) (few : length l ≤ 36) where
     abbrev t : Float
@@ -70,14 +74,11 @@ module _ (max min : Pick) (is-max : IsMax max) (is-min : IsMin min) where
     abbrev u : Float
     u = largestFrom larger x l
 
-    both : Tops t u
-    both = tops x x l same (term-number x X) L
-
-    top-number : Number t
-    top-number = alike-number (alike-sym (both .alike)) (both .number)
+    both : Beside t u
+    both = tops x x l (record { alike = same; number = term-number x X }) L
 
     power-same : (y : Float) → Term y → pow10Of (y ⊖ t) ≡ pow10Of (y ⊖ u)
-    power-same y h = pow10-alike (sub-alike same (both .alike) (term-number y h) top-number)
+    power-same y h = pow10-alike (sub-alike same (both .alike) (term-number y h) (other-number both))
 
     sums : sumFrom (pow10Of (x ⊖ t)) (map (λ y. pow10Of (y ⊖ t)) l) ≡ sumFrom (pow10Of (x ⊖ u)) (map (λ y. pow10Of (y ⊖ u)) l)
     sums = ap₂ sumFrom (power-same x X) (map-same (λ y. pow10Of (y ⊖ t)) (λ y. pow10Of (y ⊖ u)) Term power-same l L)
@@ -85,51 +86,49 @@ module _ (max min : Pick) (is-max : IsMax max) (is-min : IsMin min) where
     abbrev sum : Float
     sum = sumFrom (pow10Of (x ⊖ u)) (map (λ y. pow10Of (y ⊖ u)) l)
 
-    wholes-from : Alike (wholeOver max (x ∷ l)) (wholeOver larger (x ∷ l))
+    log-number : Number (log10Of sum)
+    unfolding log10Of
+    log-number = record { is-finite = log-within x l X L few .is-finite; is-f64 = div-fits binary64 (lnOf sum) (lnOf (nat 10)) }
+
+    wholes-alike : Alike (wholeOver max (x ∷ l)) (wholeOver larger (x ∷ l))
     unfolding wholeOver
-    wholes-from =
+    wholes-alike =
         subst (λ (z : Float). Alike (t ⊕ log10Of z) (u ⊕ log10Of sum)) (sym sums)
-        (add-alike (both .alike) same top-number
-        (record {
-          is-finite = log-within x l X L few .is-finite;
-          is-f64 = unfold log10Of in div-fits binary64 (lnOf sum)
-              (lnOf (nat 10));
-        }))
+        (add-alike (both .alike) same (other-number both) log-number)
 
     whole-fits : T (fits binary64 (wholeOver larger (x ∷ l)))
     unfolding wholeOver
     whole-fits = add-fits binary64 u (log10Of sum)
 
   module _ (l : List Float) (some : 0 < length l) (few : length l ≤ 36) (terms : Each Term l) where
-    wholes : Alike (wholeOver max l) (wholeOver larger l) × T (fits binary64 (wholeOver larger l))
+    wholes : Beside (wholeOver max l) (wholeOver larger l)
     wholes = go l some few terms
       where
-        go : (l : List Float) → 0 < length l → length l ≤ 36 → Each Term l
-            → Alike (wholeOver max l) (wholeOver larger l) × T (fits binary64 (wholeOver larger l))
+        go : (l : List Float) → 0 < length l → length l ≤ 36 → Each Term l → Beside (wholeOver max l) (wholeOver larger l)
         go [] h k e = absurd (not-suc-le-zero h)
-        go (x ∷ l) h k e = (wholes-from x l (e .0) (e .1) (omega arith), whole-fits x l (e .0) (e .1) (omega arith))
+        go (x ∷ l) h k e =
+            let rest : length l ≤ 36 = omega arith in
+            let finite = whole-within (x ∷ l) h k e .is-finite in
+            record {
+              alike = wholes-alike x l (e .0) (e .1) rest;
+              number = record { is-finite = finite; is-f64 = whole-fits x l (e .0) (e .1) rest };
+            }
 
-    whole-number : Number (wholeOver larger l)
-    whole-number = record { is-finite = whole-within l some few terms .is-finite; is-f64 = wholes .1 }
-
-    probability-same : (y : Float) → Term y → pow10Of (lessWhole min (wholeOver max l) y)
-        ≡ pow10Of (lessWhole smaller (wholeOver larger l) y)
+    probability-same : (y : Float) → Term y
+        → pow10Of (lessWhole min (wholeOver max l) y) ≡ pow10Of (lessWhole smaller (wholeOver larger l) y)
     probability-same y h =
         let w = wholeOver larger l in
-        let d = sub-alike same (wholes .0) (term-number y h) (alike-number (alike-sym (wholes .0)) whole-number) in
-        let k : Number (y ⊖ w) = record {
-          is-finite = within-sub (h .within) (whole-within l some few terms)
-              (lit≤ tt) .is-finite;
-          is-f64 = sub-fits binary64 y w;
-        } in
-        pow10-alike (alike-trans (min-alike min is-min (y ⊖ wholeOver max l) (nat 0) (alike-number (alike-sym d) k) zero-number)
-        (smaller-alike d same))
+        let d = sub-alike same (wholes .alike) (term-number y h) (other-number wholes) in
+        let less = within-sub (h .within) (whole-within l some few terms) (lit≤ tt) in
+        let k : Number (y ⊖ w) = record { is-finite = less .is-finite; is-f64 = sub-fits binary64 y w } in
+        let capped = min-alike min is-min (y ⊖ wholeOver max l) (nat 0) (alike-number (alike-sym d) k) zero-number in
+        pow10-alike (alike-trans capped (smaller-alike d same))
 
     pub normalised-any : map pow10Of (normalisedOver max min l) ≡ map pow10Of (normalisedOver larger smaller l)
     normalised-any = go l terms
       where
-        go : (k : List Float) → Each Term k → map pow10Of (map (lessWhole min (wholeOver max l)) k)
-            ≡ map pow10Of (map (lessWhole smaller (wholeOver larger l)) k)
+        go : (k : List Float) → Each Term k
+            → map pow10Of (map (lessWhole min (wholeOver max l)) k) ≡ map pow10Of (map (lessWhole smaller (wholeOver larger l)) k)
         go [] e = refl
         go (y ∷ k) e = ap₂ _∷_ (probability-same y (e .0)) (go k (e .1))
 
@@ -138,46 +137,51 @@ module _ (max min : Pick) (is-max : IsMax max) (is-min : IsMin min) where
     unfolding qualityBy
     quality-any = go (lt (nat 0) w) refl
       where
-        go : (t : Bool) → lt (nat 0) w ≡ t → cond t (min (rawOf w) (nat 1000)) (nat 1000) ⊘ nat 10
-            ≡ cond t (smaller (rawOf w) (nat 1000)) (nat 1000) ⊘ nat 10
-        go true e =
-            ap (λ (z : Float). z ⊘ nat 10) (cap-same min is-min (rawOf w)
-            (record { is-finite = raw-within w f c e .is-finite; is-f64 = mul-fits binary64 (whole (negsuc 9)) (log10Of w) }))
+        number : lt (nat 0) w ≡ true → Number (rawOf w)
+        number e = record { is-finite = raw-within w f c e .is-finite; is-f64 = mul-fits binary64 (whole (negsuc 9)) (log10Of w) }
+
+        go : (t : Bool) → lt (nat 0) w ≡ t
+            → cond t (min (rawOf w) (nat 1000)) (nat 1000) ⊘ nat 10 ≡ cond t (smaller (rawOf w) (nat 1000)) (nat 1000) ⊘ nat 10
+        go true e = ap (λ (z : Float). z ⊘ nat 10) (cap-same min is-min (rawOf w) (number e))
         go false e = refl
 
   -- ---- the answer
 
-  probabilities-any : (p : Params) (counts : List ℕ) (ok : Accepted p counts) → 0 < length (hypotheses counts)
-      → probabilities max min (posteriors first p counts) (length (hypotheses counts)) ≡ probabilities larger smaller
-      (posteriors first p counts) (length (hypotheses counts))
-  unfolding probabilities
-  probabilities-any p counts ok some =
-      let few = at-most-36 counts in
-      let long = tens-length p counts ok in
-      let l = tensOf (posteriors first p counts) (length (hypotheses counts)) in
-      rw (in-use-all (length (hypotheses counts)) few)
-      (ap (padded 36 (nat 0)) (normalised-any l (subst (λ (k : ℕ). 0 < k) (sym long) some) (subst (λ (k : ℕ). k ≤ 36) (sym long) few)
-      (tens-terms p counts ok)))
+  module _ (p : Params) (counts : List ℕ) (ok : Accepted p counts) (some : 0 < length (hypotheses counts)) where
+    abbrev n : ℕ
+    n = length (hypotheses counts)
 
-  called-any : (p : Params) (counts : List ℕ) → Accepted p counts → 0 < totalOf counts → calledOf max min first p counts ≡ calledOf larger smaller first p counts
+    abbrev posts : List Float
+    posts = posteriors first p counts
+
+    probabilities-any : probabilities max min posts n ≡ probabilities larger smaller posts n
+    unfolding probabilities
+    probabilities-any =
+        let same = normalised-any (tensOf posts n) (tens-some p counts ok some) (tens-few p counts ok) (tens-terms p counts ok) in
+        rw (in-use-all n (at-most-36 counts)) (ap (padded 36 (nat 0)) same)
+
+    wrong-any : qualityBy min (wrong p counts ok) ≡ qualityBy smaller (wrong p counts ok)
+    wrong-any = quality-any (wrong p counts ok) (wrong-number p counts ok some) (wrong-within p counts ok some)
+
+  called-any : (p : Params) (counts : List ℕ) → Accepted p counts → 0 < totalOf counts
+      → calledOf max min first p counts ≡ calledOf larger smaller first p counts
   unfolding calledOf
   called-any p counts ok read =
       let some = some-hypothesis counts (ok .few) read in
-      rw (
-        probabilities-any p counts ok some,
-        in-use-all (length (hypotheses counts)) (at-most-36 counts),
-        quality-any (wrong p counts ok)
-            (wrong-number p counts ok some) (wrong-within p counts ok some),
-      )
+      let all = in-use-all (length (hypotheses counts)) (at-most-36 counts) in
+      rw (probabilities-any p counts ok some, all, wrong-any p counts ok some)
 
   -- of any counts and of parameters that are f64, as the struct's fields are; refusals do not come to a pick
-  pub mosaic-any : (p : Params) (counts : List ℕ) → T (fits binary64 (p .alpha)) → T (fits binary64 (p .beta)) → genotypeBy max min first p counts ≡ genotypeOf p counts
+  pub mosaic-any : (p : Params) (counts : List ℕ) → T (fits binary64 (p .alpha)) → T (fits binary64 (p .beta))
+      → genotypeBy max min first p counts ≡ genotypeOf p counts
   unfolding genotypeBy
   mosaic-any p counts f h =
-      go (leb (length counts) 8) (paramsAllowed p) (countsAllowed counts) (ltb (totalOf counts) (p .depth)) (eqb (totalOf counts) 0) refl refl refl refl
+      go (leb (length counts) 8) (paramsAllowed p) (countsAllowed counts) (ltb (totalOf counts) (p .depth))
+      (eqb (totalOf counts) 0) refl refl refl refl
     where
       answer : Pick → Pick → Bool → Bool → Bool → Bool → MosaicResult
-      answer max min a b c d = cond a (cond b (cond c (cond d (blank NoCall) (calledOf max min first p counts)) (blank Count)) (blank Model)) (blank TooMany)
+      answer max min a b c d =
+          cond a (cond b (cond c (cond d (blank NoCall) (calledOf max min first p counts)) (blank Count)) (blank Model)) (blank TooMany)
 
       go : (a b c d e : Bool) → leb (length counts) 8 ≡ a → paramsAllowed p ≡ b → countsAllowed counts ≡ c → eqb (totalOf counts) 0 ≡ e
           → answer max min a b c (d || e) ≡ answer larger smaller a b c (d || e)
@@ -188,13 +192,17 @@ module _ (max min : Pick) (is-max : IsMax max) (is-min : IsMin min) where
       go true true true false true q r s t = refl
       go true true true false false q r s t =
           let some = eqb-false (totalOf counts) 0 t in
-          called-any p counts (record { params-are = r; alpha-is-f64 = f; beta-is-f64 = h; counts-are = s; few = leb-true (length counts) 8 q }) (omega arith)
+          let few = leb-true (length counts) 8 q in
+          let ok : Accepted p counts = record { params-are = r; alpha-is-f64 = f; beta-is-f64 = h; counts-are = s; few = few } in
+          called-any p counts ok (omega arith)
 
 -- ---- M3: what the somatic VAFs leave, for any mass that is a number
 
 hundredth-number : Number (decimal 1 2)
 hundredth-number = record { is-finite = unfold round in tt; is-f64 = round-fits binary64 false 1 100 }
 
-pub share-any : (max : Pick) → IsMax max → (mass : Float) → Number mass → max (nat 1 ⊖ mass) (decimal 1 2) ≡ larger (nat 1 ⊖ mass) (decimal 1 2)
+pub share-any : (max : Pick) → IsMax max → (mass : Float) → Number mass
+    → max (nat 1 ⊖ mass) (decimal 1 2) ≡ larger (nat 1 ⊖ mass) (decimal 1 2)
 share-any max is-max mass n =
-    max-same max is-max (nat 1 ⊖ mass) (decimal 1 2) (record { is-finite = one-less mass n; is-f64 = sub-fits binary64 (nat 1) mass }) hundredth-number (unfold round in refl)
+    max-same max is-max (nat 1 ⊖ mass) (decimal 1 2)
+    (record { is-finite = one-less mass n; is-f64 = sub-fits binary64 (nat 1) mass }) hundredth-number (unfold round in refl)

@@ -5,7 +5,7 @@ use mathlib.Core.Logic.{_⊎_, inl, inr}
 use mathlib.Core.Bool.{Bool, true, false, cond}
 use mathlib.Core.List.{List, [], _∷_, map}
 use Prim.Native.Nat.{ℕ, suc, _+_, _*_, _^_, _≤_, _<_, zero-le}
-use native.Mathlib.Nat.{add-zero, not-suc-le-zero}
+use native.Mathlib.Nat.{not-suc-le-zero}
 use native.Mathlib.Omega.{arith}
 use lib.IntN.{pos}
 use lib.Dec.{T, lit≤}
@@ -26,7 +26,7 @@ use Rattle.picks.specs.Order.{larger, smaller}
 use Rattle.diploid_laws.proofs.Signs.{NotAbove, lt-itself, not-below-trans, difference-not-above, not-above-le, mul-not-above}
 use Rattle.diploid_laws.proofs.Signs.{not-below-add}
 use Rattle.diploid_laws.proofs.Largest.{either-of, larger-left, larger-right}
-use Rattle.diploid_laws.proofs.QualityBounds.{one-above, pow10-zero, ten-above, ten-within, smaller-zero}
+use Rattle.diploid_laws.proofs.QualityBounds.{one, one-above, pow10-zero, ten-above, ten-within, smaller-zero}
 use Rattle.mosaic_laws.specs.Answers.{Chance}
 
 -- ---- from 0 to n
@@ -48,8 +48,8 @@ pub pow10-chance : {n : ℕ} (y : Float) → Within n y → NotAbove y → n * 3
 unfolding pow10Of ofInt
 pow10-chance y w h l =
     let z = y ⊗ lnOf (nat 10) in
-    let r = exp-at-most-one z (not-above-le z
-    (mul-not-above y (lnOf (nat 10)) h (ten-above .is-positive) (within-mul w ten-within l .is-finite))) in
+    let low = mul-not-above y (lnOf (nat 10)) h (ten-above .is-positive) (within-mul w ten-within l .is-finite) in
+    let r = exp-at-most-one z (not-above-le z low) in
     record { within = r .0; not-negative = r .1 }
 
 -- ---- lists: each member, and some member
@@ -124,17 +124,7 @@ top-is x (y ∷ l) X L =
     one-of true t e = inr (inl e)
     one-of false t e = inl e
 
--- ---- a sum of chances, and where one of them is at least 1
-
-sum-chance : (n : ℕ) (s : Float) (l : List Float) → Chance n s → Each (Chance 1) l → n + length l ≤ 2 ^ 53
-    → Chance (n + length l) (sumFrom s l)
-sum-chance n s [] h e m = rw add-zero h
-sum-chance n s (x ∷ l) h e m =
-    subst (λ (k : ℕ). Chance k (sumFrom (s ⊕ x) l)) (one-more n (length l))
-    (sum-chance (n + 1) (s ⊕ x) l (chance-add h (e .0) (omega arith)) (e .1) (omega arith))
-  where
-    one-more : (n k : ℕ) → n + 1 + k ≡ n + suc k
-    one-more n k = omega arith
+-- ---- a sum of chances of which one is at least 1
 
 above-left : {a b : ℕ} (x y : Float) → Above 0 x → Chance a x → Chance b y → a + b ≤ 2 ^ 53 → Above 0 (x ⊕ y)
 above-left {a} {b} x y h X Y l =
@@ -172,16 +162,16 @@ module _ (x : Float) (l : List Float) (X : Term x) (L : Each Term l) (few : leng
 
   power-at-top : (y : Float) → top ≡ y → Above 0 (powerOf y)
   power-at-top y e =
-      subst (λ (z : Float). Above 0 (pow10Of (z ⊖ top))) e
-      (subst (λ (z : Float). Above 0 z) (sym (ap pow10Of (less-itself top (the-top .term .within .is-finite))
-      ∙ pow10-zero false)) one-above)
+      let one-is : powerOf top ≡ one = ap pow10Of (less-itself top (the-top .term .within .is-finite)) ∙ pow10-zero false in
+      subst (λ (z : Float). Above 0 (pow10Of (z ⊖ top))) e (subst (λ (z : Float). Above 0 z) (sym one-is) one-above)
 
   abbrev powers : List Float
   powers = map powerOf l
 
   each-power : Each (Chance 1) powers
-  each-power = each-map (λ y. Term y × (lt top y ≡ false)) (Chance 1) powerOf (λ y h. power y (h .0) (h .1)) l
-      (each-both Term (λ y. lt top y ≡ false) (λ y. Term y × (lt top y ≡ false)) (λ y a b. (a, b)) l L (the-top .rest-below))
+  each-power =
+      each-map (λ y. Chance 1 (powerOf y)) (Chance 1) powerOf (λ y c. c) l
+      (each-both Term (λ y. lt top y ≡ false) (λ y. Chance 1 (powerOf y)) power l L (the-top .rest-below))
 
   abbrev sum : Float
   sum = sumFrom (powerOf x) powers
