@@ -15,6 +15,7 @@ use lib.Ieee.Scale.{finite}
 use Rattle.floats.specs.F64.{_⊕_, _⊖_, _⊗_, whole, nat, ratio}
 use Rattle.floats.specs.Within.{Within, NotBelow}
 use Rattle.floats.specs.Under.{Under}
+use Rattle.floats.proofs.Clear.{positive-clear}
 use Rattle.floats.proofs.Ranges.{le-number}
 use Rattle.floats.proofs.Rounded.{round-within}
 use Rattle.floats.proofs.Differences.{nought, less-larger}
@@ -23,7 +24,7 @@ use Rattle.floats.proofs.Bounds.{within-whole, within-mul}
 use Rattle.floats.proofs.Sizes.{under-more, under-within, under-mul}
 use Rattle.kernels.specs.Exp.{expSeries, expParts, expOf}
 use Rattle.kernels.specs.Ln.{hi, lo}
-use Rattle.bounds.proofs.LnSigns.{positive-clear, nothing-hi, nothing-lo}
+use Rattle.bounds.proofs.LnSigns.{nothing-hi, nothing-lo}
 use Rattle.bounds.proofs.ExpBounds.{last, nextToLast, next-under, next-over, series-by, series-bounds, AtMost, kOf, argument-under}
 use Rattle.bounds.proofs.ExpBounds.{least, most, by-tests, k-at-most, not-most, not-both, exp-within}
 

@@ -17,6 +17,7 @@ use Rattle.floats.specs.F64.{_⊕_, _⊖_, _⊗_, nat, whole, ratio}
 use Rattle.floats.specs.Apart.{exponent, significand}
 use Rattle.floats.specs.Within.{Within}
 use Rattle.floats.specs.Under.{Under, Over}
+use Rattle.floats.proofs.Clear.{clear-mul}
 use Rattle.floats.proofs.Fitting.{exponent-small}
 use Rattle.floats.proofs.Rounded.{clear, round-clear}
 use Rattle.floats.proofs.Differences.{nought, less-larger}
@@ -25,7 +26,7 @@ use Rattle.floats.proofs.Bounds.{within-whole, above-whole, above-add, positive
 use Rattle.floats.proofs.Sizes.{under-more, under-within, under-neg, under-mul, under-add, under-sub, over-mul, within-under}
 use Rattle.kernels.specs.Ln.{hi, lo, series, lnNearOne, lnParts, lnReduced, lnOf}
 use Rattle.bounds.proofs.LnApart.{ln-apart}
-use Rattle.bounds.proofs.LnSigns.{clear-mul, shareOf, series-under, two-under, near-one-under, hi-over, hi-under, lo-under}
+use Rattle.bounds.proofs.LnSigns.{shareOf, series-under, two-under, near-one-under, hi-over, hi-under, lo-under}
 use Rattle.bounds.proofs.LnSigns.{series-clear, nothing-hi, nothing-lo, nothing-under, turn, turn-over, half-over, half-under}
 use Rattle.bounds.proofs.LnSigns.{halved-share, kept-share, apart, from-one, to-two, under-next, one-positive, one-cross}
 

@@ -17,6 +17,7 @@ use Rattle.floats.specs.Within.{NotBelow}
 use Rattle.floats.specs.Under.{Under, Over}
 use Rattle.floats.proofs.Floats.{eqb-zero, lt-zero, eq-zero}
 use Rattle.floats.proofs.Rounded.{clear, round-clear}
+use Rattle.floats.proofs.Clear.{clear-not-below}
 use Rattle.floats.proofs.Differences.{nought, round-nothing, round-negative, above-both, below-both, both-nothing}
 
 -- with a clear sign it is a zero
@@ -147,12 +148,6 @@ negative-times (fin false m e) (fin true n d) p q = absurd q
 negative-times (fin false m e) (fin false n d) p q = negative-is (m * up e * (n * up d)) (down e * down d)
 
 -- ---- what is not below zero: the product of two, and a quotient
-
-pub clear-not-below : (x : Float) → T (clear x) → NotBelow x
-clear-not-below nan h = absurd h
-clear-not-below (inf s) h = absurd h
-clear-not-below (fin true m e) h = absurd h
-clear-not-below (fin false m e) h = record { not-below = tt }
 
 rounded-not-below : (s : Bool) (a c : ℕ) → 0 < c → T (finite (round binary64 s a c)) → (s ≡ true → a ≡ 0) → NotBelow (round binary64 s a c)
 rounded-not-below false a c C f z = clear-not-below (round binary64 false a c) (round-clear a c f)

@@ -30,7 +30,7 @@ use Rattle.tens.specs.Log10.{log10Of}
 use Rattle.tens.proofs.Log10Laws.{ln-ten}
 use Rattle.bounds.proofs.Log10Bounds.{within-log10}
 use Rattle.bounds.proofs.LnBounds.{within-ln}
-use Rattle.bounds.proofs.LnSigns.{under-div}
+use Rattle.floats.proofs.Quotients.{under-div}
 use Rattle.bounds.proofs.LnBelow.{ln-low, ln-under}
 use Rattle.picks.specs.Order.{smaller}
 use Rattle.probabilities.specs.Quality.{wrongOf, qualityBy}
