@@ -68,18 +68,27 @@ fn diploids() -> Tally {
     (0..3).map(by_mode).sum::<Tally>().line("diploid")
 }
 
-fn mosaic(inputs: impl Iterator<Item = mosaic::Input>) -> Tally {
-    let inputs: Vec<_> = inputs.collect();
+fn mosaic(inputs: &[mosaic::Input]) -> Tally {
     let answers = inputs.iter().map(|input| (input, port::mosaic(input), mosaic::expected(input)));
     let differences: Vec<_> = answers.filter(|(_, a, b)| !a.same(b)).collect();
-    Tally::shown("mosaic", inputs.len(), &differences) + asked_all("mosaic", &inputs, mosaic_cases::case)
+    Tally::shown("mosaic", inputs.len(), &differences) + asked_all("mosaic", inputs, mosaic_cases::case)
+}
+
+/// That a quality is never below 0 is not proved of three hypotheses and more, so the least one is shown.
+fn show_least_quality(groups: &[Vec<mosaic::Input>]) {
+    let called = groups.iter().flatten().map(port::mosaic).filter(|answer| answer.number == 0);
+    let least = called.map(|answer| answer.quality).fold(f64::INFINITY, f64::min);
+    println!("    mosaic: the least quality of a call is {least:?}");
 }
 
 fn mosaics() -> Tally {
     let random = &mut Random::new(40);
-    let few = mosaic((0..100_000).map(|_| mosaic_inputs::allowed(random, 5)));
-    let many = mosaic((0..20_000).map(|_| mosaic_inputs::allowed(random, 8)));
-    (few + many + mosaic((0..100_000).map(|_| mosaic_inputs::disturbed(random)))).line("mosaic")
+    let few = (0..100_000).map(|_| mosaic_inputs::allowed(random, 5)).collect();
+    let many = (0..20_000).map(|_| mosaic_inputs::allowed(random, 8)).collect();
+    let odd = (0..100_000).map(|_| mosaic_inputs::disturbed(random)).collect();
+    let groups = [few, many, odd];
+    show_least_quality(&groups);
+    groups.iter().map(|inputs| mosaic(inputs)).sum::<Tally>().line("mosaic")
 }
 
 /// Sites of all three kinds, through the program `calls`.
