@@ -29,7 +29,8 @@ use Rattle.family.specs.Numbers.{sampleNumber}
 use Rattle.family.specs.Genotypes.{pairsWith, pairsFrom, genotypes, pair}
 use Rattle.triples.specs.Genotypes.{genotypeAt}
 use Rattle.lists.specs.Lists.{numbers}
-use Rattle.samples.specs.Samples.{inUse, clusters, reads, sum, columnTotal, logBinomial, expectation, expectationTotal, clusterTerm, sampleScore}
+use Rattle.samples.specs.Samples.{inUse, clusters, reads, sum, columnTotal, logBinomial, expectation, expectationTotal, clusterTerm}
+use Rattle.samples.specs.Samples.{sampleScore}
 use Rattle.parts.specs.Part.{weightAllowed}
 use Rattle.samples.proofs.SampleLaws.{in-use, sample-below, count-at-most}
 use Rattle.desks.specs.Accepted.{Accepted}

@@ -1,5 +1,5 @@
--- The terms that are kept from candidate to candidate are the rules' own, `gain-by` and `germline-by` for M4, and so is what is made of them: `found-by`.
--- Assumes nothing.
+-- The terms that are kept from candidate to candidate are the rules' own, `gain-by` and `germline-by` for M4, and so is what is made
+-- of them: `found-by`. Assumes nothing.
 use mathlib.Core.Path.{_≡_, refl, sym, ap, _∙_, subst}
 use mathlib.Core.Bool.{Bool, true, false, not, _&&_, _||_, cond, true≢false}
 use mathlib.Core.List.{List}
@@ -21,7 +21,8 @@ use Rattle.hypotheses.specs.Likelihood.{shareOf, likelihoodOf}
 use Rattle.sites.specs.Site.{densityOf, forOne, forTwo, factorialsOf, startsOf, siteOf}
 use Rattle.hypotheses.specs.Prior.{gainOf, gainsOver, forGermline, priorOf}
 use Rattle.hypotheses.specs.Search.{Best, valueOf, tried, triedStep, searchedAllele, searchedAll, foundOf}
-use Rattle.candidates.specs.Kept.{termAt, likelihoodBy, priorByOver, priorBy, likelihoodHere, priorHere, startValue, started, changed, attempted, stepTried, alleleSearched, offered, searched, foundBy, foundAt}
+use Rattle.candidates.specs.Kept.{termAt, likelihoodBy, priorByOver, priorBy, likelihoodHere, priorHere, startValue, started, changed}
+use Rattle.candidates.specs.Kept.{attempted, stepTried, alleleSearched, offered, searched, foundBy, foundAt}
 use Rattle.models.specs.declared.params.Params.{Params}
 use Rattle.alleles.specs.declared.pair.Pair.{Pair}
 use Rattle.sites.specs.declared.site.Site.{Site}
@@ -65,7 +66,8 @@ module _ (p : Params) (counts : List ℕ) (few : length counts ≤ 8) (g : Pair)
     pub eight-terms : length (k .terms) ≡ 8
     pub eight-gains : length (k .gains) ≡ 8
     pub term-is : (i : ℕ) → i < length counts → somaticIn counts g i ≡ true → getD (k .terms) i nan ≡ nat (countAt counts i) ⊗ lnOf (vafAt (k .vafs) i)
-    pub gain-is : (i : ℕ) → i < length counts → somaticIn counts g i ≡ true → getD (k .gains) i nan ≡ gainOf stirlingOf p (vafAt (k .vafs) i)
+    pub gain-is : (i : ℕ) → i < length counts → somaticIn counts g i ≡ true
+        → getD (k .gains) i nan ≡ gainOf stirlingOf p (vafAt (k .vafs) i)
 
   factorial-at : (i : ℕ) → i < length counts → getD (factorialsOf counts) i nan ≡ lnFactorial stirlingOf (countAt counts i)
   unfolding factorialsOf
@@ -119,7 +121,10 @@ module _ (p : Params) (counts : List ℕ) (few : length counts ≤ 8) (g : Pair)
     eight-terms = length-set (k .terms) i (nat (countAt counts i) ⊗ lnOf x) ∙ h .eight-terms;
     eight-gains = length-set (k .gains) i (gainBy (densityOf stirlingOf p) x) ∙ h .eight-gains;
     term-is = λ j m s. set-both (λ j v. nat (countAt counts j) ⊗ lnOf v) (k .vafs) (k .terms) i j x (in-eight i l (k .vafs) (h .eight-vafs)) (in-eight i l (k .terms) (h .eight-terms)) (h .term-is j m s);
-    gain-is = λ j m s. rw (gain-by stirlingOf p x) (set-both (λ j v. gainOf stirlingOf p v) (k .vafs) (k .gains) i j x (in-eight i l (k .vafs) (h .eight-vafs)) (in-eight i l (k .gains) (h .eight-gains)) (h .gain-is j m s));
+    gain-is = λ j m s.
+        rw (gain-by stirlingOf p x)
+        (set-both (λ j v. gainOf stirlingOf p v) (k .vafs) (k .gains) i j x (in-eight i l (k .vafs) (h .eight-vafs))
+        (in-eight i l (k .gains) (h .eight-gains)) (h .gain-is j m s));
   }
 
   follows-cond : (t : Bool) (k m : Kept) (b c : Best) → Follows k b → Follows m c → Follows (cond t k m) (cond t b c)
@@ -167,7 +172,9 @@ module _ (p : Params) (counts : List ℕ) (few : length counts ≤ 8) (g : Pair)
     eight-terms = length-placed (replicate 8 (nat 0)) (λ i. nat (countAt counts i) ⊗ lnOf (decimal 5 2)) 8;
     eight-gains = refl;
     term-is = λ i l s. rw (start-at i l s) (placed-at (replicate 8 (nat 0)) (λ i. nat (countAt counts i) ⊗ lnOf (decimal 5 2)) nan 8 (rw length-replicate (lit≤ tt)) i (omega arith));
-    gain-is = λ i l s. rw (start-at i l s) (getD-replicate 8 i (gainBy (densityOf stirlingOf p) (decimal 5 2)) nan (omega arith) ∙ gain-by stirlingOf p (decimal 5 2));
+    gain-is = λ i l s.
+        rw (start-at i l s)
+        (getD-replicate 8 i (gainBy (densityOf stirlingOf p) (decimal 5 2)) nan (omega arith) ∙ gain-by stirlingOf p (decimal 5 2));
   }
 
   search-follows : anySomatic counts g ≡ true → Follows (searched counts g site (started counts g site)) (searchedAll first p counts g)

@@ -18,7 +18,8 @@ use lib.Ieee.Positive.{positive, above-of-le}
 use lib.Ieee.Scale.{finite}
 use Rattle.floats.specs.F64.{_⊕_, _⊖_, _⊗_, nat, decimal}
 use Rattle.floats.specs.Within.{Within, Above, Low, least, finite-low}
-use Rattle.floats.proofs.Bounds.{within-more, within-whole, within-fraction, within-mul, within-neg, above-whole, above-fraction, low-more, low-add, least-finite, least-low, low-least}
+use Rattle.floats.proofs.Bounds.{within-more, within-whole, within-fraction, within-mul, within-neg, above-whole, above-fraction}
+use Rattle.floats.proofs.Bounds.{low-more, low-add, least-finite, least-low, low-least}
 use Rattle.floats.proofs.Differences.{nought, not-below, less-larger}
 use Rattle.floats.proofs.Floats.{eq-zero, eqb-zero, lt-zero}
 use Rattle.floats.proofs.Ranges.{within-range, le-not-lt}

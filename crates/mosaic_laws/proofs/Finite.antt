@@ -17,7 +17,8 @@ use lib.Ieee.Positive.{above-of-le}
 use Rattle.floats.specs.F64.{_⊕_, _⊖_, _⊗_, _⊘_, nat, decimal}
 use Rattle.floats.specs.Key.{keyOf}
 use Rattle.floats.specs.Within.{Within}
-use Rattle.floats.proofs.Bounds.{within-number, within-more, within-whole, within-fraction, within-add, within-sub, within-mul, within-div, above-whole, above-fraction, positive-not-below, finite-least}
+use Rattle.floats.proofs.Bounds.{within-number, within-more, within-whole, within-fraction, within-add, within-sub, within-mul}
+use Rattle.floats.proofs.Bounds.{within-div, above-whole, above-fraction, positive-not-below, finite-least}
 use Rattle.floats.proofs.KeyOrder.{key-order}
 use Rattle.floats.proofs.Whole.{below-is-most}
 use Rattle.floats.proofs.Fractions.{above-by-test}
@@ -38,7 +39,8 @@ use Rattle.alleles.proofs.CountLaws.{count-bound, total-bound}
 use Rattle.lists.proofs.OverLaws.{length-placed, at-set}
 use Rattle.mosaic_laws.specs.Accepted.{Accepted}
 use Rattle.mosaic_laws.proofs.Quotients.{observed-share}
-use Rattle.mosaic_laws.proofs.Terms.{either, within-factorial, highest-within, Vaf, ln-within, one-at, gain-within, above-finite, share-ln-within}
+use Rattle.mosaic_laws.proofs.Terms.{either, within-factorial, highest-within, Vaf, ln-within, one-at, gain-within, above-finite}
+use Rattle.mosaic_laws.proofs.Terms.{share-ln-within}
 use Rattle.mosaic_laws.proofs.Sums.{over-keeps, grows, of-eight}
 use Rattle.mosaic_laws.proofs.PriorAtOnce.{density, germline-within, prior-least}
 use Rattle.mosaic_laws.proofs.Least.{under-finite, least-stays}
@@ -180,7 +182,9 @@ module _ (p : Params) (counts : List ℕ) (ok : Accepted p counts) (g : Pair) (b
       let l = set (b .vafs) i x in
       let t = set-tryable b h i m x v in
       let here : vafAt l i ≡ x = at-set (b .vafs) i i x nan (omega (arith, h .eight-vafs, ok .few)) (eqb i i) refl (λ y. y ≡ x) (λ r. refl) (λ r. absurd (r refl)) in
-      let value : valueOf first p counts g l ≡ inf true = rw (prior-least p counts ok g both l (λ j q r. t j q r .is-f64) i m s (rw here e)) (finite-least (likelihoodOf first counts g l) (likelihood-within l t .is-finite)) in
+      let prior = prior-least p counts ok g both l (λ j q r. t j q r .is-f64) i m s (rw here e) in
+      let value : valueOf first p counts g l ≡ inf true =
+      rw prior (finite-least (likelihoodOf first counts g l) (likelihood-within l t .is-finite)) in
       least-stays first p counts g i x b (fit (h .value-is)) (number (h .value-is)) value
 
   not-one : (x : Float) → Vaf x → le (nat 1) x ≡ false → lt x (nat 1) ≡ true

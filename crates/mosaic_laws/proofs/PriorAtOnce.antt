@@ -1,5 +1,5 @@
--- M4: a VAF of 1 or more makes the prior minus infinity, as if that were answered at once: `prior-at-once`. Of every hypothesis of accepted
--- inputs, and of VAFs that may be any f64. Assumes nothing.
+-- M4: a VAF of 1 or more makes the prior minus infinity, as if that were answered at once: `prior-at-once`. Of every hypothesis of
+-- accepted inputs, and of VAFs that may be any f64. Assumes nothing.
 use mathlib.Core.Path.{_≡_, refl, sym, ap, _∙_, subst}
 use mathlib.Core.Bool.{Bool, true, false, cond, true≢false}
 use mathlib.Core.List.{List}

@@ -166,7 +166,9 @@ unfolding gainOf
 gain-within p h v k l =
     let rest = within-sub (within-whole (pos 1) 1 (lit≤ tt) (lit≤ tt)) (k .within) (lit≤ tt) in
     let up = difference-above v (nat 1) (positive-not-below v (k .above-zero)) one-at (k .is-f64) (ofInt-fits binary64 (pos 1)) l (rest .is-finite) in
-    let first-two = within-add (within-mul (h .alpha-less) (ln-within v k) (lit≤ tt)) (within-mul (h .beta-less) (within-ln (nat 1 ⊖ v) (sub-fits binary64 (nat 1) v) (up .is-positive)) (lit≤ tt)) (lit≤ tt) in
+    let of-v = within-mul (h .alpha-less) (ln-within v k) (lit≤ tt) in
+    let of-rest = within-mul (h .beta-less) (within-ln (nat 1 ⊖ v) (sub-fits binary64 (nat 1) v) (up .is-positive)) (lit≤ tt) in
+    let first-two = within-add of-v of-rest (lit≤ tt) in
     let all = within-add (within-sub (within-sub first-two (h .alpha-within) (lit≤ tt)) (h .beta-within) (lit≤ tt)) (h .sum-within) (lit≤ tt) in
     rw (not-most v (k .above-zero) l, zero-below v (k .above-zero)) (within-more all (lit≤ tt))
 

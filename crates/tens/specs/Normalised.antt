@@ -1,4 +1,5 @@
--- Log probabilities as decimal logarithms, normalised: what they are once their probabilities sum to 1. Definitions only (RULES.md, G4, M7).
+-- Log probabilities as decimal logarithms, normalised: less the logarithm of the sum of their probabilities. Definitions only
+-- (RULES.md, G4, M7).
 use mathlib.Core.Bool.{true}
 use mathlib.Core.List.{List, [], _∷_, map}
 use lib.Ieee.{Float, inf}
@@ -16,7 +17,8 @@ abbrev pub largestFrom : Pick → Float → List Float → Float
 largestFrom max x [] = x
 largestFrom max x (y ∷ l) = largestFrom max (max x y) l
 
--- log10 of the sum of ten to each, by way of the largest: top + log10 of the sum, in order, of ten to each less top; of none minus infinity
+-- log10 of the sum of ten to each, by way of the largest: top + log10 of the sum, in order, of ten to each less top; of none it is
+-- minus infinity
 unfoldable pub wholeOver : Pick → List Float → Float
 wholeOver max [] = inf true
 wholeOver max (x ∷ l) =
