@@ -1,5 +1,5 @@
--- The VAFs of somatic alleles: where they start, what they leave for germline alleles, what they add to the prior, and their candidates. Definitions only
--- (RULES.md, M1, M3, M4, M5).
+-- The VAFs of somatic alleles: where they start, what they leave for germline alleles, and their candidates. Definitions only
+-- (RULES.md, M1, M3, M5); what they add to the prior is here for the code, and M4 in hypotheses/specs/Prior.antt.
 use Prim.Native.Nat.{ℕ}
 use mathlib.Core.Bool.{Bool, true, false, _||_, cond}
 use mathlib.Core.List.{List}

@@ -81,7 +81,7 @@ module _ (start : Part) where
     pub row-accepted : (r : ℕ) → rowStep (partOf h) r .refusal ≡ cond (ltb r (rowCount start)) Done Row
     -- a merge with a bad part is refused as such, one with a part of another input as that, and either hands the part back
     pub other-refused : (q : Part) → T (not (rightPart q && sameInput start q)) → mergeStep (partOf h) q ≡ gives (cond (rightPart q) OtherTrio BadPart) (partOf h)
-    -- and a merge with a part of the same input is always accepted
+    -- and a merge with the part of another history is always accepted
     pub merge-accepted : (k : History start) → mergeStep (partOf h) (partOf k) .refusal ≡ Done
     -- whatever step is not answered with Done, the part that comes back is the one that was given
     pub handed-back : (s : Step) → refusalOf s (partOf h) ≢ Done → partAfter s (partOf h) ≡ partOf h

@@ -1,5 +1,5 @@
--- kanpig's mosaic finds the largest from minus infinity on and sums from a zero on, its diploid from the first number on. At every list
--- of f64 both make the same whole: `folded-whole`. A NaN in front, which a max from minus infinity passes over, comes back by the sum.
+-- kanpig finds the largest from minus infinity on and sums from a zero on, the definition from the first number on. At every list of
+-- f64 both make the same whole: `folded-whole`. A NaN in front, which a max from minus infinity passes over, comes back by the sum.
 -- Assumes nothing.
 use mathlib.Core.Path.{_≡_, refl, sym, ap, _∙_}
 use mathlib.Core.Bool.{Bool, true, false, true≢false}

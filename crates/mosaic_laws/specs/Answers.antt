@@ -25,7 +25,7 @@ pub record VafOf (flag : Bool) (v : Float) : Type 0 where
 -- no float of an answer is a NaN or an infinity
 pub record FiniteAnswer (a : MosaicResult) : Type 0 where
   pub posterior-is : Within (2 ^ 47) (a .posterior)
-  -- the quality is at most 100 and at least −2, and with one hypothesis or two not below 0
+  -- the quality is at most 100 and at least −2, and with fewer than three hypotheses not below 0
   pub quality-is : Within 100 (a .quality)
   pub quality-least : T (le (whole (negℤ (pos 2))) (a .quality))
   pub quality-of-two : a .hypotheses ≤ 2 → NotBelow (a .quality)

@@ -1,5 +1,5 @@
--- The whole of log probabilities as kanpig's mosaic folds it: the largest from minus infinity on, the sum from a zero on. Definitions
--- only (RULES.md, G4, M7).
+-- The whole of log probabilities as kanpig folds it, in diploid and in mosaic: the largest from minus infinity on, the sum from a zero
+-- on. Definitions only (RULES.md, G4, M7).
 use mathlib.Core.Bool.{Bool, true}
 use mathlib.Core.List.{List, map}
 use lib.IntN.{pos}
