@@ -14,7 +14,7 @@ use lib.ListN.{length, getD, take, replicate, getD-replicate, length-append, len
 use lib.Seq.{length-take-le, getD-take}
 use lib.Ieee.{Float, nan, binary64, fits}
 use Rattle.floats.specs.F64.{nat}
-use Rattle.floats.specs.Within.{Within}
+use Rattle.floats.specs.Within.{Within, UpTo}
 use Rattle.floats.proofs.Bounds.{within-more, positive-not-below}
 use Rattle.refusals.specs.declared.Refusal.{Refusal}
 use Rattle.refusals.specs.declared.Refusal.the-variants.{TooMany, Count, Model, NoCall}
@@ -43,7 +43,7 @@ use Rattle.lists.proofs.PaddedLaws.{padded-length}
 use Rattle.probabilities.proofs.WinnerLaws.{winner-low}
 use Rattle.hypotheses.proofs.Scanned.{all-seen, at-most-36}
 use Rattle.mosaic_laws.specs.Accepted.{Accepted}
-use Rattle.mosaic_laws.specs.Answers.{Chance, VafOf, FiniteAnswer}
+use Rattle.mosaic_laws.specs.Answers.{VafOf, FiniteAnswer}
 use Rattle.mosaic_laws.proofs.Seen.{seen-some, seen-in, count-in}
 use Rattle.mosaic_laws.proofs.Places.{flag-at, found-rest}
 use Rattle.mosaic_laws.proofs.Finite.{posterior-within, found-vafs}
@@ -189,26 +189,26 @@ module _ (p : Params) (counts : List ℕ) (ok : Accepted p counts) where
   abbrev probs : List Float
   probs = probabilities larger smaller posts n
 
-  pub chance-there : 0 < n → (i : ℕ) → i < n → Chance 1 (getD probs i nan)
+  pub chance-there : 0 < n → (i : ℕ) → i < n → UpTo 1 (getD probs i nan)
   unfolding probabilityOf
   chance-there some i h =
       let e = in-use-all n (at-most-36 counts) in
       let at = probability-at larger smaller posts posts-length n i (subst (λ (k : ℕ). i < k) (sym e) h) in
       let x = getD posts i nan in
       let c = chance tens (tens-some some) tens-few tens-terms (inTens x) (in-tens-term x (posteriors-within i h)) in
-      subst (Chance 1) (sym at) (subst (λ (k : ℕ). Chance 1 (probabilityOf smaller (wholeOver larger (tensOf posts k)) x)) (sym e) c)
+      subst (UpTo 1) (sym at) (subst (λ (k : ℕ). UpTo 1 (probabilityOf smaller (wholeOver larger (tensOf posts k)) x)) (sym e) c)
 
   chance-beyond : (i : ℕ) → n ≤ i → i < 36 → getD probs i nan ≡ nat 0
   chance-beyond i h m =
       let e = in-use-all n (at-most-36 counts) in
       probability-beyond larger smaller posts posts-length n i (subst (λ (k : ℕ). k ≤ i) (sym e) h) m
 
-  chance-each : 0 < n → (i : ℕ) → i < 36 → Chance 1 (getD probs i nan)
+  chance-each : 0 < n → (i : ℕ) → i < 36 → UpTo 1 (getD probs i nan)
   chance-each some i m = go (ltb i n) refl
     where
-      go : (t : Bool) → ltb i n ≡ t → Chance 1 (getD probs i nan)
+      go : (t : Bool) → ltb i n ≡ t → UpTo 1 (getD probs i nan)
       go true e = chance-there some i (ltb-true i n e)
-      go false e = subst (Chance 1) (sym (chance-beyond i (ltb-false i n e) m)) (chance-more nothing (lit≤ tt))
+      go false e = subst (UpTo 1) (sym (chance-beyond i (ltb-false i n e) m)) (chance-more nothing (lit≤ tt))
 
   -- the probabilities of all but the winner, and the quality that they make
   pub best-there : 0 < n → winner posts n < n
@@ -220,10 +220,10 @@ module _ (p : Params) (counts : List ℕ) (ok : Accepted p counts) where
   abbrev pub wrong : Float
   wrong = wrongOf probs (winner posts n) n
 
-  wrong-there : 0 < n → Chance (pred n) wrong
+  wrong-there : 0 < n → UpTo (pred n) wrong
   wrong-there some = wrong-chance probs n (at-most-36 counts) (chance-there some) (winner posts n) n (omega arith) (best-there some)
 
-  pub wrong-within : 0 < n → Chance 35 wrong
+  pub wrong-within : 0 < n → UpTo 35 wrong
   wrong-within some = chance-more (wrong-there some) (omega (arith, at-most-36 counts))
 
   pub wrong-number : 0 < n → T (fits binary64 wrong)

@@ -12,6 +12,7 @@ use lib.Dec.{T, leb, ltb, eqb, lit≤}
 use lib.ListN.{length}
 use lib.Ieee.{Float, binary64, round, lt, fits}
 use lib.Ieee.Fits.{round-fits, add-fits, sub-fits, mul-fits, div-fits}
+use Rattle.floats.specs.Within.{UpTo}
 use Rattle.floats.specs.F64.{_⊕_, _⊖_, _⊘_, nat, whole, decimal, sumFrom}
 use Rattle.floats.proofs.Bounds.{within-sub}
 use Rattle.floats.proofs.Zeros.{Number, Alike, same, alike-sym, alike-trans, alike-number, add-alike, sub-alike}
@@ -36,7 +37,6 @@ use Rattle.mosaic.specs.Allowed.{paramsAllowed}
 use Rattle.mosaic.specs.Genotype.{blank, calledOf, genotypeBy, genotypeOf}
 use Rattle.mosaic.specs.declared.genotype.MosaicResult.{MosaicResult}
 use Rattle.mosaic_laws.specs.Accepted.{Accepted}
-use Rattle.mosaic_laws.specs.Answers.{Chance}
 use Rattle.mosaic_laws.proofs.OneLess.{one-less}
 use Rattle.mosaic_laws.proofs.Chances.{Each, Term, log-within, whole-within}
 use Rattle.mosaic_laws.proofs.Qualities.{rawOf, raw-within}
@@ -132,7 +132,7 @@ module _ (max min : Pick) (is-max : IsMax max) (is-min : IsMin min) where
         go [] e = refl
         go (y ∷ k) e = ap₂ _∷_ (probability-same y (e .0)) (go k (e .1))
 
-  module _ (w : Float) (f : T (fits binary64 w)) (c : Chance 35 w) where
+  module _ (w : Float) (f : T (fits binary64 w)) (c : UpTo 35 w) where
     pub quality-any : qualityBy min w ≡ qualityBy smaller w
     unfolding qualityBy
     quality-any = go (lt (nat 0) w) refl

@@ -13,7 +13,7 @@ use lib.ListN.{length, getD, length-map}
 use lib.Ieee.{Float, nan, binary64, lt, ofInt, fits}
 use lib.Ieee.Fits.{add-fits, div-fits}
 use Rattle.floats.specs.F64.{_⊕_, _⊖_, _⊗_, nat, sumFrom}
-use Rattle.floats.specs.Within.{Within, Above}
+use Rattle.floats.specs.Within.{Within, Above, UpTo}
 use Rattle.floats.proofs.Bounds.{within-number, within-more, within-whole, within-add, within-sub, within-mul, within-div, above-add}
 use Rattle.floats.proofs.Differences.{less-itself, add-either}
 use Rattle.kernels.specs.Ln.{lnOf}
@@ -27,24 +27,23 @@ use Rattle.diploid_laws.proofs.Signs.{NotAbove, lt-itself, not-below-trans, dif
 use Rattle.diploid_laws.proofs.Signs.{not-below-add}
 use Rattle.diploid_laws.proofs.Largest.{either-of, larger-left, larger-right}
 use Rattle.diploid_laws.proofs.QualityBounds.{one, one-above, pow10-zero, ten-above, ten-within, smaller-zero}
-use Rattle.mosaic_laws.specs.Answers.{Chance}
 
 -- ---- from 0 to n
 
-pub chance-add : {a b : ℕ} {x y : Float} → Chance a x → Chance b y → a + b ≤ 2 ^ 53 → Chance (a + b) (x ⊕ y)
+pub chance-add : {a b : ℕ} {x y : Float} → UpTo a x → UpTo b y → a + b ≤ 2 ^ 53 → UpTo (a + b) (x ⊕ y)
 chance-add {x = x} {y = y} h k l =
     let w = within-add (h .within) (k .within) l in
     record { within = w; not-negative = not-below-add x y (h .not-negative) (k .not-negative) (w .is-finite) }
 
-pub nothing : Chance 0 (nat 0)
+pub nothing : UpTo 0 (nat 0)
 unfolding ofInt
 nothing = record { within = within-whole (pos 0) 0 (lit≤ tt) (lit≤ tt); not-negative = record { not-below = tt } }
 
-pub chance-more : {a b : ℕ} {x : Float} → Chance a x → a ≤ b → Chance b x
+pub chance-more : {a b : ℕ} {x : Float} → UpTo a x → a ≤ b → UpTo b x
 chance-more h l = record { within = within-more (h .within) l; not-negative = h .not-negative }
 
 -- ten to a y of at most 0
-pub pow10-chance : {n : ℕ} (y : Float) → Within n y → NotAbove y → n * 3 ≤ 2 ^ 53 → Chance 1 (pow10Of y)
+pub pow10-chance : {n : ℕ} (y : Float) → Within n y → NotAbove y → n * 3 ≤ 2 ^ 53 → UpTo 1 (pow10Of y)
 unfolding pow10Of ofInt
 pow10-chance y w h l =
     let z = y ⊗ lnOf (nat 10) in
@@ -126,13 +125,13 @@ top-is x (y ∷ l) X L =
 
 -- ---- a sum of chances of which one is at least 1
 
-above-left : {a b : ℕ} (x y : Float) → Above 0 x → Chance a x → Chance b y → a + b ≤ 2 ^ 53 → Above 0 (x ⊕ y)
+above-left : {a b : ℕ} (x y : Float) → Above 0 x → UpTo a x → UpTo b y → a + b ≤ 2 ^ 53 → Above 0 (x ⊕ y)
 above-left {a} {b} x y h X Y l =
     let e = add-either x y (X .within .is-finite) (Y .within .is-finite) in
     subst (λ (z : Float). Above 0 z) (sym e)
     (above-add (Y .not-negative) h zero-le (subst (Within (a + b)) e (within-add (X .within) (Y .within) l)))
 
-sum-above : (n : ℕ) (s : Float) (l : List Float) → Chance n s → Each (Chance 1) l → n + length l ≤ 2 ^ 53 → Some (Above 0) (s ∷ l)
+sum-above : (n : ℕ) (s : Float) (l : List Float) → UpTo n s → Each (UpTo 1) l → n + length l ≤ 2 ^ 53 → Some (Above 0) (s ∷ l)
     → Above 0 (sumFrom s l)
 sum-above n s [] h e m some = elim some [ inl a ↦ a | inr r ↦ absurd r ]
 sum-above n s (x ∷ l) h e m some =
@@ -154,7 +153,7 @@ module _ (x : Float) (l : List Float) (X : Term x) (L : Each Term l) (few : leng
   abbrev powerOf : Float → Float
   powerOf y = pow10Of (y ⊖ top)
 
-  power : (y : Float) → Term y → lt top y ≡ false → Chance 1 (powerOf y)
+  power : (y : Float) → Term y → lt top y ≡ false → UpTo 1 (powerOf y)
   power y Y h =
       let t = the-top .term .within in
       let w = within-sub (Y .within) t (lit≤ tt) in
@@ -168,10 +167,10 @@ module _ (x : Float) (l : List Float) (X : Term x) (L : Each Term l) (few : leng
   abbrev powers : List Float
   powers = map powerOf l
 
-  each-power : Each (Chance 1) powers
+  each-power : Each (UpTo 1) powers
   each-power =
-      each-map (λ y. Chance 1 (powerOf y)) (Chance 1) powerOf (λ y c. c) l
-      (each-both Term (λ y. lt top y ≡ false) (λ y. Chance 1 (powerOf y)) power l L (the-top .rest-below))
+      each-map (λ y. UpTo 1 (powerOf y)) (UpTo 1) powerOf (λ y c. c) l
+      (each-both Term (λ y. lt top y ≡ false) (λ y. UpTo 1 (powerOf y)) power l L (the-top .rest-below))
 
   abbrev sum : Float
   sum = sumFrom (powerOf x) powers
@@ -207,7 +206,7 @@ module _ (l : List Float) (some : 0 < length l) (few : length l ≤ 36) (terms :
       go (x ∷ l) h k t = whole-from x l (t .0) (t .1) (omega arith)
 
   -- the probability of any number beside them
-  pub chance : (y : Float) → Term y → Chance 1 (pow10Of (lessWhole smaller (wholeOver larger l) y))
+  pub chance : (y : Float) → Term y → UpTo 1 (pow10Of (lessWhole smaller (wholeOver larger l) y))
   chance y Y =
       let s = smaller-zero (y ⊖ wholeOver larger l) (within-sub (Y .within) whole-within (lit≤ tt)) in
       pow10-chance (lessWhole smaller (wholeOver larger l) y) (s .0) (s .1) (lit≤ tt)

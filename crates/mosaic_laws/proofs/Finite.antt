@@ -37,6 +37,7 @@ use Rattle.models.specs.declared.params.Params.{Params}
 use Rattle.alleles.specs.declared.pair.Pair.{Pair}
 use Rattle.alleles.proofs.CountLaws.{count-bound, total-bound}
 use Rattle.lists.proofs.OverLaws.{length-placed, at-set}
+use Rattle.mosaic_laws.specs.AtOnce.{VafsFromZero}
 use Rattle.mosaic_laws.specs.Accepted.{Accepted}
 use Rattle.mosaic_laws.proofs.Quotients.{observed-share}
 use Rattle.mosaic_laws.proofs.Terms.{either, within-factorial, highest-within, Vaf, ln-within, one-at, gain-within, above-finite}
@@ -69,6 +70,10 @@ module _ (p : Params) (counts : List ℕ) (ok : Accepted p counts) (g : Pair) (b
   -- every somatic VAF may be tried; and all are below 1
   abbrev Tryable : List Float → Type 0
   Tryable l = (i : ℕ) → i < n → somaticIn counts g i ≡ true → Vaf (vafAt l i)
+
+  -- so what is tried is finite and from 0 on, and M3 may be answered at once (`likelihood-at-once`, AtOnce.antt)
+  pub tried-from-zero : (l : List Float) → Tryable l → VafsFromZero counts g l
+  tried-from-zero l h i m s = let v = h i m s in record { is-f64 = v .is-f64; not-below = positive-not-below (vafAt l i) (v .above-zero) }
 
   abbrev Low1 : List Float → Type 0
   Low1 l = (i : ℕ) → i < n → somaticIn counts g i ≡ true → lt (vafAt l i) (nat 1) ≡ true

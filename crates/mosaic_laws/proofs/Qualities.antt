@@ -17,7 +17,7 @@ use lib.Ieee.Fits.{ofInt-fits, add-fits}
 use lib.Ieee.Scale.{finite}
 use lib.Ieee.Positive.{num, den, positive}
 use Rattle.floats.specs.F64.{_⊕_, _⊗_, _⊘_, nat, whole}
-use Rattle.floats.specs.Within.{Within, NotBelow}
+use Rattle.floats.specs.Within.{Within, NotBelow, UpTo}
 use Rattle.floats.specs.Under.{Under, Over}
 use Rattle.floats.proofs.Floats.{positive-by-test}
 use Rattle.floats.proofs.Bounds.{within-more, within-whole, within-mul}
@@ -34,35 +34,34 @@ use Rattle.floats.proofs.Quotients.{under-div}
 use Rattle.bounds.proofs.LnBelow.{ln-low, ln-under}
 use Rattle.picks.specs.Order.{smaller}
 use Rattle.probabilities.specs.Quality.{wrongOf, qualityBy}
-use Rattle.mosaic_laws.specs.Answers.{Chance}
 use Rattle.mosaic_laws.proofs.Terms.{either}
 use Rattle.mosaic_laws.proofs.Chances.{chance-add, nothing}
 
 -- ---- the probabilities of all but the winner
 
-module _ (ps : List Float) (n : ℕ) (few : n ≤ 36) (chances : (i : ℕ) → i < n → Chance 1 (getD ps i nan)) (best : ℕ) where
+module _ (ps : List Float) (n : ℕ) (few : n ≤ 36) (chances : (i : ℕ) → i < n → UpTo 1 (getD ps i nan)) (best : ℕ) where
   -- before the winner's place each adds 1 at most
-  before : (k : ℕ) → k ≤ n → k ≤ best → Chance k (wrongOf ps best k)
+  before : (k : ℕ) → k ≤ n → k ≤ best → UpTo k (wrongOf ps best k)
   before zero l b = nothing
   before (suc k) l b =
       let sum = chance-add (before k (omega arith) (omega arith)) (chances k l) (omega (arith, few)) in
-      rw (ne-eqb k best (omega arith)) (subst (λ (j : ℕ). Chance j (wrongOf ps best k ⊕ getD ps k nan)) (add-one k) sum)
+      rw (ne-eqb k best (omega arith)) (subst (λ (j : ℕ). UpTo j (wrongOf ps best k ⊕ getD ps k nan)) (add-one k) sum)
 
   -- and it adds nothing
-  pub wrong-chance : (k : ℕ) → k ≤ n → best < k → Chance (pred k) (wrongOf ps best k)
+  pub wrong-chance : (k : ℕ) → k ≤ n → best < k → UpTo (pred k) (wrongOf ps best k)
   wrong-chance zero l b = absurd (not-suc-le-zero b)
   wrong-chance (suc k) l b = go (eqb k best) refl (λ h. wrong-chance k (omega arith) h)
     where
       one-more : (k : ℕ) → best < k → pred k + 1 ≡ k
       one-more k h = omega arith
 
-      go : (t : Bool) → eqb k best ≡ t → (best < k → Chance (pred k) (wrongOf ps best k))
-          → Chance k (cond (not t) (wrongOf ps best k ⊕ getD ps k nan) (wrongOf ps best k))
+      go : (t : Bool) → eqb k best ≡ t → (best < k → UpTo (pred k) (wrongOf ps best k))
+          → UpTo k (cond (not t) (wrongOf ps best k ⊕ getD ps k nan) (wrongOf ps best k))
       go true e r = let same = eqb-true k best e in before k (omega arith) (omega arith)
       go false e r =
           let other = eqb-false k best e in
           let h : best < k = omega arith in
-          subst (λ (j : ℕ). Chance j (wrongOf ps best k ⊕ getD ps k nan)) (one-more k h)
+          subst (λ (j : ℕ). UpTo j (wrongOf ps best k ⊕ getD ps k nan)) (one-more k h)
           (chance-add (r h) (chances k l) (omega (arith, few)))
 
   pub wrong-fits : (k : ℕ) → T (fits binary64 (wrongOf ps best k))
@@ -121,7 +120,7 @@ ten-positive : T (positive (nat 10))
 unfolding ofInt round
 ten-positive = tt
 
-module _ (w : Float) (f : T (fits binary64 w)) (c : Chance 35 w) where
+module _ (w : Float) (f : T (fits binary64 w)) (c : UpTo 35 w) where
   above-zero : lt (nat 0) w ≡ true → T (positive w)
   above-zero e = positive-by-test w (c .within .is-finite) (unfold ofInt in e)
 

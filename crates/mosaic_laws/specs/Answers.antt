@@ -8,13 +8,8 @@ use lib.ListN.{getD}
 use lib.Ieee.{Float, nan, lt, le}
 use lib.Ieee.Positive.{positive}
 use Rattle.floats.specs.F64.{nat, whole}
-use Rattle.floats.specs.Within.{Within, NotBelow}
+use Rattle.floats.specs.Within.{Within, NotBelow, UpTo}
 use Rattle.mosaic.specs.declared.genotype.MosaicResult.{MosaicResult}
-
--- finite, and from 0 to n
-pub record Chance (n : ℕ) (x : Float) : Type 0 where
-  pub within : Within n x
-  pub not-negative : NotBelow x
 
 -- the VAF at the place of an allele: finite and not below zero; above zero and below 1 where its flag is true, and 0.0 where it is not
 pub record VafOf (flag : Bool) (v : Float) : Type 0 where
@@ -22,7 +17,7 @@ pub record VafOf (flag : Bool) (v : Float) : Type 0 where
   pub of-somatic : flag ≡ true → T (positive v) × (lt v (nat 1) ≡ true)
   pub of-other : flag ≡ false → v ≡ nat 0
 
--- no float of an answer is a NaN or an infinity
+-- M8: no float of an answer is a NaN or an infinity, and each has its bounds
 pub record FiniteAnswer (a : MosaicResult) : Type 0 where
   pub posterior-is : Within (2 ^ 47) (a .posterior)
   -- the quality is at most 100 and at least −2, and with fewer than three hypotheses not below 0
@@ -31,5 +26,5 @@ pub record FiniteAnswer (a : MosaicResult) : Type 0 where
   pub quality-of-two : a .hypotheses ≤ 2 → NotBelow (a .quality)
   pub vafs-are : (i : ℕ) → i < 8 → VafOf (getD (a .somatic) i false) (getD (a .vafs) i nan)
   -- each probability lies from 0 to 1, and beyond the hypotheses stands 0.0
-  pub chances-are : (i : ℕ) → i < 36 → Chance 1 (getD (a .probabilities) i nan)
+  pub chances-are : (i : ℕ) → i < 36 → UpTo 1 (getD (a .probabilities) i nan)
   pub beyond-are : (i : ℕ) → a .hypotheses ≤ i → i < 36 → getD (a .probabilities) i nan ≡ nat 0

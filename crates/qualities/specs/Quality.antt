@@ -5,7 +5,7 @@ use lib.IntN.{pos, negℤ}
 use lib.ListN.{getD}
 use lib.Ieee.{Float, nan, inf, fin, lt}
 use Rattle.floats.specs.F64.{_⊖_, _⊗_, whole, nat}
-use Rattle.floats.specs.Within.{Within, NotBelow}
+use Rattle.floats.specs.Within.{UpTo}
 use Rattle.tens.specs.Normalised.{inTens, wholeOver, lessWhole}
 use Rattle.qualities.specs.declared.scores.Scores.{Scores}
 use Rattle.qualities.specs.declared.quality.Quals.{Quals}
@@ -59,7 +59,6 @@ qualsOf max min s =
     let n = normalised max min (eachInTens s) in
     record { gq = min (minusTen ⊗ gapOf n) (nat 1000); sq = min (absolute (minusTen ⊗ n .homref)) (nat 1000) }
 
--- what a quality is, before calibration and after: finite, from 0 to 1000; −0.0 counts as 0
-pub record Quality (x : Float) : Type 0 where
-  pub within : Within 1000 x
-  pub not-negative : NotBelow x
+-- G4, G5: what a quality is: finite, from 0 to 1000; −0.0 counts as 0
+abbrev pub Quality : Float → Type 0
+Quality x = UpTo 1000 x
