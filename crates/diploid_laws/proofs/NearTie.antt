@@ -58,7 +58,7 @@ pub near-call : genotypeOf nearTie [] 1 1 0 .gq ≡ zeroOf true
 near-call = rw near-answer (unfold called calibratedBy entries in near-gq)
 
 -- a Ref that wins shares its score with no other state
-pub won-not-tied : (s : Scores) → Wins s Ref → TiedBest s → ⊥
+won-not-tied : (s : Scores) → Wins s Ref → TiedBest s → ⊥
 won-not-tied s (ref-wins h k) t = go t
   where
     apart : {a b : ℤ} → a <ℤ b → b ≡ a → ⊥

@@ -18,7 +18,7 @@ use Rattle.mosaic_laws.specs.Folded.{wholeFolded}
 
 -- ---- from the first number on
 
-pub power-beside-zero : (s : Bool) (y : Float) → zeroOf s ⊕ pow10Of y ≡ pow10Of y
+power-beside-zero : (s : Bool) (y : Float) → zeroOf s ⊕ pow10Of y ≡ pow10Of y
 unfolding pow10Of
 power-beside-zero s y = exp-beside-zero s (y ⊗ lnOf (nat 10))
 
