@@ -18,7 +18,7 @@ use Rattle.floats.specs.Under.{Under}
 use Rattle.floats.proofs.Clear.{positive-clear}
 use Rattle.floats.proofs.Ranges.{le-number}
 use Rattle.floats.proofs.Rounded.{round-within}
-use Rattle.floats.proofs.Differences.{nought, less-larger}
+use Rattle.floats.proofs.Differences.{nought, zero-is, less-larger}
 use Rattle.floats.proofs.Lows.{zero-or-negative, times-low}
 use Rattle.floats.proofs.Bounds.{within-whole, within-mul}
 use Rattle.floats.proofs.Sizes.{under-more, under-within, under-mul}
@@ -26,7 +26,7 @@ use Rattle.kernels.specs.Exp.{expSeries, expParts, expOf}
 use Rattle.kernels.specs.Ln.{hi, lo}
 use Rattle.bounds.proofs.LnSigns.{nothing-hi, nothing-lo}
 use Rattle.bounds.proofs.ExpBounds.{last, nextToLast, next-under, next-over, series-by, series-bounds, AtMost, kOf, argument-under}
-use Rattle.bounds.proofs.ExpBounds.{least, most, by-tests, k-at-most, not-most, not-both, exp-within}
+use Rattle.bounds.proofs.ExpBounds.{least, most, by-tests, k-at-most, not-most, not-both, exp-end}
 
 -- ---- 1 and what is not above 0
 
@@ -72,10 +72,6 @@ series-low r small h = series-by r small (Within 1) at
         (times-low q r (positive-clear q (next-over r small p k .is-positive)) (small .is-finite) h))
 
 -- ---- where k is 0, r is x
-
-zero-is : nat 0 ≡ nought
-unfolding ofInt round
-zero-is = refl
 
 finite-before : (x : Float) → T (finite (x ⊖ nought)) → T (finite x)
 unfolding sub neg add
@@ -136,6 +132,7 @@ pub exp-at-most-one : (x : Float) → T (le x (nat 0)) → Within 1 (expOf x) ×
 exp-at-most-one x h =
     let low : T (le x nought) = unfold ofInt in h in
     let n = le-number x (nat 0) h in
-    let below = not-most 0 zero-le x (subst (λ (z : Float). T (le x z)) (sym no-halves) low) in
+    let halves : T (le x (ratio 0 2)) = subst (λ (z : Float). T (le x z)) (sym no-halves) low in
+    let below = not-most 0 zero-le x halves in
     let none = within-whole (pos 0) 1 zero-le (lit≤ tt) in
-    (by-tests (Within 1) x n (λ _. none) (λ t. absurd (not-both t below)) (middle-low x n low), exp-within x h .1)
+    (by-tests (Within 1) x n (λ _. none) (λ t. absurd (not-both t below)) (middle-low x n low), exp-end x 0 zero-le halves .1)

@@ -19,7 +19,7 @@ use Rattle.floats.specs.Under.{Under, Over}
 use Rattle.floats.proofs.Ranges.{le-number, le-not-lt}
 use Rattle.floats.proofs.KeyOrder.{signed}
 use Rattle.floats.proofs.Rounded.{fraction-val, round-smaller, le-values}
-use Rattle.floats.proofs.Bounds.{within-whole, positive-not-below}
+use Rattle.floats.proofs.Bounds.{within-whole, positive-not-below, zero-not-below}
 use Rattle.floats.proofs.Zeros.{zeroOf, zero-plus}
 use Rattle.floats.proofs.Sizes.{round-at-most, round-over, under-more, under-within, under-mul, over-mul, under-add, over-add}
 use Rattle.kernels.specs.Exp.{nearestWhole, factorial, factorials, expSeries, expParts, expOf}
@@ -287,10 +287,6 @@ module _ (j : ℕ) (l : j ≤ 50) where
   unfolding expParts
   middle-within x n h a b = parts-within (expSeries (argument x)) j (kOf x) (series-bounds (argument x) (argument-under x n a b) .0) l (k-at-most x h a)
 
-zero-not-below : NotBelow (nat 0)
-unfolding ofInt
-zero-not-below = record { not-below = tt }
-
 pub exp-end : (x : Float) (j : ℕ) → j ≤ 50 → T (le x (ratio j 2)) → Within (2 ^ suc j) (expOf x) × NotBelow (expOf x)
 exp-end x j l h =
     let n = le-number x (ratio j 2) h in
@@ -298,11 +294,6 @@ exp-end x j l h =
     (λ _. (within-whole (pos 0) (2 ^ suc j) zero-le (pow-mono {j = 53} (omega arith)), zero-not-below))
     (λ t. absurd (not-both t (not-most j l x h)))
     (λ a b. (middle-within j l x n h a b, positive-not-below (expParts (kOf x) x) (middle-positive x n a b)))
-
--- at zero and below: minus infinity and -0.0 too
-pub exp-within : (x : Float) → T (le x (nat 0)) → Within 2 (expOf x) × NotBelow (expOf x)
-unfolding ofInt round
-exp-within x h = exp-end x 0 zero-le h
 
 -- ---- at either zero it is 1.0
 

@@ -26,9 +26,9 @@ use Rattle.floats.proofs.Bounds.{within-whole, above-whole, above-add, positive
 use Rattle.floats.proofs.Sizes.{under-more, under-within, under-neg, under-mul, under-add, under-sub, over-mul, within-under}
 use Rattle.kernels.specs.Ln.{hi, lo, series, lnNearOne, lnParts, lnReduced, lnOf}
 use Rattle.bounds.proofs.LnApart.{ln-apart}
-use Rattle.bounds.proofs.LnSigns.{shareOf, series-under, two-under, near-one-under, hi-over, hi-under, lo-under}
+use Rattle.bounds.proofs.LnSigns.{quotientOf, series-under, two-under, near-one-under, hi-over, hi-under, lo-under}
 use Rattle.bounds.proofs.LnSigns.{series-clear, nothing-hi, nothing-lo, nothing-under, turn, turn-over, half-over, half-under}
-use Rattle.bounds.proofs.LnSigns.{halved-share, kept-share, apart, from-one, to-two, under-next, one-positive, one-cross}
+use Rattle.bounds.proofs.LnSigns.{halved-quotient, kept-quotient, apart, from-one, to-two, under-next, one-positive, one-cross}
 
 -- ---- k·hi + (t + k·lo), for a k below 0
 
@@ -36,7 +36,7 @@ whole-negative : (j : ℕ) → whole (negsuc j) ≡ neg (nat (suc j))
 unfolding ofInt
 whole-negative j = negative-is (suc j) 1
 
-parts-low : (j : ℕ) (m : Float) → suc j ≤ 2 ^ 11 → Under 1 2 (shareOf m) → T (le (lnParts (negsuc j) m) nought)
+parts-low : (j : ℕ) (m : Float) → suc j ≤ 2 ^ 11 → Under 1 2 (quotientOf m) → T (le (lnParts (negsuc j) m) nought)
 unfolding lnParts
 parts-low j m l s =
     let k = nat (suc j) in
@@ -62,10 +62,10 @@ square-clear (inf false) f = absurd f
 square-clear (fin true m e) f = round-clear (m * up e * (m * up e)) (down e * down e) f
 square-clear (fin false m e) f = round-clear (m * up e * (m * up e)) (down e * down e) f
 
-near-one-low : (m : Float) → Under 1 2 (shareOf m) → T (le (shareOf m) nought) → T (le (lnNearOne m) nought)
+near-one-low : (m : Float) → Under 1 2 (quotientOf m) → T (le (quotientOf m) nought) → T (le (lnNearOne m) nought)
 unfolding lnNearOne
 near-one-low m s h =
-    let sm = shareOf m in
+    let sm = quotientOf m in
     let z = under-mul s s (lit< tt) (lit≤ tt) in
     let zc = square-clear sm (z .is-finite) in
     let d : Under 16 5 (nat 2 ⊗ sm) = under-more (under-mul two-under s (lit< tt) (lit≤ tt)) 16 5 (lit≤ tt) in
@@ -80,7 +80,7 @@ nothing-low : T (le (nat 0) nought)
 unfolding ofInt round le
 nothing-low = tt
 
-parts-nothing : (m : Float) → Under 1 2 (shareOf m) → T (le (shareOf m) nought) → T (le (lnParts (pos 0) m) nought)
+parts-nothing : (m : Float) → Under 1 2 (quotientOf m) → T (le (quotientOf m) nought) → T (le (lnParts (pos 0) m) nought)
 unfolding lnParts
 parts-nothing m s h =
     let t = near-one-under m s in
@@ -94,8 +94,8 @@ unfolding ofInt round
 at-most-one m h = omega arith
 
 -- (m − 1)/(m + 1) of an m of at most 1
-share-low : (m : Float) → T (positive m) → Under 1 0 m → T (le (shareOf m) nought)
-share-low m p u =
+quotient-low : (m : Float) → T (positive m) → Under 1 0 m → T (le (quotientOf m) nought)
+quotient-low m p u =
     let one : Under 1 0 (nat 1) = within-under (within-whole (pos 1) 1 (lit≤ tt) (lit≤ tt)) in
     let low = cross→le m (nat 1) p one-positive (at-most-one m (u .small)) in
     let difference = under-sub u one (lit< tt) (lit≤ tt) in
@@ -109,7 +109,7 @@ hi-most : Under 23 5 hi
 unfolding ofBits
 hi-most = record { is-finite = tt; small = lit≤ tt }
 
-parts-under : (k : ℕ) (m : Float) → k ≤ 5 → Under 1 2 (shareOf m) → Under 133 5 (lnParts (pos k) m)
+parts-under : (k : ℕ) (m : Float) → k ≤ 5 → Under 1 2 (quotientOf m) → Under 133 5 (lnParts (pos k) m)
 unfolding lnParts
 parts-under k m l s =
     let w : Under 5 0 (nat k) = within-under (within-whole (pos k) 5 l (lit≤ tt)) in
@@ -187,16 +187,16 @@ module _ (x : Float) (f : T (fits binary64 x)) (p : T (positive x)) where
           → T (le (cond t (lnParts (k +ℤ pos 1) (m ⊗ ratio 1 2)) (lnParts k m)) nought)
       go true e (pos k) l h = absurd (no-turn (num m) (den m) (2 ^ k) (den-pos m) (pow-pos k) (from-turn (subst T (sym e) tt)) h)
       go true e (negsuc zero) l h =
-          parts-nothing (m ⊗ ratio 1 2) (halved-share m one two (subst T (sym e) tt))
-          (share-low (m ⊗ ratio 1 2) half-positive half-under-one)
+          parts-nothing (m ⊗ ratio 1 2) (halved-quotient m one two (subst T (sym e) tt))
+          (quotient-low (m ⊗ ratio 1 2) half-positive half-under-one)
       go true e (negsuc (suc j)) l h =
-          rw (next-exponent j) (parts-low j (m ⊗ ratio 1 2) (omega arith) (halved-share m one two (subst T (sym e) tt)))
+          rw (next-exponent j) (parts-low j (m ⊗ ratio 1 2) (omega arith) (halved-quotient m one two (subst T (sym e) tt)))
       go false e (pos zero) l h =
-          parts-nothing m (kept-share m one two e)
-          (share-low m (one .is-positive) (record { is-finite = two .is-finite; small = omega arith }))
+          parts-nothing m (kept-quotient m one two e)
+          (quotient-low m (one .is-positive) (record { is-finite = two .is-finite; small = omega arith }))
       go false e (pos (suc k)) l h =
           absurd (no-double (num m) (den m) (2 ^ suc k) (den-pos m) (pow-mono {i = 1} {j = suc k} (omega arith)) (one .large) h)
-      go false e (negsuc j) l h = parts-low j m (le-trans l (lit≤ tt)) (kept-share m one two e)
+      go false e (negsuc j) l h = parts-low j m (le-trans l (lit≤ tt)) (kept-quotient m one two e)
 
   -- above zero and at most 1: not above 0
   pub ln-low : Within 1 x → T (le (lnOf x) nought)
@@ -211,10 +211,10 @@ module _ (x : Float) (f : T (fits binary64 x)) (p : T (positive x)) where
       go true e =
           let at = from-turn (subst T (sym e) tt) in
           let few = power-few k 4 (λ l. no-five (num m) (den m) (2 ^ k) (den-pos m) (pow-mono {i = 5} {j = k} l) at h) in
-          parts-under (k + 1) (m ⊗ ratio 1 2) (omega arith) (halved-share m one two (subst T (sym e) tt))
+          parts-under (k + 1) (m ⊗ ratio 1 2) (omega arith) (halved-quotient m one two (subst T (sym e) tt))
       go false e =
           let few = power-few k 5 (λ l. no-six (num m) (den m) (2 ^ k) (den-pos m) (pow-mono {i = 6} {j = k} l) (one .large) h) in
-          parts-under k m few (kept-share m one two e)
+          parts-under k m few (kept-quotient m one two e)
 
   -- from 1 to 35: at most 133/32 in size
   pub ln-under : T (le (nat 1) x) → Within 35 x → Under 133 5 (lnOf x)

@@ -25,7 +25,8 @@ use Rattle.kernels.specs.Exp.{expOf}
 use Rattle.gammas.specs.Gamma.{lnGammaOf}
 use Rattle.binomials.specs.Binomial.{lnPmf, lnPmfBy}
 use Rattle.bounds.proofs.LnBounds.{within-ln, within-ln-between}
-use Rattle.bounds.proofs.ExpBounds.{exp-within, exp-of-zero}
+use Rattle.bounds.proofs.ExpBounds.{exp-of-zero}
+use Rattle.bounds.proofs.ExpAtMost.{exp-at-most-one}
 use Rattle.bounds.proofs.GammaBounds.{within-ln-gamma}
 use Rattle.bounds.proofs.BinomialBounds.{within-ln-choose}
 use Rattle.models.specs.declared.model.Mode.{Mode}
@@ -219,7 +220,7 @@ module _ (α β : Float) (a : Weight α) (b : Weight β) where
       let below = within-sub (within-add one other (lit≤ tt)) both-within (lit≤ tt) in
       within-more (within-sub (within-add (within-ln-choose k n h (omega arith)) above (lit≤ tt)) below (lit≤ tt)) (lit≤ tt)
 
--- ---- the phased Het: the larger way round counts 1 in the sum of the two, and the other at most 2
+-- ---- the phased Het: the larger way round counts 1 in the sum of the two, and the other at most 1
 
 abbrev one : Float
 one = fin false 1 (pos 0)
@@ -228,14 +229,14 @@ one = fin false 1 (pos 0)
 joined-within : (x : Float) → T (le x nought) → Within (2 ^ 12) (lnOf (expOf x ⊕ expOf nought))
 unfolding ofInt
 joined-within x h =
-    let e = exp-within x h in
+    let e = exp-at-most-one x h in
     let above : Above 0 one = record { is-positive = tt; large = lit≤ tt } in
     let within : Within 1 one = record { is-finite = tt; small = lit≤ tt } in
     rw (exp-of-zero false) (within-ln (expOf x ⊕ one) (add-fits binary64 (expOf x) one) (above-add (e .1) above (lit≤ tt) (within-add (e .0) within (lit≤ tt)) .is-positive))
 
 exp-finite : (x : Float) → T (le x nought) → T (finite (expOf x))
 unfolding ofInt
-exp-finite x h = exp-within x h .0 .is-finite
+exp-finite x h = exp-at-most-one x h .0 .is-finite
 
 pub either-way-within : {n : ℕ} (max : Pick) (a b : Float) → IsMax max → Within n a → Within n b → n + 2 ^ 12 ≤ 2 ^ 53 → Within (n + 2 ^ 12) (eitherWay max a b)
 either-way-within {n} max a b is-max A B l = ⊎-elim by-first by-second (is-max a b (A .is-finite) (B .is-finite))

@@ -16,7 +16,8 @@ use lib.Ieee.{Float, nan, inf, fin, binary64, unlike, up, down, round, neg, sum,
 use lib.Ieee.Fits.{up-pos, down-pos, and-l, and-r}
 use lib.Ieee.Scale.{finite}
 use lib.Ieee.Positive.{num, den, den-pos, positive, first-pos, own-value, mul-at}
-use Rattle.floats.specs.F64.{_⊕_, _⊗_, ratio, reciprocals, hornerFrom, horner}
+use Rattle.lists.specs.Every.{Each}
+use Rattle.floats.specs.F64.{_⊕_, _⊗_, nat, ratio, reciprocals, hornerFrom, horner}
 use Rattle.floats.specs.Within.{Within, Above, NotBelow, Low, least, finite-low}
 use Rattle.floats.proofs.Floats.{eqb-zero}
 use Rattle.floats.proofs.Rounded.{Exact, exact-small, exact-power, round-within, round-within-exact, round-above}
@@ -161,6 +162,10 @@ positive-not-below (inf s) h = absurd h
 positive-not-below (fin true m e) h = absurd h
 positive-not-below (fin false m e) h = record { not-below = tt }
 
+pub zero-not-below : NotBelow (nat 0)
+unfolding ofInt
+zero-not-below = record { not-below = tt }
+
 pub above-not-below : {j : ℕ} {x : Float} → Above j x → NotBelow x
 above-not-below {x} h = positive-not-below x (h .is-positive)
 
@@ -204,15 +209,10 @@ above-add {j} {n = i} {x = fin true m e} {y = fin false n d} h k l w =
     (round-above (a + b) (down e * down d) j (mul-pos (down-pos e) (down-pos d)) l
     (over (m * up e) (n * up d) (down e) (down d) j (k .large)) (subst (λ (v : Float). Within i v) same w .is-finite))
 
--- ---- lists: each part at most b in size
-
-abbrev pub AllWithin : ℕ → List Float → Type 0
-AllWithin b [] = Unit
-AllWithin b (x ∷ xs) = Within b x × AllWithin b xs
-
 -- ---- Horner's rule, at a z and coefficients of at most 1: each step adds 1 at most
 
-pub within-horner : {n : ℕ} {z p : Float} (cs : List Float) → Within 1 z → Within n p → AllWithin 1 cs → n + length cs ≤ 2 ^ 53 → Within (n + length cs) (hornerFrom z p cs)
+pub within-horner : {n : ℕ} {z p : Float} (cs : List Float) → Within 1 z → Within n p → Each (Within 1) cs
+    → n + length cs ≤ 2 ^ 53 → Within (n + length cs) (hornerFrom z p cs)
 within-horner {n} [] h k cs l = rw add-zero k
 within-horner {n} {z} {p} (c ∷ cs) h k each l =
     let l′ : suc n + length cs ≤ 2 ^ 53 = omega arith in
@@ -224,7 +224,7 @@ abbrev pub noneZero : List ℕ → Bool
 noneZero [] = true
 noneZero (n ∷ ns) = ltb 0 n && noneZero ns
 
-all-reciprocals : (ns : List ℕ) → T (noneZero ns) → AllWithin 1 (reciprocals ns)
+all-reciprocals : (ns : List ℕ) → T (noneZero ns) → Each (Within 1) (reciprocals ns)
 all-reciprocals [] h = tt
 all-reciprocals (n ∷ ns) h = (within-reciprocal n (ltb→lt 0 n (and-l (ltb 0 n) (noneZero ns) h)), all-reciprocals ns (and-r (ltb 0 n) (noneZero ns) h))
 

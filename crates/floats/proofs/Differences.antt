@@ -8,16 +8,20 @@ use native.Mathlib.Omega.{arith}
 use borrow.Author.Tests.{eq-eqb, le-ltb, ltb-true, ltb-false}
 use lib.IntN.{ℤ, pos}
 use lib.Dec.{T, ltb, eqb}
-use lib.Ieee.{Float, nan, inf, fin, binary64, up, down, odd, units, round, neg, sum, add, sub, lt, eq, le}
+use lib.Ieee.{Float, nan, inf, fin, binary64, up, down, odd, units, round, neg, sum, add, sub, lt, eq, le, ofInt}
 use lib.Ieee.Fits.{down-pos, round-is}
 use lib.Ieee.Scale.{finite, round-same}
-use Rattle.floats.specs.F64.{_⊕_, _⊖_}
+use Rattle.floats.specs.F64.{_⊕_, _⊖_, nat}
 use Rattle.floats.specs.Within.{NotBelow}
 use Rattle.floats.proofs.Floats.{lt-zero, eq-zero}
 use Rattle.floats.proofs.Ranges.{not-below-zero, le-not-lt}
 
 abbrev pub nought : Float
 nought = fin false 0 (pos 0)
+
+pub zero-is : nat 0 ≡ nought
+unfolding ofInt round
+zero-is = refl
 
 -- ---- what is rounded to 0.0, and what is rounded below it
 

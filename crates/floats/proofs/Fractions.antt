@@ -43,7 +43,8 @@ most-sizes s a t b S R = rw (below-sizes s a t b S R) (go (ltb a b) (eqb a b) re
     go false true p q = level-sizes s a t b S R (eqb-true a b q) ∙ sym (le-leb a b (le-of-eq (eqb-true a b q)))
     go false false p q = sym (lt-leb a b (apart a b (ltb-false a b p) (eqb-false a b q)))
 
-zero-size : (s : Bool) (m u w : ℕ) → T (not s || eqb m 0) → s ≡ true → m * u * w ≡ 0
+-- what is not below zero and has its sign bit set has no size
+pub zero-size : (s : Bool) (m u w : ℕ) → T (not s || eqb m 0) → s ≡ true → m * u * w ≡ 0
 zero-size true m u w h p = rw (eqb→eq m 0 h, zero-mul, zero-mul)
 zero-size false m u w h p = absurd (true≢false (sym p))
 

@@ -71,7 +71,7 @@ not-below-itself (negsuc a) = le-ltb a a (omega arith)
 
 -- ---- so of keys
 
-neither : (u v : Bool) → (not u && not v) ≡ true → (u ≡ false) × (v ≡ false)
+pub neither : (u v : Bool) → (not u && not v) ≡ true → (u ≡ false) × (v ≡ false)
 neither true v h = absurd (true≢false (sym h))
 neither false true h = absurd (true≢false (sym h))
 neither false false h = (refl, refl)

@@ -11,7 +11,7 @@ use lib.Dec.{T, ltb, eqb, ltb→lt, eqb→eq}
 use lib.Ieee.{Float, nan, inf, fin, binary64, up, down, lt, le, sub, isNan}
 use lib.Ieee.Fits.{up-pos, down-pos, and-l, and-r}
 use lib.Ieee.Scale.{finite}
-use lib.Ieee.Positive.{num, den, den-pos, positive, between, le→cross, sub-anti, le-trans-positive, through as between-fractions}
+use lib.Ieee.Positive.{num, den, den-pos, positive, above, between, le→cross, sub-anti, le-trans-positive, through as between-fractions}
 use Rattle.floats.specs.Within.{Within, Above, NotBelow}
 use Rattle.floats.proofs.Rounded.{or-split}
 
@@ -62,6 +62,14 @@ not-below-zero nan f h = absurd f
 not-below-zero (inf s) f h = absurd f
 not-below-zero (fin false m e) f h = record { not-below = tt }
 not-below-zero (fin true m e) f h = record { not-below = no-size m e h }
+
+-- ---- what is above zero and no infinity
+
+pub above-finite : (x : Float) → T (above x) → T (finite x) → T (positive x)
+above-finite nan a f = absurd a
+above-finite (inf s) a f = absurd f
+above-finite (fin true m e) a f = absurd a
+above-finite (fin false m e) a f = a
 
 -- ---- 1 - p, for a p from lo to hi: the three tests of constants compute
 

@@ -13,6 +13,7 @@ use lib.Ieee.{Float, nan, inf, fin, binary64, up, down, round, sum, add, le, fit
 use lib.Ieee.Fits.{up-pos, down-pos, add-fits}
 use lib.Ieee.Order.{round-mono}
 use lib.Ieee.Positive.{num, den, den-pos, positive, positive-finite, cross→le, le-trans-positive}
+use Rattle.lists.specs.Every.{Each}
 use Rattle.floats.specs.F64.{_⊕_, sumFrom}
 use Rattle.floats.specs.Within.{Within, Above, NotBelow}
 use Rattle.floats.proofs.Bounds.{within-add, within-more, positive-not-below, above-not-below, above-add, add-to-zero}
@@ -55,6 +56,12 @@ sum-from-left x y p f q =
     subst (λ (z : Float). T (le x z)) (add-either y x (positive-finite y q) (positive-finite x p))
     (sum-from-right y x (positive-not-below y q) p f)
 
+-- what is above zero, plus what is not below it
+pub above-left : {j a b : ℕ} (x y : Float) → Above j x → NotBelow y → Within a x → Within b y → j ≤ 1074 → a + b ≤ 2 ^ 53 → Above j (x ⊕ y)
+above-left {j} {a} {b} x y h k v w J l =
+    let e = add-either x y (v .is-finite) (w .is-finite) in
+    subst (Above j) (sym e) (above-add k h J (subst (Within (a + b)) e (within-add v w l)))
+
 -- ---- a list of f64s above zero and at most 1
 
 pub record Term (j : ℕ) (x : Float) : Type 0 where
@@ -63,8 +70,7 @@ pub record Term (j : ℕ) (x : Float) : Type 0 where
   pub is-f64 : T (fits binary64 x)
 
 abbrev pub AllTerms : ℕ → List Float → Type 0
-AllTerms j [] = Unit {0}
-AllTerms j (x ∷ l) = Term j x × AllTerms j l
+AllTerms j = Each (Term j)
 
 module _ (j : ℕ) (J : j ≤ 1074) where
   -- a running sum that has taken in a term

@@ -28,6 +28,11 @@ pub record Number (x : Float) : Type 0 where
   pub is-finite : T (finite x)
   pub is-f64 : T (fits binary64 x)
 
+-- not below zero, whatever its sign
+pub either-not-below : (s : Bool) → NotBelow (zeroOf s)
+either-not-below true = record { not-below = tt }
+either-not-below false = record { not-below = tt }
+
 -- a zero that fits is one of the two
 pub zero-fits : (s : Bool) (e : ℤ) → T (fits binary64 (fin s 0 e)) → fin s 0 e ≡ zeroOf s
 unfolding fits

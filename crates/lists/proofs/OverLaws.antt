@@ -11,18 +11,18 @@ use lib.ListN.{length, getD, set, length-set}
 use lib.Seq.{getD-set-same, getD-set-other}
 use Rattle.lists.specs.Over.{over, placed}
 
+pub last : (n : ℕ) → n < suc n
+last n = omega arith
+
+pub before : (i n : ℕ) → i < n → i < suc n
+before i n l = omega arith
+
 -- two walks keep a relation that each step keeps
 pub over-related : {A B : Type 0} (R : A → B → Type 0) (f : ℕ → A → A) (g : ℕ → B → B) (a : A) (b : B) (n : ℕ)
     → ((i : ℕ) → i < n → (x : A) (y : B) → R x y → R (f i x) (g i y)) → R a b → R (over f a n) (over g b n)
 over-related R f g a b zero step h = h
 over-related R f g a b (suc n) step h =
     step n (last n) (over f a n) (over g b n) (over-related R f g a b n (λ i l. step i (before i n l)) h)
-  where
-    last : (n : ℕ) → n < suc n
-    last n = omega arith
-
-    before : (i n : ℕ) → i < n → i < suc n
-    before i n l = omega arith
 
 -- equal steps, equal walks
 pub over-same : {A : Type 0} (f g : ℕ → A → A) (a : A) (n : ℕ) → ((i : ℕ) → i < n → (x : A) → f i x ≡ g i x) → over f a n ≡ over g a n

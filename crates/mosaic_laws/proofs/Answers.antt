@@ -25,6 +25,7 @@ use Rattle.probabilities.specs.Quality.{tensOf, probabilities, wrongOf, quality
 use Rattle.probabilities.specs.Inner.{probabilityOf}
 use Rattle.probabilities.proofs.Normal.{probability-at, probability-beyond}
 use Rattle.probabilities.proofs.InUse.{in-use-all}
+use Rattle.lists.specs.Every.{Each}
 use Rattle.lists.specs.Lists.{numbers, passing}
 use Rattle.lists.proofs.PlaceLaws.{number-at, map-at}
 use Rattle.hypotheses.specs.Edition.{first}
@@ -47,7 +48,7 @@ use Rattle.mosaic_laws.specs.Answers.{VafOf, FiniteAnswer}
 use Rattle.mosaic_laws.proofs.Seen.{seen-some, seen-in, count-in}
 use Rattle.mosaic_laws.proofs.Places.{flag-at, found-rest}
 use Rattle.mosaic_laws.proofs.Finite.{posterior-within, found-vafs}
-use Rattle.mosaic_laws.proofs.Chances.{chance-more, nothing, Each, Term, each-map, each-place, in-tens-term, chance}
+use Rattle.mosaic_laws.proofs.Chances.{chance-more, nothing, DecimalPosterior, each-map, each-place, in-tens-posterior, chance}
 use Rattle.mosaic_laws.proofs.Qualities.{wrong-chance, wrong-fits, bounded, minus-two}
 
 -- ---- the members of a list that pass a test
@@ -179,9 +180,9 @@ module _ (p : Params) (counts : List ℕ) (ok : Accepted p counts) where
   pub tens-few : length tens ≤ 36
   tens-few = subst (λ (k : ℕ). k ≤ 36) (sym tens-length) (at-most-36 counts)
 
-  pub tens-terms : Each Term tens
-  tens-terms =
-      each-map (Within (2 ^ 47)) Term inTens in-tens-term (take n posts)
+  pub tens-posteriors : Each DecimalPosterior tens
+  tens-posteriors =
+      each-map (Within (2 ^ 47)) DecimalPosterior inTens in-tens-posterior (take n posts)
       (each-place (Within (2 ^ 47)) (take n posts) (λ i h.
       let m : i < n = subst (λ (k : ℕ). i < k) taken h in
       subst (Within (2 ^ 47)) (sym (getD-take n posts i nan m)) (posteriors-within i m)))
@@ -195,7 +196,7 @@ module _ (p : Params) (counts : List ℕ) (ok : Accepted p counts) where
       let e = in-use-all n (at-most-36 counts) in
       let at = probability-at larger smaller posts posts-length n i (subst (λ (k : ℕ). i < k) (sym e) h) in
       let x = getD posts i nan in
-      let c = chance tens (tens-some some) tens-few tens-terms (inTens x) (in-tens-term x (posteriors-within i h)) in
+      let c = chance tens (tens-some some) tens-few tens-posteriors (inTens x) (in-tens-posterior x (posteriors-within i h)) in
       subst (UpTo 1) (sym at) (subst (λ (k : ℕ). UpTo 1 (probabilityOf smaller (wholeOver larger (tensOf posts k)) x)) (sym e) c)
 
   chance-beyond : (i : ℕ) → n ≤ i → i < 36 → getD probs i nan ≡ nat 0

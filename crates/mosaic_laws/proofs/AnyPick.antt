@@ -23,6 +23,7 @@ use Rattle.refusals.specs.declared.Refusal.the-variants.{TooMany, Count, Model,
 use Rattle.limits.specs.Limits.{countsAllowed}
 use Rattle.models.specs.declared.params.Params.{Params}
 use Rattle.picks.specs.Order.{Pick, IsMax, IsMin, larger, smaller}
+use Rattle.lists.specs.Every.{Each}
 use Rattle.lists.specs.Lists.{padded}
 use Rattle.diploid_laws.proofs.Picks.{zero-number, max-alike, max-same, min-alike, cap-same, larger-alike, smaller-alike, larger-number}
 use Rattle.diploid_laws.proofs.Picks.{pow10-alike}
@@ -38,14 +39,14 @@ use Rattle.mosaic.specs.Genotype.{blank, calledOf, genotypeBy, genotypeOf}
 use Rattle.mosaic.specs.declared.genotype.MosaicResult.{MosaicResult}
 use Rattle.mosaic_laws.specs.Accepted.{Accepted}
 use Rattle.mosaic_laws.proofs.OneLess.{one-less}
-use Rattle.mosaic_laws.proofs.Chances.{Each, Term, log-within, whole-within}
+use Rattle.mosaic_laws.proofs.Chances.{DecimalPosterior, log-within, whole-within}
 use Rattle.mosaic_laws.proofs.Qualities.{rawOf, raw-within}
-use Rattle.mosaic_laws.proofs.Answers.{some-hypothesis, tens-some, tens-few, tens-terms, wrong, wrong-within, wrong-number}
+use Rattle.mosaic_laws.proofs.Answers.{some-hypothesis, tens-some, tens-few, tens-posteriors, wrong, wrong-within, wrong-number}
 
 -- ---- the probabilities and the quality
 
-term-number : (x : Float) → Term x → Number x
-term-number x h = record { is-finite = h .within .is-finite; is-f64 = h .is-f64 }
+posterior-number : (x : Float) → DecimalPosterior x → Number x
+posterior-number x h = record { is-finite = h .within .is-finite; is-f64 = h .is-f64 }
 
 map-same : (f g : Float → Float) (P : Float → Type 0) → ((x : Float) → P x → f x ≡ g x) → (l : List Float) → Each P l → map f l ≡ map g l
 map-same f g P h [] e = refl
@@ -60,14 +61,14 @@ module _ (max min : Pick) (is-max : IsMax max) (is-min : IsMin min) where
   other-number : {t u : Float} → Beside t u → Number t
   other-number h = alike-number (alike-sym (h .alike)) (h .number)
 
-  tops : (x y : Float) (l : List Float) → Beside x y → Each Term l → Beside (largestFrom max x l) (largestFrom larger y l)
+  tops : (x y : Float) (l : List Float) → Beside x y → Each DecimalPosterior l → Beside (largestFrom max x l) (largestFrom larger y l)
   tops x y [] h e = h
   tops x y (z ∷ l) h e =
-      let f = term-number z (e .0) in
+      let f = posterior-number z (e .0) in
       let next = alike-trans (max-alike max is-max x z (other-number h) f) (larger-alike (h .alike) same) in
       tops (max x z) (larger y z) l (record { alike = next; number = larger-number y z (h .number) f }) (e .1)
 
-  module _ (x : Float) (l : List Float) (X : Term x) (L : Each Term l) (few : length l ≤ 36) where
+  module _ (x : Float) (l : List Float) (X : DecimalPosterior x) (L : Each DecimalPosterior l) (few : length l ≤ 36) where
     abbrev t : Float
     t = largestFrom max x l
 
@@ -75,13 +76,13 @@ module _ (max min : Pick) (is-max : IsMax max) (is-min : IsMin min) where
     u = largestFrom larger x l
 
     both : Beside t u
-    both = tops x x l (record { alike = same; number = term-number x X }) L
+    both = tops x x l (record { alike = same; number = posterior-number x X }) L
 
-    power-same : (y : Float) → Term y → pow10Of (y ⊖ t) ≡ pow10Of (y ⊖ u)
-    power-same y h = pow10-alike (sub-alike same (both .alike) (term-number y h) (other-number both))
+    power-same : (y : Float) → DecimalPosterior y → pow10Of (y ⊖ t) ≡ pow10Of (y ⊖ u)
+    power-same y h = pow10-alike (sub-alike same (both .alike) (posterior-number y h) (other-number both))
 
     sums : sumFrom (pow10Of (x ⊖ t)) (map (λ y. pow10Of (y ⊖ t)) l) ≡ sumFrom (pow10Of (x ⊖ u)) (map (λ y. pow10Of (y ⊖ u)) l)
-    sums = ap₂ sumFrom (power-same x X) (map-same (λ y. pow10Of (y ⊖ t)) (λ y. pow10Of (y ⊖ u)) Term power-same l L)
+    sums = ap₂ sumFrom (power-same x X) (map-same (λ y. pow10Of (y ⊖ t)) (λ y. pow10Of (y ⊖ u)) DecimalPosterior power-same l L)
 
     abbrev sum : Float
     sum = sumFrom (pow10Of (x ⊖ u)) (map (λ y. pow10Of (y ⊖ u)) l)
@@ -100,11 +101,11 @@ module _ (max min : Pick) (is-max : IsMax max) (is-min : IsMin min) where
     unfolding wholeOver
     whole-fits = add-fits binary64 u (log10Of sum)
 
-  module _ (l : List Float) (some : 0 < length l) (few : length l ≤ 36) (terms : Each Term l) where
+  module _ (l : List Float) (some : 0 < length l) (few : length l ≤ 36) (each : Each DecimalPosterior l) where
     wholes : Beside (wholeOver max l) (wholeOver larger l)
-    wholes = go l some few terms
+    wholes = go l some few each
       where
-        go : (l : List Float) → 0 < length l → length l ≤ 36 → Each Term l → Beside (wholeOver max l) (wholeOver larger l)
+        go : (l : List Float) → 0 < length l → length l ≤ 36 → Each DecimalPosterior l → Beside (wholeOver max l) (wholeOver larger l)
         go [] h k e = absurd (not-suc-le-zero h)
         go (x ∷ l) h k e =
             let rest : length l ≤ 36 = omega arith in
@@ -114,20 +115,20 @@ module _ (max min : Pick) (is-max : IsMax max) (is-min : IsMin min) where
               number = record { is-finite = finite; is-f64 = whole-fits x l (e .0) (e .1) rest };
             }
 
-    probability-same : (y : Float) → Term y
+    probability-same : (y : Float) → DecimalPosterior y
         → pow10Of (lessWhole min (wholeOver max l) y) ≡ pow10Of (lessWhole smaller (wholeOver larger l) y)
     probability-same y h =
         let w = wholeOver larger l in
-        let d = sub-alike same (wholes .alike) (term-number y h) (other-number wholes) in
-        let less = within-sub (h .within) (whole-within l some few terms) (lit≤ tt) in
+        let d = sub-alike same (wholes .alike) (posterior-number y h) (other-number wholes) in
+        let less = within-sub (h .within) (whole-within l some few each) (lit≤ tt) in
         let k : Number (y ⊖ w) = record { is-finite = less .is-finite; is-f64 = sub-fits binary64 y w } in
         let capped = min-alike min is-min (y ⊖ wholeOver max l) (nat 0) (alike-number (alike-sym d) k) zero-number in
         pow10-alike (alike-trans capped (smaller-alike d same))
 
     pub normalised-any : map pow10Of (normalisedOver max min l) ≡ map pow10Of (normalisedOver larger smaller l)
-    normalised-any = go l terms
+    normalised-any = go l each
       where
-        go : (k : List Float) → Each Term k
+        go : (k : List Float) → Each DecimalPosterior k
             → map pow10Of (map (lessWhole min (wholeOver max l)) k) ≡ map pow10Of (map (lessWhole smaller (wholeOver larger l)) k)
         go [] e = refl
         go (y ∷ k) e = ap₂ _∷_ (probability-same y (e .0)) (go k (e .1))
@@ -157,7 +158,7 @@ module _ (max min : Pick) (is-max : IsMax max) (is-min : IsMin min) where
     probabilities-any : probabilities max min posts n ≡ probabilities larger smaller posts n
     unfolding probabilities
     probabilities-any =
-        let same = normalised-any (tensOf posts n) (tens-some p counts ok some) (tens-few p counts ok) (tens-terms p counts ok) in
+        let same = normalised-any (tensOf posts n) (tens-some p counts ok some) (tens-few p counts ok) (tens-posteriors p counts ok) in
         rw (in-use-all n (at-most-36 counts)) (ap (padded 36 (nat 0)) same)
 
     wrong-any : qualityBy min (wrong p counts ok) ≡ qualityBy smaller (wrong p counts ok)

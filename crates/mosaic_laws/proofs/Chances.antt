@@ -10,23 +10,24 @@ use native.Mathlib.Omega.{arith}
 use lib.IntN.{pos}
 use lib.Dec.{T, lit≤}
 use lib.ListN.{length, getD, length-map}
-use lib.Ieee.{Float, nan, binary64, lt, ofInt, fits}
+use lib.Ieee.{Float, nan, binary64, lt, fits}
 use lib.Ieee.Fits.{add-fits, div-fits}
+use Rattle.lists.specs.Every.{Each}
 use Rattle.floats.specs.F64.{_⊕_, _⊖_, _⊗_, nat, sumFrom}
 use Rattle.floats.specs.Within.{Within, Above, UpTo}
-use Rattle.floats.proofs.Bounds.{within-number, within-more, within-whole, within-add, within-sub, within-mul, within-div, above-add}
-use Rattle.floats.proofs.Differences.{less-itself, add-either}
+use Rattle.floats.proofs.Bounds.{within-number, within-more, within-whole, within-add, within-sub, within-div, above-add, zero-not-below}
+use Rattle.floats.proofs.Differences.{less-itself}
+use Rattle.floats.proofs.Sums.{above-left}
 use Rattle.kernels.specs.Ln.{lnOf}
 use Rattle.tens.specs.Log10.{log10Of, pow10Of}
 use Rattle.tens.specs.Normalised.{inTens, largestFrom, wholeOver, lessWhole}
 use Rattle.bounds.proofs.Log10Bounds.{within-log10}
 use Rattle.bounds.proofs.ExpBounds.{exp-fits}
-use Rattle.bounds.proofs.ExpAtMost.{exp-at-most-one}
 use Rattle.picks.specs.Order.{larger, smaller}
-use Rattle.diploid_laws.proofs.Signs.{NotAbove, lt-itself, not-below-trans, difference-not-above, not-above-le, mul-not-above}
+use Rattle.diploid_laws.proofs.Signs.{NotAbove, lt-itself, not-below-trans, difference-not-above}
 use Rattle.diploid_laws.proofs.Signs.{not-below-add}
 use Rattle.diploid_laws.proofs.Largest.{either-of, larger-left, larger-right}
-use Rattle.diploid_laws.proofs.QualityBounds.{one, one-above, pow10-zero, ten-above, ten-within, smaller-zero}
+use Rattle.diploid_laws.proofs.QualityBounds.{one, one-above, pow10-zero, pow10-within, ten-above, smaller-zero}
 
 -- ---- from 0 to n
 
@@ -36,26 +37,16 @@ chance-add {x = x} {y = y} h k l =
     record { within = w; not-negative = not-below-add x y (h .not-negative) (k .not-negative) (w .is-finite) }
 
 pub nothing : UpTo 0 (nat 0)
-unfolding ofInt
-nothing = record { within = within-whole (pos 0) 0 (lit≤ tt) (lit≤ tt); not-negative = record { not-below = tt } }
+nothing = record { within = within-whole (pos 0) 0 (lit≤ tt) (lit≤ tt); not-negative = zero-not-below }
 
 pub chance-more : {a b : ℕ} {x : Float} → UpTo a x → a ≤ b → UpTo b x
 chance-more h l = record { within = within-more (h .within) l; not-negative = h .not-negative }
 
 -- ten to a y of at most 0
 pub pow10-chance : {n : ℕ} (y : Float) → Within n y → NotAbove y → n * 3 ≤ 2 ^ 53 → UpTo 1 (pow10Of y)
-unfolding pow10Of ofInt
-pow10-chance y w h l =
-    let z = y ⊗ lnOf (nat 10) in
-    let low = mul-not-above y (lnOf (nat 10)) h (ten-above .is-positive) (within-mul w ten-within l .is-finite) in
-    let r = exp-at-most-one z (not-above-le z low) in
-    record { within = r .0; not-negative = r .1 }
+pow10-chance y w h l = let r = pow10-within y w h l in record { within = r .0; not-negative = r .1 }
 
 -- ---- lists: each member, and some member
-
-abbrev pub Each : (Float → Type 0) → List Float → Type 0
-Each P [] = Unit
-Each P (x ∷ l) = P x × Each P l
 
 abbrev Some : (Float → Type 0) → List Float → Type 0
 Some P [] = ⊥
@@ -85,37 +76,38 @@ some-map P Q f h (x ∷ l) s = elim s [ inl p ↦ inl (h x p) | inr r ↦ inr (s
 
 -- ---- the largest
 
--- a decimal logarithm that is no infinity
-pub record Term (x : Float) : Type 0 where
+-- the decimal logarithm of a posterior: an f64, at most 2 ^ 47 in size
+pub record DecimalPosterior (x : Float) : Type 0 where
   pub within : Within (2 ^ 47) x
   pub is-f64 : T (fits binary64 x)
 
-pub in-tens-term : (x : Float) → Within (2 ^ 47) x → Term (inTens x)
-in-tens-term x w = record { within = within-div w ten-above (lit≤ tt); is-f64 = div-fits binary64 x (lnOf (nat 10)) }
+pub in-tens-posterior : (x : Float) → Within (2 ^ 47) x → DecimalPosterior (inTens x)
+in-tens-posterior x w = record { within = within-div w ten-above (lit≤ tt); is-f64 = div-fits binary64 x (lnOf (nat 10)) }
 
 -- t is one of x and l, and none of them is above it
 record Top (x : Float) (l : List Float) (t : Float) : Type 0 where
-  pub term : Term t
+  pub posterior : DecimalPosterior t
   pub first-below : lt t x ≡ false
   pub rest-below : Each (λ y. lt t y ≡ false) l
   pub is-one : Some (λ y. t ≡ y) (x ∷ l)
 
-top-through : (x y t : Float) → Term x → Term y → Term t → lt y x ≡ false → lt t y ≡ false → lt t x ≡ false
+top-through : (x y t : Float) → DecimalPosterior x → DecimalPosterior y → DecimalPosterior t → lt y x ≡ false
+    → lt t y ≡ false → lt t x ≡ false
 top-through x y t X Y H h k =
     not-below-trans x y t (X .is-f64) (Y .is-f64) (H .is-f64) (within-number (X .within)) (within-number (Y .within))
     (within-number (H .within)) h k
 
-top-is : (x : Float) (l : List Float) → Term x → Each Term l → Top x l (largestFrom larger x l)
-top-is x [] X L = record { term = X; first-below = lt-itself x; rest-below = tt; is-one = inl refl }
+top-is : (x : Float) (l : List Float) → DecimalPosterior x → Each DecimalPosterior l → Top x l (largestFrom larger x l)
+top-is x [] X L = record { posterior = X; first-below = lt-itself x; rest-below = tt; is-one = inl refl }
 top-is x (y ∷ l) X L =
     let z = larger x y in
-    let Z = either-of Term (lt x y) x y X (L .0) in
+    let Z = either-of DecimalPosterior (lt x y) x y X (L .0) in
     let h = top-is z l Z (L .1) in
     let t = largestFrom larger z l in
     record {
-      term = h .term;
-      first-below = top-through x z t X Z (h .term) (larger-left x y) (h .first-below);
-      rest-below = (top-through y z t (L .0) Z (h .term) (larger-right x y) (h .first-below), h .rest-below);
+      posterior = h .posterior;
+      first-below = top-through x z t X Z (h .posterior) (larger-left x y) (h .first-below);
+      rest-below = (top-through y z t (L .0) Z (h .posterior) (larger-right x y) (h .first-below), h .rest-below);
       is-one = elim (h .is-one) [ inl e ↦ one-of (lt x y) t e | inr r ↦ inr (inr r) ];
     }
   where
@@ -125,25 +117,19 @@ top-is x (y ∷ l) X L =
 
 -- ---- a sum of chances of which one is at least 1
 
-above-left : {a b : ℕ} (x y : Float) → Above 0 x → UpTo a x → UpTo b y → a + b ≤ 2 ^ 53 → Above 0 (x ⊕ y)
-above-left {a} {b} x y h X Y l =
-    let e = add-either x y (X .within .is-finite) (Y .within .is-finite) in
-    subst (λ (z : Float). Above 0 z) (sym e)
-    (above-add (Y .not-negative) h zero-le (subst (Within (a + b)) e (within-add (X .within) (Y .within) l)))
-
 sum-above : (n : ℕ) (s : Float) (l : List Float) → UpTo n s → Each (UpTo 1) l → n + length l ≤ 2 ^ 53 → Some (Above 0) (s ∷ l)
     → Above 0 (sumFrom s l)
 sum-above n s [] h e m some = elim some [ inl a ↦ a | inr r ↦ absurd r ]
 sum-above n s (x ∷ l) h e m some =
     let both = chance-add h (e .0) (omega arith) in
     sum-above (n + 1) (s ⊕ x) l both (e .1) (omega arith) (elim some [
-      | inl a ↦ inl (above-left s x a h (e .0) (omega arith))
+      | inl a ↦ inl (above-left s x a (e .0 .not-negative) (h .within) (e .0 .within) zero-le (omega arith))
       | inr r ↦ elim r [ inl a ↦ inl (above-add (h .not-negative) a zero-le (both .within)) | inr q ↦ inr q ]
     ])
 
 -- ---- the whole, and the probabilities
 
-module _ (x : Float) (l : List Float) (X : Term x) (L : Each Term l) (few : length l ≤ 36) where
+module _ (x : Float) (l : List Float) (X : DecimalPosterior x) (L : Each DecimalPosterior l) (few : length l ≤ 36) where
   abbrev top : Float
   top = largestFrom larger x l
 
@@ -153,15 +139,15 @@ module _ (x : Float) (l : List Float) (X : Term x) (L : Each Term l) (few : leng
   abbrev powerOf : Float → Float
   powerOf y = pow10Of (y ⊖ top)
 
-  power : (y : Float) → Term y → lt top y ≡ false → UpTo 1 (powerOf y)
+  power : (y : Float) → DecimalPosterior y → lt top y ≡ false → UpTo 1 (powerOf y)
   power y Y h =
-      let t = the-top .term .within in
+      let t = the-top .posterior .within in
       let w = within-sub (Y .within) t (lit≤ tt) in
       pow10-chance (y ⊖ top) w (difference-not-above y top (Y .within .is-finite) (t .is-finite) w h) (lit≤ tt)
 
   power-at-top : (y : Float) → top ≡ y → Above 0 (powerOf y)
   power-at-top y e =
-      let one-is : powerOf top ≡ one = ap pow10Of (less-itself top (the-top .term .within .is-finite)) ∙ pow10-zero false in
+      let one-is : powerOf top ≡ one = ap pow10Of (less-itself top (the-top .posterior .within .is-finite)) ∙ pow10-zero false in
       subst (λ (z : Float). Above 0 (pow10Of (z ⊖ top))) e (subst (λ (z : Float). Above 0 z) (sym one-is) one-above)
 
   abbrev powers : List Float
@@ -170,7 +156,7 @@ module _ (x : Float) (l : List Float) (X : Term x) (L : Each Term l) (few : leng
   each-power : Each (UpTo 1) powers
   each-power =
       each-map (λ y. UpTo 1 (powerOf y)) (UpTo 1) powerOf (λ y c. c) l
-      (each-both Term (λ y. lt top y ≡ false) (λ y. UpTo 1 (powerOf y)) power l L (the-top .rest-below))
+      (each-both DecimalPosterior (λ y. lt top y ≡ false) (λ y. UpTo 1 (powerOf y)) power l L (the-top .rest-below))
 
   abbrev sum : Float
   sum = sumFrom (powerOf x) powers
@@ -195,18 +181,18 @@ module _ (x : Float) (l : List Float) (X : Term x) (L : Each Term l) (few : leng
 
   whole-from : Within (2 ^ 48) (wholeOver larger (x ∷ l))
   unfolding wholeOver
-  whole-from = within-more (within-add (the-top .term .within) log-within (lit≤ tt)) (lit≤ tt)
+  whole-from = within-more (within-add (the-top .posterior .within) log-within (lit≤ tt)) (lit≤ tt)
 
-module _ (l : List Float) (some : 0 < length l) (few : length l ≤ 36) (terms : Each Term l) where
+module _ (l : List Float) (some : 0 < length l) (few : length l ≤ 36) (posteriors : Each DecimalPosterior l) where
   pub whole-within : Within (2 ^ 48) (wholeOver larger l)
-  whole-within = go l some few terms
+  whole-within = go l some few posteriors
     where
-      go : (l : List Float) → 0 < length l → length l ≤ 36 → Each Term l → Within (2 ^ 48) (wholeOver larger l)
+      go : (l : List Float) → 0 < length l → length l ≤ 36 → Each DecimalPosterior l → Within (2 ^ 48) (wholeOver larger l)
       go [] h k t = absurd (not-suc-le-zero h)
       go (x ∷ l) h k t = whole-from x l (t .0) (t .1) (omega arith)
 
   -- the probability of any number beside them
-  pub chance : (y : Float) → Term y → UpTo 1 (pow10Of (lessWhole smaller (wholeOver larger l) y))
+  pub chance : (y : Float) → DecimalPosterior y → UpTo 1 (pow10Of (lessWhole smaller (wholeOver larger l) y))
   chance y Y =
       let s = smaller-zero (y ⊖ wholeOver larger l) (within-sub (Y .within) whole-within (lit≤ tt)) in
       pow10-chance (lessWhole smaller (wholeOver larger l) y) (s .0) (s .1) (lit≤ tt)

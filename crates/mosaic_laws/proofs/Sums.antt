@@ -9,12 +9,7 @@ use borrow.Author.Tests.{eqb-true, eqb-false}
 use lib.Dec.{eqb}
 use lib.Ieee.{Float}
 use Rattle.lists.specs.Over.{over}
-
-last : (n : ℕ) → n < suc n
-last n = omega arith
-
-before : (i n : ℕ) → i < n → i < suc n
-before i n l = omega arith
+use Rattle.lists.proofs.OverLaws.{last, before}
 
 pub over-keeps : {A : Type 0} (R : A → Type 0) (f : ℕ → A → A) (a : A) (n : ℕ) → ((i : ℕ) → i < n → (x : A) → R x → R (f i x)) → R a → R (over f a n)
 over-keeps R f a zero step h = h

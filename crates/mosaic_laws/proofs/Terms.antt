@@ -7,14 +7,14 @@ use native.Mathlib.Omega.{arith}
 use borrow.Author.Tests.{leb-false, lt-leb}
 use lib.IntN.{pos}
 use lib.Dec.{T, leb, lit≤, lit<}
-use lib.Ieee.{Float, nan, inf, fin, binary64, round, neg, mul, lt, le, ofInt, fits}
-use lib.Ieee.Scale.{finite}
+use lib.Ieee.{Float, nan, inf, binary64, round, neg, mul, lt, le, ofInt, fits}
 use lib.Ieee.Fits.{and-l, and-r, round-fits, ofInt-fits, add-fits, sub-fits, mul-fits, div-fits}
-use lib.Ieee.Positive.{num, den, positive, above, above-of-le, between}
+use lib.Ieee.Positive.{num, den, positive, above-of-le, between}
 use Rattle.floats.specs.F64.{_⊕_, _⊖_, _⊗_, _⊘_, nat, ratio, decimal}
 use Rattle.floats.specs.Within.{Within, Above, NotBelow}
 use Rattle.floats.proofs.Bounds.{within-more, within-whole, within-fraction, within-reciprocal, within-add, within-sub, within-mul, within-div, within-neg, above-whole, above-add, above-fraction, positive-not-below}
 use Rattle.floats.proofs.Ranges.{within-range, above-range, not-below-zero}
+pub use Rattle.floats.proofs.Ranges.{above-finite}
 use Rattle.floats.proofs.Fractions.{less, le-fractions, difference-above}
 use Rattle.floats.proofs.Differences.{not-below}
 use Rattle.floats.proofs.Fitting.{fits-above}
@@ -178,12 +178,6 @@ unfolding gainOf
 gain-least p v h = rw h
 
 -- ---- the germline share
-
-pub above-finite : (x : Float) → T (above x) → T (finite x) → T (positive x)
-above-finite nan a f = absurd a
-above-finite (inf s) a f = absurd f
-above-finite (fin true m e) a f = absurd a
-above-finite (fin false m e) a f = a
 
 record Rest (x : Float) : Type 0 where
   pub is-above : Above 7 x
