@@ -12,16 +12,11 @@ use Rattle.qualities.specs.declared.scores.Scores.{Scores}
 use Rattle.picks.specs.Order.{Pick, IsMax, IsMin}
 use Rattle.scores.specs.Scores.{EachScore}
 use Rattle.qualities.specs.Quality.{eachInTens, normalised, gapOf}
+use Rattle.diploid_laws.specs.Sorted.{Order, abc, acb, bac, bca, cab, cba, FromLarge, Told, EachTold}
 use Rattle.diploid_laws.proofs.Signs.{lt-itself, no-trans}
-use Rattle.diploid_laws.proofs.SortedThree.{Order, abc, acb, bac, bca, cab, cba, order-first, order-second, order-last}
-use Rattle.diploid_laws.proofs.SortedThree.{first, order, order-descends, first-is, second-is, TwoOf, Told, EachTold}
+use Rattle.diploid_laws.proofs.SortedThree.{order-first, order-second, order-last}
+use Rattle.diploid_laws.proofs.SortedThree.{first, order, order-descends, first-is, second-is, TwoOf}
 use Rattle.diploid_laws.proofs.Told.{told-normal, normal-numbers-any}
-
--- x, y, z are the three from large to small
-pub record FromLarge (n : Scores) (x y z : Float) : Type 0 where
-  pub is-order : Order (n .homref) (n .het) (n .homalt) x y z
-  pub first-over : lt x y ≡ false
-  pub second-over : lt y z ≡ false
 
 -- ---- from the three to an order of them, and back
 
