@@ -28,5 +28,6 @@ likelihoodOver e counts g vafs =
     cond (seenIn counts i) (less ⊕ nat (countAt counts i) ⊗ lnOf (shareOf counts g vafs i)) less)
     (lnFactorial (e .lnGamma) (totalOf counts))
 
+-- M3: the log likelihood: over all alleles
 unfoldable pub likelihoodOf : Edition → List ℕ → Pair → List Float → Float
 likelihoodOf e counts g vafs = likelihoodOver e counts g vafs (length counts)

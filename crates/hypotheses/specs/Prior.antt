@@ -33,5 +33,6 @@ gainsOver e p counts g vafs = over (λ i s. cond (somaticIn counts g i) (s ⊕ g
 unfoldable pub forGermline : ℕ → Pair → Float
 forGermline a g = cond (alone g) (neg (lnOf (nat a))) (neg (lnOf (nat (a * (a - 1) / 2))))
 
+-- M4: the prior: the gains of all somatic alleles, and then what the germline alleles add
 unfoldable pub priorOf : Edition → Params → List ℕ → Pair → List Float → Float
 priorOf e p counts g vafs = gainsOver e p counts g vafs (length counts) ⊕ forGermline (length counts) g

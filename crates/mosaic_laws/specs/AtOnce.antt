@@ -18,12 +18,12 @@ use Rattle.hypotheses.specs.Likelihood.{shareOf, likelihoodOf}
 use Rattle.hypotheses.specs.Prior.{priorOf}
 use Rattle.models.specs.declared.params.Params.{Params}
 
--- a VAF from 0 on: a finite f64 that is not below zero; −0.0 counts
+-- M3: a VAF from 0 on: a finite f64 that is not below zero; −0.0 counts
 pub record FromZero (v : Float) : Type 0 where
   pub is-f64 : T (fits binary64 v)
   pub not-below : NotBelow v
 
--- every somatic allele has such a VAF
+-- M3: every somatic allele has such a VAF
 abbrev pub VafsFromZero : List ℕ → Pair → List Float → Type 0
 VafsFromZero counts g vafs = (i : ℕ) → i < length counts → somaticIn counts g i ≡ true → FromZero (vafAt vafs i)
 
@@ -31,6 +31,7 @@ VafsFromZero counts g vafs = (i : ℕ) → i < length counts → somaticIn count
 abbrev pub impossible : List ℕ → Pair → List Float → ℕ → Bool
 impossible counts g vafs i = seenIn counts i && eq (shareOf counts g vafs i) (nat 0)
 
+-- M3: some allele is so
 abbrev pub someImpossible : List ℕ → Pair → List Float → Bool
 someImpossible counts g vafs = over (λ i b. b || impossible counts g vafs i) false (length counts)
 
@@ -38,7 +39,7 @@ someImpossible counts g vafs = over (λ i b. b || impossible counts g vafs i) fa
 abbrev pub likelihoodAtOnce : Edition → List ℕ → Pair → List Float → Float
 likelihoodAtOnce e counts g vafs = cond (someImpossible counts g vafs) (inf true) (likelihoodOf e counts g vafs)
 
--- every somatic allele's VAF is an f64, whichever
+-- M4: every somatic allele's VAF is an f64, whichever
 abbrev pub VafsF64 : List ℕ → Pair → List Float → Type 0
 VafsF64 counts g vafs = (i : ℕ) → i < length counts → somaticIn counts g i ≡ true → T (fits binary64 (vafAt vafs i))
 
@@ -46,6 +47,7 @@ VafsF64 counts g vafs = (i : ℕ) → i < length counts → somaticIn counts g i
 abbrev pub fromOne : List ℕ → Pair → List Float → ℕ → Bool
 fromOne counts g vafs i = somaticIn counts g i && le (nat 1) (vafAt vafs i)
 
+-- M4: some allele is so
 abbrev pub someFromOne : List ℕ → Pair → List Float → Bool
 someFromOne counts g vafs = over (λ i b. b || fromOne counts g vafs i) false (length counts)
 

@@ -56,7 +56,7 @@ expectation h c = cond (eqb c (h .low) && eqb c (h .high)) (nat 1) (cond (named 
 unfoldable pub expectationTotal : ℕ → Pair → Float
 expectationTotal n h = sumFrom (nat 0) (map (expectation h) (clusters n))
 
--- the share of its reads that the animal should have in cluster c: its expectation, divided by the sum of all
+-- T2: the share of its reads that the animal should have in cluster c: its expectation, divided by the sum of all
 abbrev pub shareOf : ℕ → Pair → ℕ → Float
 shareOf n h c = expectation h c ⊘ expectationTotal n h
 

@@ -8,27 +8,27 @@ use Rattle.kernels.specs.Ln.{lnOf}
 use Rattle.picks.specs.Order.{Pick}
 use Rattle.tens.specs.Log10.{log10Of, pow10Of}
 
--- as a decimal logarithm
+-- G4, M7: as a decimal logarithm
 abbrev pub inTens : Float → Float
 inTens x = x ⊘ lnOf (nat 10)
 
--- the largest of x and a list, in order
+-- G4, M7: the largest of x and a list, in order
 abbrev pub largestFrom : Pick → Float → List Float → Float
 largestFrom max x [] = x
 largestFrom max x (y ∷ l) = largestFrom max (max x y) l
 
--- log10 of the sum of ten to each, by way of the largest: top + log10 of the sum, in order, of ten to each less top; of none it is
--- minus infinity
+-- G4, M7: log10 of the sum of ten to each, by way of the largest: top + log10 of the sum, in order, of ten to each less top; of none it
+-- is minus infinity
 unfoldable pub wholeOver : Pick → List Float → Float
 wholeOver max [] = inf true
 wholeOver max (x ∷ l) =
     let top = largestFrom max x l in
     top ⊕ log10Of (sumFrom (pow10Of (x ⊖ top)) (map (λ y. pow10Of (y ⊖ top)) l))
 
--- one of them less that, and at most 0
+-- G4, M7: one of them less that, and at most 0
 abbrev pub lessWhole : Pick → Float → Float → Float
 lessWhole min w x = min (x ⊖ w) (nat 0)
 
--- all of them so
+-- G4, M7: all of them so
 abbrev pub normalisedOver : Pick → Pick → List Float → List Float
 normalisedOver max min l = map (lessWhole min (wholeOver max l)) l
