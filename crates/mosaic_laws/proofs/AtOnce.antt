@@ -22,7 +22,7 @@ use Rattle.floats.proofs.Bounds.{within-more, within-whole, within-fraction, wi
 use Rattle.floats.proofs.Bounds.{low-more, low-add, least-finite, least-low, low-least}
 use Rattle.floats.proofs.Differences.{nought, not-below, less-larger}
 use Rattle.floats.proofs.Floats.{eq-zero, eqb-zero, lt-zero}
-use Rattle.floats.proofs.Ranges.{within-range, le-not-lt}
+use Rattle.floats.proofs.Ranges.{within-range, le-not-lt, above-finite}
 use Rattle.floats.proofs.Rounded.{clear, round-clear}
 use Rattle.floats.proofs.Whole.{zero-below, below-is-most}
 use Rattle.kernels.specs.Ln.{lnOf}
@@ -37,7 +37,7 @@ use Rattle.candidates.specs.Shares.{vafAt, massOf, germlineShare}
 use Rattle.hypotheses.specs.Edition.{first}
 use Rattle.hypotheses.specs.Likelihood.{shareOf, likelihoodOf}
 use Rattle.mosaic_laws.specs.AtOnce.{FromZero, VafsFromZero, impossible, someImpossible, likelihoodAtOnce}
-use Rattle.mosaic_laws.proofs.Terms.{either, within-factorial, above-finite, share-ln-within}
+use Rattle.mosaic_laws.proofs.Terms.{either, within-factorial, share-ln-within}
 use Rattle.mosaic_laws.proofs.OneLess.{one-less}
 use Rattle.mosaic_laws.proofs.Sums.{over-keeps, grows, of-eight, sinks, some-at}
 use Rattle.mosaic_laws.proofs.Seen.{seen-some}

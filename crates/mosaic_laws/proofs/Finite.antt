@@ -17,6 +17,7 @@ use lib.Ieee.Positive.{above-of-le}
 use Rattle.floats.specs.F64.{_⊕_, _⊖_, _⊗_, _⊘_, nat, decimal}
 use Rattle.floats.specs.Key.{keyOf}
 use Rattle.floats.specs.Within.{Within}
+use Rattle.floats.proofs.Ranges.{above-finite}
 use Rattle.floats.proofs.Bounds.{within-number, within-more, within-whole, within-fraction, within-add, within-sub, within-mul}
 use Rattle.floats.proofs.Bounds.{within-div, above-whole, above-fraction, positive-not-below, finite-least}
 use Rattle.floats.proofs.KeyOrder.{key-order}
@@ -40,7 +41,7 @@ use Rattle.lists.proofs.OverLaws.{length-placed, at-set}
 use Rattle.mosaic_laws.specs.AtOnce.{VafsFromZero}
 use Rattle.mosaic_laws.specs.Accepted.{Accepted}
 use Rattle.mosaic_laws.proofs.Quotients.{observed-share}
-use Rattle.mosaic_laws.proofs.Terms.{either, within-factorial, highest-within, Vaf, ln-within, one-at, gain-within, above-finite}
+use Rattle.mosaic_laws.proofs.Terms.{either, within-factorial, highest-within, Vaf, ln-within, one-at, gain-within}
 use Rattle.mosaic_laws.proofs.Terms.{share-ln-within}
 use Rattle.mosaic_laws.proofs.Sums.{over-keeps, grows, of-eight}
 use Rattle.mosaic_laws.proofs.PriorAtOnce.{density, germline-within, prior-least}

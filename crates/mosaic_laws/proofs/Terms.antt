@@ -14,7 +14,7 @@ use Rattle.floats.specs.F64.{_⊕_, _⊖_, _⊗_, _⊘_, nat, ratio, decimal}
 use Rattle.floats.specs.Within.{Within, Above, NotBelow}
 use Rattle.floats.proofs.Bounds.{within-more, within-whole, within-fraction, within-reciprocal, within-add, within-sub, within-mul, within-div, within-neg, above-whole, above-add, above-fraction, positive-not-below}
 use Rattle.floats.proofs.Ranges.{within-range, above-range, not-below-zero}
-pub use Rattle.floats.proofs.Ranges.{above-finite}
+use Rattle.floats.proofs.Ranges.{above-finite}
 use Rattle.floats.proofs.Fractions.{less, le-fractions, difference-above}
 use Rattle.floats.proofs.Differences.{not-below}
 use Rattle.floats.proofs.Fitting.{fits-above}

@@ -18,7 +18,7 @@ use Rattle.lists.proofs.PlaceLaws.{number-at, numbers-length, map-at}
 use Rattle.floats.specs.F64.{_⊘_, nat, decimal}
 use Rattle.floats.specs.Within.{Within, Above, NotBelow}
 use Rattle.floats.specs.Under.{Over}
-use Rattle.floats.proofs.Bounds.{within-whole, within-fraction, within-more, within-ratio, above-fraction, positive-not-below}
+use Rattle.floats.proofs.Bounds.{zero-not-below, within-whole, within-fraction, within-more, within-ratio, above-fraction, positive-not-below}
 use Rattle.floats.proofs.Fractions.{le-fractions}
 use Rattle.floats.proofs.Whole.{zero-below}
 use Rattle.floats.proofs.Sums.{Term, AllTerms, Summed, summed-terms}
@@ -63,10 +63,6 @@ at-most-one v p w =
     small n d h = omega arith
 
 -- ---- the shares
-
-zero-not-below : NotBelow (nat 0)
-unfolding ofInt round
-zero-not-below = record { not-below = tt }
 
 used-few : (n : ℕ) → inUse n ≤ 8
 used-few n = go (leb n 8) refl
