@@ -18,7 +18,8 @@ use Rattle.lists.proofs.PlaceLaws.{number-at, numbers-length, map-at}
 use Rattle.floats.specs.F64.{_⊘_, nat, decimal}
 use Rattle.floats.specs.Within.{Within, Above, NotBelow}
 use Rattle.floats.specs.Under.{Over}
-use Rattle.floats.proofs.Bounds.{zero-not-below, within-whole, within-fraction, within-more, within-ratio, above-fraction, positive-not-below}
+use Rattle.floats.proofs.Bounds.{zero-not-below, within-whole, within-fraction, within-more}
+use Rattle.floats.proofs.Bounds.{within-ratio, above-fraction, positive-not-below}
 use Rattle.floats.proofs.Fractions.{le-fractions}
 use Rattle.floats.proofs.Whole.{zero-below}
 use Rattle.floats.proofs.Sums.{Term, AllTerms, Summed, summed-terms}
