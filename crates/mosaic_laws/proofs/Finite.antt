@@ -72,10 +72,6 @@ module _ (p : Params) (counts : List ℕ) (ok : Accepted p counts) (g : Pair) (b
   abbrev Tryable : List Float → Type 0
   Tryable l = (i : ℕ) → i < n → somaticIn counts g i ≡ true → Vaf (vafAt l i)
 
-  -- so what is tried is finite and from 0 on, and M3 may be answered at once (`likelihood-at-once`, AtOnce.antt)
-  pub tried-from-zero : (l : List Float) → Tryable l → VafsFromZero counts g l
-  tried-from-zero l h i m s = let v = h i m s in record { is-f64 = v .is-f64; not-below = positive-not-below (vafAt l i) (v .above-zero) }
-
   abbrev Low1 : List Float → Type 0
   Low1 l = (i : ℕ) → i < n → somaticIn counts g i ≡ true → lt (vafAt l i) (nat 1) ≡ true
 
@@ -343,3 +339,9 @@ module _ (p : Params) (counts : List ℕ) (ok : Accepted p counts) (g : Pair) (b
           let k : Kept (searchedAll first p counts g) = unfold searchedAll in (gone n (omega arith) .kept) in
           (k .tryable i l s, k .low i l s)
       go false e = (start-tryable i l s, start-low i l s)
+
+  -- so they are finite and from 0 on, as `likelihood-at-once` asks (AtOnce.antt)
+  pub found-from-zero : VafsFromZero counts g (foundOf first p counts g .vafs)
+  found-from-zero i l s =
+      let v = found-vafs i l s .0 in
+      record { is-f64 = v .is-f64; not-below = positive-not-below (vafAt (foundOf first p counts g .vafs) i) (v .above-zero) }
