@@ -4,3 +4,4 @@ pub mod Apart
 pub mod Key
 pub mod Within
 pub mod Under
+pub mod Tiny
