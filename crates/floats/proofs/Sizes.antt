@@ -14,7 +14,7 @@ use lib.Ieee.Fits.{down-pos}
 use lib.Ieee.Exact.{HasValue}
 use lib.Ieee.Order.{round-mono}
 use lib.Ieee.Scale.{finite, grid, round-val, round-under}
-use lib.Ieee.Positive.{num, den, den-pos, positive, first-pos}
+use lib.Ieee.Positive.{num, den, den-pos, positive, above, above-of-le, first-pos}
 use Rattle.floats.specs.F64.{_⊕_, _⊖_, _⊗_}
 use Rattle.floats.specs.Within.{Within}
 use Rattle.floats.specs.Under.{Under, Over}
@@ -227,3 +227,50 @@ over-add {a} {b} {j} {x = fin s m e} {y = fin false q d} h k n g N l J t =
         (le-trans (le-of-eq (sym (add-mul a n (d * f))))
         (le-trans (mul-le-mul-right (d * f) g)
         (le-trans (le-of-eq (ap (λ (z : ℕ). b * z) (mul-comm d f) ∙ sym (mul-assoc b f d))) (le-trans (mul-le-mul-right d k) (le-of-eq (mul-right-comm q (2 ^ j) d))))))
+
+-- the sum of two that are above zero
+pub over-plus : {a b j : ℕ} {x y : Float} → Over a j x → Over b j y → 0 < a + b → a + b < 2 ^ 53 → j ≤ 1074 → T (finite (x ⊕ y))
+    → Over (a + b) j (x ⊕ y)
+unfolding add sum
+over-plus {x = nan} {y} h k z l J t = absurd (h .is-positive)
+over-plus {x = inf s} {y} h k z l J t = absurd (h .is-positive)
+over-plus {x = fin true m e} {y} h k z l J t = absurd (h .is-positive)
+over-plus {x = fin false m e} {y = nan} h k z l J t = absurd (k .is-positive)
+over-plus {x = fin false m e} {y = inf s} h k z l J t = absurd (k .is-positive)
+over-plus {x = fin false m e} {y = fin true q d} h k z l J t = absurd (k .is-positive)
+over-plus {a} {b} {j} {x = fin false m e} {y = fin false q d} h k z l J t =
+    round-over (m * up e * down d + q * up d * down e) (down e * down d) (a + b) j (mul-pos (down-pos e) (down-pos d)) z l J
+    (both (m * up e) (q * up d) (down e) (down d) (2 ^ j) (h .large) (k .large)) t
+  where
+    both : (p q d f z : ℕ) → a * d ≤ p * z → b * f ≤ q * z → (a + b) * (d * f) ≤ (p * f + q * d) * z
+    both p q d f z h k = omega (arith, mul-le-mul-right f h, mul-le-mul-right d k)
+
+-- ---- the product of two that are above zero is so, where the product of their lower ends rounds to more than zero
+
+above-positive : (x : Float) → T (above x) → T (finite x) → T (positive x)
+above-positive nan a f = absurd f
+above-positive (inf s) a f = absurd f
+above-positive (fin true m e) a f = absurd a
+above-positive (fin false m e) a f = a
+
+pub mul-positive : {a i b j : ℕ} {x y : Float} → Over a i x → Over b j y → T (positive (round binary64 false (a * b) (2 ^ (i + j))))
+    → T (finite (x ⊗ y)) → T (positive (x ⊗ y))
+unfolding mul
+mul-positive {x = nan} {y} h k p t = absurd (h .is-positive)
+mul-positive {x = inf s} {y} h k p t = absurd (h .is-positive)
+mul-positive {x = fin true m e} {y} h k p t = absurd (h .is-positive)
+mul-positive {x = fin false m e} {y = nan} h k p t = absurd (k .is-positive)
+mul-positive {x = fin false m e} {y = inf s} h k p t = absurd (k .is-positive)
+mul-positive {x = fin false m e} {y = fin true n d} h k p t = absurd (k .is-positive)
+mul-positive {a} {i} {b} {j} {x = fin false m e} {y = fin false n d} h k p t =
+    let low = round binary64 false (a * b) (2 ^ (i + j)) in
+    let u = m * up e * (n * up d) in
+    let c = down e * down d in
+    let l : a * b * c ≤ u * 2 ^ (i + j) =
+    le-trans (le-of-eq (mul-mul-mul-comm a b (down e) (down d)))
+    (le-trans (mul-le-mul (h .large) (k .large)) (le-of-eq (sym (powers (m * up e) (n * up d))))) in
+    let g = round-mono binary64 (a * b) (2 ^ (i + j)) u c (pow-pos (i + j)) (mul-pos (down-pos e) (down-pos d)) l in
+    above-positive (round binary64 false u c) (above-of-le low (round binary64 false u c) p g) t
+  where
+    powers : (p q : ℕ) → p * q * 2 ^ (i + j) ≡ p * 2 ^ i * (q * 2 ^ j)
+    powers p q = rw (pow-add 2 i j) (mul-mul-mul-comm p q (2 ^ i) (2 ^ j))

@@ -2,7 +2,7 @@
 use Prim.Native.Nat.{ℕ, zero, suc, _*_}
 use mathlib.Core.Bool.{false, cond}
 use mathlib.Core.List.{List, [], _∷_}
-use lib.IntN.{ℤ, pos, negℤ}
+use lib.IntN.{ℤ, pos, negℤ, _+ℤ_}
 use lib.Ieee.{Float, nan, inf, fin, up, down, lt, isNan}
 use lib.Ieee.Nearest.{closest}
 use Rattle.floats.specs.F64.{_⊖_, _⊗_, whole, nat, decimal, reciprocals, horner}
@@ -28,14 +28,26 @@ factorials (suc n) = factorial (suc n) ∷ factorials n
 unfoldable pub expSeries : Float → Float
 expSeries r = horner r (reciprocals (factorials 13))
 
--- the series at r = (x − k·hi) − k·lo, times 2^k
-unfoldable pub expParts : ℤ → Float → Float
-expParts k x = expSeries (x ⊖ whole k ⊗ hi ⊖ whole k ⊗ lo) ⊗ fin false 1 k
+-- the series at r = (x − n·hi) − n·lo
+unfoldable pub expReduced : Float → Float → Float
+expReduced n x = expSeries (x ⊖ n ⊗ hi ⊖ n ⊗ lo)
 
--- a NaN for a NaN, 0 under −708, plus infinity over 709; between them k is nearest to x·1.4426950408889634
+-- from −708 on: that times 2^k
+unfoldable pub expParts : ℤ → Float → Float
+expParts k x = expReduced (whole k) x ⊗ fin false 1 k
+
+-- under −708: that times 2^(k + 54), and this times 2^−54, which rounds into the subnormal numbers
+unfoldable pub expDeep : ℤ → Float → Float
+expDeep k x = expReduced (whole k) x ⊗ fin false 1 (k +ℤ pos 54) ⊗ fin false 1 (negℤ (pos 54))
+
+-- from −745 to 709, by the k that is nearest to x·1.4426950408889634
+unfoldable pub expBetween : ℤ → Float → Float
+expBetween k x = cond (lt x (whole (negℤ (pos 708)))) (expDeep k x) (expParts k x)
+
+-- a NaN for a NaN, 0 under −745, plus infinity over 709
 unfoldable pub expOf : Float → Float
 expOf x =
     cond (isNan x) nan
-    (cond (lt x (whole (negℤ (pos 708)))) (nat 0)
+    (cond (lt x (whole (negℤ (pos 745)))) (nat 0)
     (cond (lt (nat 709) x) (inf false)
-    (expParts (nearestWhole (x ⊗ decimal 14426950408889634 16)) x)))
+    (expBetween (nearestWhole (x ⊗ decimal 14426950408889634 16)) x)))

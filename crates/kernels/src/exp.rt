@@ -4,13 +4,16 @@ ghost use mathlib.Core.Bool.{false};
 ghost use lib.Ieee.{fin};
 ghost use Rattle.floats.specs.F64.{whole};
 ghost use Rattle.floats.specs.Within.{Within};
-ghost use Rattle.kernels.specs.Exp.{nearestWhole, expSeries, expParts, expOf};
-ghost use Rattle.kernels.specs.Inner.{Normal};
+ghost use Rattle.kernels.specs.Exp.{nearestWhole, expSeries, expReduced, expParts, expDeep, expOf};
+ghost use Rattle.kernels.specs.Inner.{Normal, Deep};
 use crate::ln::HI;
 use crate::ln::LO;
 
 // 1.5·2^52.
 const SHIFT: f64 = 6755399441055744.0;
+
+// 2^-54.
+const DOWN: f64 = 5.551115123125783e-17;
 
 // The whole number nearest to y, at a tie the even one. Between 2^52 and 2^53 the floats are the whole numbers, so that the sum
 // is rounded to one of them.
@@ -49,13 +52,29 @@ fn exp_series(r: f64) -> f64
     p * r + 1.0
 }
 
+// e^(x - n ln 2), for an n that makes it near 1.
+fn exp_reduced(n: f64, x: f64) -> f64
+    ensures { λ r. ⌜ r ≡ expReduced n x ⌝ }
+{
+    exp_series(x - n * HI - n * LO)
+}
+
 // 2^k e^(x - k ln 2). The caller has k as a float too.
 fn exp_parts(k: i32, n: f64, x: f64) -> f64
     requires { ⌜ Normal k ⌝ }
     requires { ⌜ n ≡ whole k ⌝ }
     ensures { λ r. ⌜ r ≡ expParts k x ⌝ }
 {
-    exp_series(x - n * HI - n * LO) * power(k)
+    exp_reduced(n, x) * power(k)
+}
+
+// The same by way of 2^(k + 54), since 2^k may be too small for a normal f64. The last product alone is rounded.
+fn exp_deep(k: i32, n: f64, x: f64) -> f64
+    requires { ⌜ Deep k ⌝ }
+    requires { ⌜ n ≡ whole k ⌝ }
+    ensures { λ r. ⌜ r ≡ expDeep k x ⌝ }
+{
+    exp_reduced(n, x) * power(k + 54) * DOWN
 }
 
 // e^x, at every x.
@@ -65,12 +84,16 @@ pub fn exp(x: f64) -> f64
     if x != x {
         return x;
     }
-    if x < -708.0 {
+    if x < -745.0 {
         return 0.0;
     }
     if x > 709.0 {
         return 1.0 / 0.0;
     }
     let n = nearest_whole(x * 1.4426950408889634);
-    exp_parts(n as i32, n, x)
+    let k = n as i32;
+    if x < -708.0 {
+        return exp_deep(k, n, x);
+    }
+    exp_parts(k, n, x)
 }
