@@ -1,5 +1,5 @@
 -- exp x is at most 1 for every x of at most 0, minus infinity and −0.0 among them: `exp-at-most-one`. Where k is 0 the last step of the
--- series adds to 1 what is not above 0, and rounding does not pass 1; where k is below 0 the series is at most 7/4, and 2^k at most 1/2.
+-- series adds to 1 what is not above 0, and rounding does not pass 1; where k is below 0 the series is at most 3/2, and 2^k at most 1/2.
 -- Assumes nothing.
 use mathlib.Core.Path.{_≡_, refl, sym, ap, _∙_, subst}
 use mathlib.Core.Bool.{Bool, true, false, cond, true≢false}
@@ -22,11 +22,12 @@ use Rattle.floats.proofs.Differences.{nought, zero-is, less-larger}
 use Rattle.floats.proofs.Lows.{zero-or-negative, times-low}
 use Rattle.floats.proofs.Bounds.{within-whole, within-mul}
 use Rattle.floats.proofs.Sizes.{under-more, under-within, under-mul}
-use Rattle.kernels.specs.Exp.{expSeries, expParts, expOf}
+use Rattle.kernels.specs.Exp.{expSeries, expReduced, expParts, expOf}
 use Rattle.kernels.specs.Ln.{hi, lo}
 use Rattle.bounds.proofs.LnSigns.{nothing-hi, nothing-lo}
-use Rattle.bounds.proofs.ExpBounds.{last, nextToLast, next-under, next-over, series-by, series-bounds, AtMost, kOf, argument-under}
-use Rattle.bounds.proofs.ExpBounds.{least, most, by-tests, k-at-most, not-most, not-both, exp-end}
+use Rattle.bounds.proofs.ExpSeries.{last, nextToLast, next-under, next-over, series-by, series-under}
+use Rattle.bounds.proofs.ExpTimes.{AtMost}
+use Rattle.bounds.proofs.ExpBounds.{kOf, argument-under, least, most, by-tests, k-at-most, not-most, not-both, exp-end}
 
 -- ---- 1 and what is not above 0
 
@@ -60,7 +61,7 @@ one-is : ratio 1 1 ≡ fin false 1 (pos 0)
 unfolding round
 one-is = refl
 
-series-low : (r : Float) → Under 1 1 r → T (le r nought) → Within 1 (expSeries r)
+series-low : (r : Float) → Under 3 3 r → T (le r nought) → Within 1 (expSeries r)
 series-low r small h = series-by r small (Within 1) at
   where
     at : (p : Float) → Under 1 0 p → Within 1 (last r small p)
@@ -107,26 +108,26 @@ abbrev argumentAt : ℤ → Float → Float
 argumentAt k x = x ⊖ whole k ⊗ hi ⊖ whole k ⊗ lo
 
 -- at k = 0
-first-low : (x : Float) → T (finite x) → T (le x nought) → Under 1 1 (argumentAt (pos 0) x)
+first-low : (x : Float) → T (finite x) → T (le x nought) → Under 3 3 (argumentAt (pos 0) x)
     → Within 1 (expSeries (argumentAt (pos 0) x) ⊗ fin false 1 (pos 0))
 first-low x f h small =
     let same : argumentAt (pos 0) x ≡ x ⊖ nought ⊖ nought = rw (nothing-hi, nothing-lo, zero-is) refl in
-    let r : Under 1 1 (x ⊖ nought ⊖ nought) = subst (Under 1 1) same small in
+    let r : Under 3 3 (x ⊖ nought ⊖ nought) = subst (Under 3 3) same small in
     let low = series-low (x ⊖ nought ⊖ nought) r (argument-low x f h (r .is-finite)) in
     let y = subst (λ (r : Float). Within 1 (expSeries r)) (sym same) low in
     within-mul {b = 1} y (record { is-finite = tt; small = lit≤ tt }) (lit≤ tt)
 
 middle-low : (x : Float) → isNan x ≡ false → T (le x nought) → lt x least ≡ false → lt most x ≡ false → Within 1 (expParts (kOf x) x)
-unfolding expParts
+unfolding expParts expReduced
 middle-low x n h a b = go (kOf x) (argument-under x n a b) (k-at-most 0 zero-le x (subst (λ (z : Float). T (le x z)) (sym no-halves) h) a)
   where
-    go : (k : ℤ) → Under 1 1 (argumentAt k x) → AtMost 0 k → Within 1 (expSeries (argumentAt k x) ⊗ fin false 1 k)
+    go : (k : ℤ) → Under 3 3 (argumentAt k x) → AtMost 0 k → Within 1 (expSeries (argumentAt k x) ⊗ fin false 1 k)
     go (negsuc j) small l =
-        under-within (under-mul (series-bounds (argumentAt (negsuc j) x) small .0) (half-power j) (lit< tt) (lit≤ tt)) 1 (lit≤ tt)
+        under-within (under-mul (series-under (argumentAt (negsuc j) x) small) (half-power j) (lit< tt) (lit≤ tt)) 1 (lit≤ tt)
     go (pos (suc j)) small l = absurd (not-suc-le-zero l)
     go (pos zero) small l = first-low x (finite-between x n h a) h small
 
--- ---- at every x of at most 0; below −708 the result is by itself
+-- ---- at every x of at most 0; below −745 the result is 0
 
 pub exp-at-most-one : (x : Float) → T (le x (nat 0)) → Within 1 (expOf x) × NotBelow (expOf x)
 exp-at-most-one x h =

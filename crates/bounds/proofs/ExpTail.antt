@@ -1,0 +1,97 @@
+-- The lower end of `expOf`: from −708 on it is what it was while that end was −708, below it is from 0 to 2^−1020, and both are a `Tail`.
+-- Assumes nothing.
+use mathlib.Core.Path.{_≡_, refl, sym}
+use mathlib.Core.Bool.{Bool, true, false, cond, true≢false}
+use Prim.Native.Nat.{ℕ, suc, _*_, _^_, _≤_}
+use native.Mathlib.Omega.{arith}
+use borrow.Author.Tests.{ltb-false, le-ltb}
+use lib.IntN.{ℤ, pos, negsuc, negℤ}
+use lib.Dec.{T, lit≤, lit<}
+use lib.Pow.{pow-mono}
+use lib.Ieee.{Float, nan, inf, fin, binary64, up, down, lt, isNan, ofInt, fits}
+use lib.Ieee.Fits.{cond-fits, nan-fits, inf-fits, ofInt-fits, mul-fits}
+use Rattle.floats.specs.F64.{_⊗_, whole, nat}
+use Rattle.floats.specs.Under.{Under}
+use Rattle.floats.specs.Tiny.{Tiny}
+use Rattle.floats.proofs.Bounds.{positive-not-below, zero-not-below}
+use Rattle.floats.proofs.Sizes.{under-more, under-mul}
+use Rattle.kernels.specs.Exp.{expReduced, expParts, expBetween, expOf}
+use Rattle.kernels.specs.Inner.{Deep}
+use Rattle.kernels.proofs.ExpSteps.{exponent-deep}
+use Rattle.bounds.specs.Tail.{Tail, expFlushed}
+use Rattle.bounds.proofs.ExpBounds.{kOf, least, deep, most, y-under, parts-positive, by-tests, not-both, exp-fits, lt-number}
+
+-- ---- from −708 on, a NaN and plus infinity among it, nothing changed
+
+not-least : (x : Float) → lt x deep ≡ false → lt x least ≡ false
+unfolding lt ofInt
+not-least nan h = refl
+not-least (inf true) h = absurd (true≢false h)
+not-least (inf false) h = refl
+not-least (fin false m e) h = refl
+not-least (fin true m e) h = le-ltb (745 * down e) (m * up e * 1) (omega (arith, ltb-false (708 * down e) (m * up e * 1) h))
+
+pub exp-unchanged : (x : Float) → lt x (whole (negℤ (pos 708))) ≡ false → expOf x ≡ expFlushed x
+unfolding expOf expBetween expFlushed
+exp-unchanged x h = rw (not-least x h, h)
+
+-- ---- below −708: 0, or a series of at most 3/2 times a 2^k of at most 2^−1021
+
+deep-power : (k : ℤ) → Deep k → Under 1 1021 (fin false 1 k)
+deep-power (pos a) d = absurd d
+deep-power (negsuc a) d =
+    let few : 1021 ≤ suc a = omega (arith, d .0) in
+    record { is-finite = tt; small = ones (2 ^ 1021) (2 ^ suc a) (pow-mono few) }
+  where
+    ones : (y z : ℕ) → y ≤ z → 1 * 1 * y ≤ 1 * z
+    ones y z h = omega arith
+
+not-above : (x : Float) → lt x deep ≡ true → lt most x ≡ false
+unfolding lt ofInt
+not-above nan h = refl
+not-above (inf true) h = refl
+not-above (inf false) h = absurd (true≢false (sym h))
+not-above (fin true m e) h = refl
+not-above (fin false m e) h = absurd (true≢false (sym h))
+
+zero-tiny : (j : ℕ) → Tiny j (nat 0)
+unfolding ofInt
+zero-tiny j = record { not-negative = zero-not-below; small = record { is-finite = tt; small = omega arith } }
+
+pub exp-tiny : (x : Float) → lt x (whole (negℤ (pos 708))) ≡ true → Tiny 1020 (expOf x)
+exp-tiny x d =
+    let n = lt-number x deep d .0 in
+    by-tests (Tiny 1020) x n (λ _. zero-tiny 1020) (λ t. absurd (not-both t (not-above x d))) (tail n)
+  where
+    tail : isNan x ≡ false → lt x least ≡ false → lt most x ≡ false → Tiny 1020 (expParts (kOf x) x)
+    tail n h k = record {
+      not-negative = positive-not-below (expParts (kOf x) x) (parts-positive x n h k);
+      small = unfold expParts expReduced in
+          under-more (under-mul (y-under x n h k) (deep-power (kOf x) (exponent-deep x h d)) (lit< tt) (lit≤ tt)) 1 1020 (lit≤ tt);
+    }
+
+tiny-more : {x : Float} → Tiny 1020 x → Tiny 1000 x
+tiny-more t = record { not-negative = t .not-negative; small = under-more (t .small) 1 1000 (lit≤ tt) }
+
+pub exp-is-tail : Tail expOf
+exp-is-tail = record { is-f64 = exp-fits; from-708 = λ x h. refl; below-708 = λ x h. tiny-more (exp-tiny x h) }
+
+flushed-fits : (x : Float) → T (fits binary64 (expFlushed x))
+unfolding expFlushed expParts
+flushed-fits x =
+    let y = expReduced (whole (kOf x)) x in
+    let between = mul-fits binary64 y (fin false 1 (kOf x)) in
+    cond-fits binary64 (isNan x) nan _ (nan-fits binary64)
+    (cond-fits binary64 (lt x deep) (nat 0) _ (ofInt-fits binary64 (pos 0))
+    (cond-fits binary64 (lt most x) (inf false) _ (inf-fits binary64 false) between))
+
+flushed-below : (x : Float) → lt x deep ≡ true → expFlushed x ≡ nat 0
+unfolding expFlushed
+flushed-below x h = rw (lt-number x deep h .0, h)
+
+pub flushed-is-tail : Tail expFlushed
+flushed-is-tail = record {
+  is-f64 = flushed-fits;
+  from-708 = λ x h. sym (exp-unchanged x h);
+  below-708 = λ x h. rw (flushed-below x h) (zero-tiny 1000);
+}
