@@ -11,7 +11,7 @@ use Rattle.floats.specs.Apart.{exponent, significand}
 use Rattle.floats.specs.Key.{keyOf}
 use Rattle.floats.proofs.Zeros.{zeroOf}
 use Rattle.kernels.specs.Ln.{lnNearOne, lnParts, lnReduced, lnPositive, lnOf}
-use Rattle.kernels.specs.Exp.{expOf, expParts, expSeries}
+use Rattle.kernels.specs.Exp.{expOf, expBetween, expParts, expReduced, expSeries}
 use Rattle.gammas.specs.Gamma.{raised, gammaSeries, lnGammaAt, lnGammaOf}
 use Rattle.binomials.specs.Binomial.{lnChoose, lnPmfBy}
 use Rattle.tens.specs.Log10.{log10Of, pow10Of}
@@ -41,9 +41,9 @@ unfolding scoresBy binoScore lnPmfBy lnChoose lnGammaOf lnGammaAt gammaSeries ra
 near-won = ref-wins (record { lt = tt }) (record { lt = tt })
 
 pub near-gq : qualsOf larger smaller scores .gq ≡ zeroOf true
-unfolding qualsOf gapOf normalised wholeOf wholeOver eachInTens pow10Of log10Of expOf expParts expSeries scoresBy binoScore lnPmfBy
-    lnChoose lnGammaOf lnGammaAt gammaSeries raised lnOf lnPositive lnReduced lnParts lnNearOne exponent significand size neg sum add sub
-    mul div round lt le isNan ofInt ofBits
+unfolding qualsOf gapOf normalised wholeOf wholeOver eachInTens pow10Of log10Of expOf expBetween expParts expReduced expSeries scoresBy
+    binoScore lnPmfBy lnChoose lnGammaOf lnGammaAt gammaSeries raised lnOf lnPositive lnReduced lnParts lnNearOne exponent significand size
+    neg sum add sub mul div round lt le isNan ofInt ofBits
 near-gq = refl
 
 -- so the answer, without a table, is Ref with a gq of −0.0
