@@ -4,6 +4,7 @@ use mathlib.Core.Bool.{Bool, false, cond, _||_}
 use mathlib.Core.List.{List, [], _∷_}
 use lib.Dec.{leb, ltb, eqb}
 use lib.ListN.{length, replicate}
+use lib.Ieee.{Float}
 use Rattle.floats.specs.F64.{nat}
 use Rattle.refusals.specs.declared.Refusal.{Refusal}
 use Rattle.refusals.specs.declared.Refusal.the-variants.{Done, TooMany, Count, Model, NoCall}
@@ -52,23 +53,25 @@ flagsOver counts g = placed (replicate 8 false) (somaticIn counts g)
 unfoldable pub flagsOf : List ℕ → Pair → List Bool
 flagsOf counts g = flagsOver counts g (length counts)
 
--- what is read off the hypothesis that wins, by a max and a min
+-- what is read off the hypothesis that wins, beside the probabilities
+abbrev pub answerFrom : Pick → List ℕ → Choice → List Float → MosaicResult
+answerFrom min counts choice probs = record {
+  refusal = Done;
+  ploidy = ploidyOf (choice .pair);
+  germline = germlineOf (choice .pair);
+  somatic = flagsOf counts (choice .pair);
+  vafs = choice .vafs;
+  seen = length (seenAlleles counts);
+  observed = padded 8 0 (seenAlleles counts);
+  posterior = choice .posterior;
+  quality = qualityOf min probs (choice .count) (choice .best);
+  hypotheses = choice .count;
+  probabilities = probs;
+}
+
+-- with those that M7 gives, by a max and a min
 abbrev pub answerOf : Pick → Pick → List ℕ → Choice → MosaicResult
-answerOf max min counts choice =
-    let probs = probabilities max min (choice .posteriors) (choice .count) in
-    record {
-      refusal = Done;
-      ploidy = ploidyOf (choice .pair);
-      germline = germlineOf (choice .pair);
-      somatic = flagsOf counts (choice .pair);
-      vafs = choice .vafs;
-      seen = length (seenAlleles counts);
-      observed = padded 8 0 (seenAlleles counts);
-      posterior = choice .posterior;
-      quality = qualityOf min probs (choice .count) (choice .best);
-      hypotheses = choice .count;
-      probabilities = probs;
-    }
+answerOf max min counts choice = answerFrom min counts choice (probabilities max min (choice .posteriors) (choice .count))
 
 unfoldable pub calledOf : Pick → Pick → Edition → Params → List ℕ → MosaicResult
 calledOf max min e p counts = answerOf max min counts (chosen e p counts)
