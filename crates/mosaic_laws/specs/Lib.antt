@@ -4,3 +4,4 @@ pub mod Largest
 pub mod AtOnce
 pub mod Folded
 pub mod Answers
+pub mod Tails

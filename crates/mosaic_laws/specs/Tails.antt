@@ -1,0 +1,74 @@
+-- The answer of mosaic with the exponential as an argument, for the law on what K4 says below −708: which fields it changes and which not.
+-- At `expOf` these are the rules' own definitions: `mosaic-by-exp` (proofs/AnyTail.antt). Definitions only (RULES.md, M7, M8, O1, R11).
+use Prim.Native.Nat.{ℕ, _≤_, _<_}
+use mathlib.Core.Path.{_≡_}
+use mathlib.Core.Bool.{cond, _||_}
+use mathlib.Core.List.{List, map}
+use lib.Dec.{leb, ltb, eqb}
+use lib.ListN.{length, getD}
+use lib.Ieee.{Float, nan}
+use Rattle.floats.specs.F64.{nat}
+use Rattle.floats.specs.Tiny.{SameOrTiny}
+use Rattle.bounds.specs.Tail.{tenBy}
+use Rattle.tens.specs.Normalised.{lessWhole}
+use Rattle.diploid_laws.specs.Tails.{wholeBy}
+use Rattle.refusals.specs.declared.Refusal.the-variants.{TooMany, Count, Model, NoCall}
+use Rattle.limits.specs.Limits.{countsAllowed}
+use Rattle.models.specs.declared.params.Params.{Params}
+use Rattle.picks.specs.Order.{smaller}
+use Rattle.lists.specs.Lists.{padded}
+use Rattle.probabilities.specs.Quality.{inUse, tensOf}
+use Rattle.alleles.specs.Alleles.{totalOf}
+use Rattle.hypotheses.specs.Edition.{first}
+use Rattle.hypotheses.specs.Choice.{chosen}
+use Rattle.mosaic.specs.Allowed.{paramsAllowed}
+use Rattle.mosaic.specs.Genotype.{blank, answerFrom}
+use Rattle.mosaic.specs.declared.genotype.MosaicResult.{MosaicResult}
+
+-- M7: the first n posteriors normalised, and ten to each
+unfoldable pub probabilitiesWith : (Float → Float) → List Float → ℕ → List Float
+probabilitiesWith e l n =
+    let tens = tensOf l (inUse n) in
+    padded 36 (nat 0) (map (tenBy e) (map (lessWhole smaller (wholeBy e tens)) tens))
+
+-- M8: what is read off the hypothesis that wins
+abbrev pub calledWith : (Float → Float) → Params → List ℕ → MosaicResult
+calledWith e p counts =
+    let choice = chosen first p counts in
+    answerFrom smaller counts choice (probabilitiesWith e (choice .posteriors) (choice .count))
+
+-- O1, R11: the refusals, in their order
+abbrev pub genotypeWith : (Float → Float) → Params → List ℕ → MosaicResult
+genotypeWith e p counts =
+    cond (leb (length counts) 8)
+    (cond (paramsAllowed p)
+    (cond (countsAllowed counts)
+    (cond (ltb (totalOf counts) (p .depth) || eqb (totalOf counts) 0) (blank NoCall) (calledWith e p counts))
+    (blank Count))
+    (blank Model))
+    (blank TooMany)
+
+-- M8: an answer with its quality and its probabilities left out
+abbrev pub withoutChances : MosaicResult → MosaicResult
+withoutChances a = record {
+  refusal = a .refusal;
+  ploidy = a .ploidy;
+  germline = a .germline;
+  somatic = a .somatic;
+  vafs = a .vafs;
+  seen = a .seen;
+  observed = a .observed;
+  posterior = a .posterior;
+  quality = blank (a .refusal) .quality;
+  hypotheses = a .hypotheses;
+  probabilities = blank (a .refusal) .probabilities;
+}
+
+-- M7, M8: two answers that differ in tiny probabilities alone, as far as it is proved
+pub record SameButTiny (a b : MosaicResult) : Type 0 where
+  -- every other field is the same, whatever was read
+  pub same-call : withoutChances a ≡ withoutChances b
+  -- so is the quality, with up to four seen alleles
+  pub same-quality : b .seen ≤ 4 → a .quality ≡ b .quality
+  -- and with up to five each probability is the same, or both are from 0 to 2^−1000
+  pub same-or-tiny : b .seen ≤ 5 → (i : ℕ) → i < 36 → SameOrTiny 1000 (getD (a .probabilities) i nan) (getD (b .probabilities) i nan)
