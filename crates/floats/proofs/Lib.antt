@@ -21,3 +21,4 @@ pub mod Quotients
 pub mod ZeroDifference
 pub mod Monotone
 pub mod Sums
+pub mod Absorbed
