@@ -90,7 +90,7 @@ pub below-through : (x y z : Float) → NotBelow x → NotBelow y → NotBelow z
 below-through x y z X Y Z h k =
     lt-fractions x z X Z ∙ lt-ltb (num x * den z) (num z * den x) (through (num x) (num y) (num z) (den x) (den y) (den z) (den-pos z) (less x y X Y h) (most y z Y Z k))
 
-some-positive : (y : Float) → NotBelow y → 0 < num y → T (positive y)
+pub some-positive : (y : Float) → NotBelow y → 0 < num y → T (positive y)
 some-positive nan Y h = absurd (Y .not-below)
 some-positive (inf s) Y h = absurd (Y .not-below)
 some-positive (fin false m e) Y h = lt→ltb 0 m (first-pos m (up e) h)

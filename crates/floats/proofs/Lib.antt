@@ -22,3 +22,4 @@ pub mod ZeroDifference
 pub mod Monotone
 pub mod Sums
 pub mod Absorbed
+pub mod TinySums
