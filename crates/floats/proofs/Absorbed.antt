@@ -119,9 +119,9 @@ fits-in-units (fin false m e) p f =
 -- ---- the sum
 
 -- over one denominator d: p / d fits, and b / d is at most 2 ^ -54 of it
-beside : (p b d U q : ℕ) → 0 < d → p * 2 ^ 1074 ≡ U * d → U ≡ q * 2 ^ dropped U → b * 2 ^ 54 ≤ p
+rounds-alike : (p b d U q : ℕ) → 0 < d → p * 2 ^ 1074 ≡ U * d → U ≡ q * 2 ^ dropped U → b * 2 ^ 54 ≤ p
     → round binary64 false (b + p) d ≡ round binary64 false p d
-beside p b d U q D e held h =
+rounds-alike p b d U q D e held h =
     rounds-to U d q (b * 2 ^ 1074) D held (half (2 ^ 53) (2 ^ dropped U) (2 ^ 1074) h e under) (b + p) (more (2 ^ 1074) e)
     ∙ sym (rounds-to U d q 0 D held (mul-pos D (pow-pos (dropped U))) p (e ∙ nothing (U * d)))
   where
@@ -147,7 +147,7 @@ absorbed u a p f A h =
     let small : num a * den u * 2 ^ 54 ≤ num u * den a = le-trans (le-of-eq (mul-right-comm (num a) (den u) (2 ^ 54))) h in
     let left : a ⊕ u ≡ u =
     sum-of a u A p
-    ∙ beside (num u * den a) (num a * den u) d (w .whole) (w .kept) D units (w .held) small
+    ∙ rounds-alike (num u * den a) (num a * den u) d (w .whole) (w .kept) D units (w .held) small
     ∙ round-same binary64 false (num u * den a) d (num u) (den u) D (den-pos u) (mul-assoc (num u) (den a) (den u))
     ∙ own-rounding u p f in
     (left, add-either u a (positive-finite u p) (finite-of a A) ∙ left)

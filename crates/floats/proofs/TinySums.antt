@@ -1,11 +1,11 @@
--- Sums of numbers that are not below zero, where some are too small to matter (`specs/Tiny.antt`): with each summand the bound on what may differ
--- grows by 2^55 at most, and a sum that is not below 1 is the same in every bit. Assumes nothing.
+-- Sums of numbers that are not below zero, where some are too small to matter (`specs/Tiny.antt`): with each summand the bound on what may
+-- differ grows 2^55 times at most, and a sum that is not below 1 is the same in every bit. Assumes nothing.
 use mathlib.Core.Path.{_≡_, refl, sym, ap, _∙_, subst}
 use mathlib.Core.Logic.{_⊎_, inl, inr}
 use mathlib.Core.Bool.{Bool, true, false, cond, true≢false}
 use mathlib.Core.List.{List, [], _∷_, map}
 use Prim.Native.Nat.{ℕ, suc, _+_, _-_, _*_, _^_, _≤_, _<_, zero-le}
-use native.Mathlib.Nat.{le-trans, le-of-eq, le-of-lt, lt-of-lt-of-le, zero-lt-suc, zero-mul, one-mul, mul-one, mul-pos, mul-le-mul-left}
+use native.Mathlib.Nat.{le-trans, le-of-eq, le-of-lt, lt-of-le-of-lt, zero-lt-suc, zero-mul, one-mul, mul-one, mul-pos, mul-le-mul-left}
 use native.Mathlib.Nat.{mul-le-mul-right, le-of-mul-le-mul-right, pow-succ'}
 use native.Mathlib.Omega.{arith}
 use borrow.Author.Tests.{lt-ltb, le-ltb, ltb-false, leb-true, leb-false}
@@ -107,3 +107,93 @@ either-way (number {s} {m} {e} X) (number {s = t} {m = n} {e = d} Y) = add-eithe
 
 pub summands-either : {x y : Float} → Summand x → Summand y → x ⊕ y ≡ y ⊕ x
 summands-either X Y = either-way (kind X) (kind Y)
+
+-- ---- what is tiny
+
+pub tiny-more : {i k : ℕ} {x : Float} → Tiny i x → k ≤ i → Tiny k x
+tiny-more {i} {k} h l = record { not-negative = h .not-negative; small = under-more (h .small) 1 k (mul-le-mul-left 1 (pow-mono l)) }
+
+pub same-or-tiny-more : {i k : ℕ} {x y : Float} → SameOrTiny i x y → k ≤ i → SameOrTiny k x y
+same-or-tiny-more (same e) l = same e
+same-or-tiny-more (tiny h g) l = tiny (tiny-more h l) (tiny-more g l)
+
+pub tiny-add : {i : ℕ} {x y : Float} → suc i ≤ 1074 → Tiny (suc i) x → Tiny (suc i) y → Tiny i (x ⊕ y)
+tiny-add {i} {x} {y} l X Y =
+    let both = under-add (X .small) (Y .small) (lit< tt) l in
+    record {
+      not-negative =
+          test-not-below (x ⊕ y) (both .is-finite) (sym (ap (lt (x ⊕ y)) zero-is) ∙ finite-not-below x y (X .not-negative) (Y .not-negative));
+      small = under-more both 1 i (le-of-eq (sym (pow-succ' 2 i) ∙ sym (one-mul (2 ^ suc i))));
+    }
+
+-- ---- one number beside what is tiny: what is tiny is lost, or both are small
+
+data Beside (j : ℕ) (w : Float) : Type 0 where
+  loses : ((u : Float) → Tiny j u → w ⊕ u ≡ w) → Beside j w
+  small-too : Tiny (j - 54) w → Beside j w
+
+-- a / d at most 1 / (p·q), and n / g at least 1 / q
+lost : (a d n g p q : ℕ) → 0 < q → a * (p * q) ≤ 1 * d → g ≤ n * q → a * p * g ≤ n * d
+lost a d n g p q Q h k = le-of-mul-le-mul-right (omega (arith, mul-le-mul-right g h, mul-le-mul-right d k)) Q
+
+number-beside : (j : ℕ) (w : Float) → 54 ≤ j → T (fits binary64 w) → NotBelow w → T (finite w) → Beside j w
+number-beside j w l f W t = go (leb (num w * 2 ^ (j - 54)) (1 * den w)) refl
+  where
+    power : 2 ^ 54 * 2 ^ (j - 54) ≡ 2 ^ j
+    power = sym (pow-add 2 54 (j - 54)) ∙ ap (λ (z : ℕ). 2 ^ z) (join j l)
+      where
+        join : (j : ℕ) → 54 ≤ j → 54 + (j - 54) ≡ j
+        join j l = omega arith
+
+    go : (b : Bool) → leb (num w * 2 ^ (j - 54)) (1 * den w) ≡ b → Beside j w
+    go true e =
+        small-too (record { not-negative = W; small = record { is-finite = t; small = leb-true (num w * 2 ^ (j - 54)) (1 * den w) e } })
+    go false e =
+        let big : 1 * den w < num w * 2 ^ (j - 54) = leb-false (num w * 2 ^ (j - 54)) (1 * den w) e in
+        let p = some-positive w W (first-pos (num w) (2 ^ (j - 54)) (lt-of-le-of-lt zero-le big)) in
+        loses (λ u U.
+        absorbed w u p f (U .not-negative)
+        (lost (num u) (den u) (num w) (den w) (2 ^ 54) (2 ^ (j - 54)) (pow-pos (j - 54))
+        (le-trans (le-of-eq (ap (λ (z : ℕ). num u * z) power)) (U .small .small))
+        (le-trans (le-of-eq (sym (one-mul (den w)))) (le-of-lt big)))
+        .1)
+
+nan-loses : (u : Float) → nan ⊕ u ≡ nan
+unfolding add
+nan-loses u = refl
+
+infinity-loses : (u : Float) → T (finite u) → inf false ⊕ u ≡ inf false
+unfolding add
+infinity-loses nan f = absurd f
+infinity-loses (inf s) f = absurd f
+infinity-loses (fin s m e) f = refl
+
+beside : (j : ℕ) {w : Float} → 54 ≤ j → T (fits binary64 w) → Kind w → Beside j w
+beside j l f no-number = loses (λ u U. nan-loses u)
+beside j l f infinite = loses (λ u U. infinity-loses u (U .small .is-finite))
+beside j l f (number {s} {m} {e} W) = number-beside j (fin s m e) l f W tt
+
+-- ---- a step of two sums
+
+module _ {j : ℕ} (low : 55 ≤ j) (high : j ≤ 1000) where
+  both-small : {x y : Float} → Tiny (j - 54) x → Tiny j y → Tiny (j - 55) (x ⊕ y)
+  both-small X Y = tiny-add (omega arith) (tiny-more X (omega arith)) (tiny-more Y (omega arith))
+
+  -- the one summand equal, the other tiny
+  one-tiny : {a b u v : Float} → Summand a → a ≡ b → Tiny j u → Tiny j v → SameOrTiny (j - 55) (a ⊕ u) (b ⊕ v)
+  one-tiny {a} {b} {u} {v} A e h g =
+      subst (λ (z : Float). SameOrTiny (j - 55) (a ⊕ u) (z ⊕ v)) e (go (beside j (omega arith) (A .is-f64) (kind A)))
+    where
+      go : Beside j a → SameOrTiny (j - 55) (a ⊕ u) (a ⊕ v)
+      go (loses l) = same (l u h ∙ sym (l v g))
+      go (small-too s) = tiny (both-small s h) (both-small s g)
+
+  pub tiny-step : {a b u v : Float} → Summand a → Summand b → Summand u → Summand v → SameOrTiny j a b → SameOrTiny j u v
+      → SameOrTiny (j - 55) (a ⊕ u) (b ⊕ v)
+  tiny-step A B X Y (same p) (same q) = same (cc)
+  tiny-step A B X Y (same p) (tiny h g) = one-tiny A p h g
+  tiny-step {a} {b} {u} {v} A B X Y (tiny h g) (same q) =
+      subst (λ (z : Float). SameOrTiny (j - 55) z (b ⊕ v)) (summands-either X A)
+      (subst (λ (z : Float). SameOrTiny (j - 55) (u ⊕ a) z) (summands-either Y B) (one-tiny X q h g))
+  tiny-step A B X Y (tiny h g) (tiny p q) =
+      tiny (both-small (tiny-more h (omega arith)) p) (both-small (tiny-more g (omega arith)) q)
