@@ -122,7 +122,8 @@ tiny-add {i} {x} {y} l X Y =
     let both = under-add (X .small) (Y .small) (lit< tt) l in
     record {
       not-negative =
-          test-not-below (x ⊕ y) (both .is-finite) (sym (ap (lt (x ⊕ y)) zero-is) ∙ finite-not-below x y (X .not-negative) (Y .not-negative));
+          test-not-below (x ⊕ y) (both .is-finite)
+          (sym (ap (lt (x ⊕ y)) zero-is) ∙ finite-not-below x y (X .not-negative) (Y .not-negative));
       small = under-more both 1 i (le-of-eq (sym (pow-succ' 2 i) ∙ sym (one-mul (2 ^ suc i))));
     }
 
@@ -136,41 +137,44 @@ data Beside (j : ℕ) (w : Float) : Type 0 where
 lost : (a d n g p q : ℕ) → 0 < q → a * (p * q) ≤ 1 * d → g ≤ n * q → a * p * g ≤ n * d
 lost a d n g p q Q h k = le-of-mul-le-mul-right (omega (arith, mul-le-mul-right g h, mul-le-mul-right d k)) Q
 
-number-beside : (j : ℕ) (w : Float) → 54 ≤ j → T (fits binary64 w) → NotBelow w → T (finite w) → Beside j w
-number-beside j w l f W t = go (leb (num w * 2 ^ (j - 54)) (1 * den w)) refl
-  where
-    power : 2 ^ 54 * 2 ^ (j - 54) ≡ 2 ^ j
-    power = sym (pow-add 2 54 (j - 54)) ∙ ap (λ (z : ℕ). 2 ^ z) (join j l)
-      where
-        join : (j : ℕ) → 54 ≤ j → 54 + (j - 54) ≡ j
-        join j l = omega arith
+module _ (j : ℕ) (w : Float) (l : 54 ≤ j) (f : T (fits binary64 w)) (W : NotBelow w) where
+  power : 2 ^ 54 * 2 ^ (j - 54) ≡ 2 ^ j
+  power = sym (pow-add 2 54 (j - 54)) ∙ ap (λ (z : ℕ). 2 ^ z) (joined j l)
+    where
+      joined : (j : ℕ) → 54 ≤ j → 54 + (j - 54) ≡ j
+      joined j l = omega arith
 
-    go : (b : Bool) → leb (num w * 2 ^ (j - 54)) (1 * den w) ≡ b → Beside j w
-    go true e =
-        small-too (record { not-negative = W; small = record { is-finite = t; small = leb-true (num w * 2 ^ (j - 54)) (1 * den w) e } })
-    go false e =
-        let big : 1 * den w < num w * 2 ^ (j - 54) = leb-false (num w * 2 ^ (j - 54)) (1 * den w) e in
-        let p = some-positive w W (first-pos (num w) (2 ^ (j - 54)) (lt-of-le-of-lt zero-le big)) in
-        loses (λ u U.
-        absorbed w u p f (U .not-negative)
-        (lost (num u) (den u) (num w) (den w) (2 ^ 54) (2 ^ (j - 54)) (pow-pos (j - 54))
-        (le-trans (le-of-eq (ap (λ (z : ℕ). num u * z) power)) (U .small .small))
-        (le-trans (le-of-eq (sym (one-mul (den w)))) (le-of-lt big)))
-        .1)
+  lost-in-number : den w < num w * 2 ^ (j - 54) → (u : Float) → Tiny j u → w ⊕ u ≡ w
+  lost-in-number big u h =
+      let p = some-positive w W (first-pos (num w) (2 ^ (j - 54)) (lt-of-le-of-lt zero-le big)) in
+      let tiny-part = le-trans (le-of-eq (ap (λ (z : ℕ). num u * z) power)) (h .small .small) in
+      absorbed w u p f (h .not-negative)
+      (lost (num u) (den u) (num w) (den w) (2 ^ 54) (2 ^ (j - 54)) (pow-pos (j - 54)) tiny-part (le-of-lt big))
+      .1
 
-nan-loses : (u : Float) → nan ⊕ u ≡ nan
+  number-beside : T (finite w) → Beside j w
+  number-beside t = go (leb (num w * 2 ^ (j - 54)) (1 * den w)) refl
+    where
+      go : (b : Bool) → leb (num w * 2 ^ (j - 54)) (1 * den w) ≡ b → Beside j w
+      go true e =
+          small-too (record { not-negative = W; small = record { is-finite = t; small = leb-true (num w * 2 ^ (j - 54)) (1 * den w) e } })
+      go false e =
+          loses
+          (lost-in-number (lt-of-le-of-lt (le-of-eq (sym (one-mul (den w)))) (leb-false (num w * 2 ^ (j - 54)) (1 * den w) e)))
+
+lost-in-nan : (u : Float) → nan ⊕ u ≡ nan
 unfolding add
-nan-loses u = refl
+lost-in-nan u = refl
 
-infinity-loses : (u : Float) → T (finite u) → inf false ⊕ u ≡ inf false
+lost-in-infinity : (u : Float) → T (finite u) → inf false ⊕ u ≡ inf false
 unfolding add
-infinity-loses nan f = absurd f
-infinity-loses (inf s) f = absurd f
-infinity-loses (fin s m e) f = refl
+lost-in-infinity nan f = absurd f
+lost-in-infinity (inf s) f = absurd f
+lost-in-infinity (fin s m e) f = refl
 
 beside : (j : ℕ) {w : Float} → 54 ≤ j → T (fits binary64 w) → Kind w → Beside j w
-beside j l f no-number = loses (λ u U. nan-loses u)
-beside j l f infinite = loses (λ u U. infinity-loses u (U .small .is-finite))
+beside j l f no-number = loses (λ u U. lost-in-nan u)
+beside j l f infinite = loses (λ u U. lost-in-infinity u (U .small .is-finite))
 beside j l f (number {s} {m} {e} W) = number-beside j (fin s m e) l f W tt
 
 -- ---- a step of two sums
@@ -197,3 +201,19 @@ module _ {j : ℕ} (low : 55 ≤ j) (high : j ≤ 1000) where
       (subst (λ (z : Float). SameOrTiny (j - 55) (u ⊕ a) z) (summands-either Y B) (one-tiny X q h g))
   tiny-step A B X Y (tiny h g) (tiny p q) =
       tiny (both-small (tiny-more h (omega arith)) p) (both-small (tiny-more g (omega arith)) q)
+
+-- ---- two sums over one list, summand by summand equal or tiny
+
+module _ (f g : Float → Float) (F : (x : Float) → Summand (f x)) (G : (x : Float) → Summand (g x))
+    (H : (x : Float) → SameOrTiny 1000 (f x) (g x)) where
+  running : (l : List Float) {j : ℕ} {s t : Float} → 55 * length l ≤ j → j ≤ 1000 → Summand s → Summand t → SameOrTiny j s t
+      → SameOrTiny (j - 55 * length l) (sumFrom s (map f l)) (sumFrom t (map g l))
+  running [] few high S R h = same-or-tiny-more h (omega arith)
+  running (y ∷ l) few high S R h =
+      same-or-tiny-more
+      (running l (omega arith) (omega arith) (summand-add S (F y)) (summand-add R (G y))
+      (tiny-step (omega arith) high S R (F y) (G y) h (same-or-tiny-more (H y) high))) (omega arith)
+
+  pub tiny-sums : (x : Float) (l : List Float) → length l ≤ 17
+      → SameOrTiny (1000 - 55 * length l) (sumFrom (f x) (map f l)) (sumFrom (g x) (map g l))
+  tiny-sums x l few = running l (omega arith) (omega arith) (F x) (G x) (H x)
