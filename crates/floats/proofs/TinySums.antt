@@ -4,8 +4,8 @@ use mathlib.Core.Path.{_≡_, refl, sym, ap, _∙_, subst}
 use mathlib.Core.Logic.{_⊎_, inl, inr}
 use mathlib.Core.Bool.{Bool, true, false, cond, true≢false}
 use mathlib.Core.List.{List, [], _∷_, map}
-use Prim.Native.Nat.{ℕ, suc, _+_, _-_, _*_, _^_, _≤_, _<_, zero-le}
-use native.Mathlib.Nat.{le-trans, le-of-eq, le-of-lt, lt-of-le-of-lt, zero-lt-suc, zero-mul, one-mul, mul-one, mul-pos, mul-le-mul-left}
+use Prim.Native.Nat.{ℕ, suc, _+_, _-_, _*_, _^_, _≤_, _<_, zero-le, suc-le-suc}
+use native.Mathlib.Nat.{le-trans, le-of-eq, le-of-lt, lt-of-le-of-lt, lt-of-lt-of-le, zero-lt-suc, zero-mul, one-mul, mul-one, mul-pos, mul-le-mul-left}
 use native.Mathlib.Nat.{mul-le-mul-right, le-of-mul-le-mul-right, pow-succ'}
 use native.Mathlib.Omega.{arith}
 use borrow.Author.Tests.{lt-ltb, le-ltb, ltb-false, leb-true, leb-false}
@@ -217,3 +217,68 @@ module _ (f g : Float → Float) (F : (x : Float) → Summand (f x)) (G : (x : F
   pub tiny-sums : (x : Float) (l : List Float) → length l ≤ 17
       → SameOrTiny (1000 - 55 * length l) (sumFrom (f x) (map f l)) (sumFrom (g x) (map g l))
   tiny-sums x l few = running l (omega arith) (omega arith) (F x) (G x) (H x)
+
+-- ---- a sum with a summand that is not below 1 is not below 1
+
+one-is : nat 1 ≡ fin false 1 (pos 0)
+unfolding ofInt round
+one-is = refl
+
+-- of a number that is not below zero, by its fraction
+one-test : (x : Float) → NotBelow x → lt x (nat 1) ≡ ltb (num x) (den x)
+one-test x X =
+    ap (lt x) one-is ∙ lt-fractions x (fin false 1 (pos 0)) X (record { not-below = tt })
+    ∙ ap (λ (n : ℕ). ltb n (1 * den x)) (mul-one (num x)) ∙ ap (ltb (num x)) (one-mul (den x))
+
+from-one-number : (x y : Float) → NotBelow x → NotBelow y → lt x (nat 1) ≡ false → lt (y ⊕ x) (nat 1) ≡ false
+unfolding ofInt
+from-one-number x y X Y h =
+    let large : den x ≤ num x = ltb-false (num x) (den x) (sym (one-test x X) ∙ h) in
+    let p = some-positive x X (lt-of-lt-of-le (den-pos x) large) in
+    ap (λ (z : Float). lt z (nat 1)) (sum-of y x Y p)
+    ∙ le-not-lt (nat 1) (round binary64 false (num y * den x + num x * den y) (den y * den x))
+    (round-mono binary64 1 1 (num y * den x + num x * den y) (den y * den x) (zero-lt-suc 0) (mul-pos (den-pos y) (den-pos x))
+    (room (num y) (num x) (den y) (den x) large))
+  where
+    room : (a b p q : ℕ) → q ≤ b → 1 * (p * q) ≤ (a * q + b * p) * 1
+    room a b p q h = omega (arith, mul-le-mul-right p h)
+
+from-one-kind : {x y : Float} → Kind x → Kind y → lt x (nat 1) ≡ false → lt (y ⊕ x) (nat 1) ≡ false
+unfolding add lt ofInt round
+from-one-kind no-number no-number h = refl
+from-one-kind no-number infinite h = refl
+from-one-kind no-number (number Y) h = refl
+from-one-kind infinite no-number h = refl
+from-one-kind infinite infinite h = refl
+from-one-kind infinite (number Y) h = refl
+from-one-kind (number X) no-number h = refl
+from-one-kind (number X) infinite h = refl
+from-one-kind (number {s} {m} {e} X) (number {s = t} {m = n} {e = d} Y) h = from-one-number (fin s m e) (fin t n d) X Y h
+
+pub from-one-right : {x y : Float} → Summand x → Summand y → lt y (nat 1) ≡ false → lt (x ⊕ y) (nat 1) ≡ false
+from-one-right X Y h = from-one-kind (kind Y) (kind X) h
+
+pub from-one-left : {x y : Float} → Summand x → Summand y → lt x (nat 1) ≡ false → lt (x ⊕ y) (nat 1) ≡ false
+from-one-left {x} {y} X Y h = ap (λ (z : Float). lt z (nat 1)) (summands-either X Y) ∙ from-one-right Y X h
+
+-- P holds of some member of a list
+abbrev pub Some : (Float → Type 0) → List Float → Type 0
+Some P [] = ⊥
+Some P (x ∷ l) = P x ⊎ Some P l
+
+module _ (f : Float → Float) (F : (x : Float) → Summand (f x)) where
+  pub summand-sum : (l : List Float) {s : Float} → Summand s → Summand (sumFrom s (map f l))
+  summand-sum [] S = S
+  summand-sum (y ∷ l) S = summand-sum l (summand-add S (F y))
+
+  from-one : (l : List Float) {s : Float} → Summand s → (lt s (nat 1) ≡ false) ⊎ Some (λ z. lt (f z) (nat 1) ≡ false) l
+      → lt (sumFrom s (map f l)) (nat 1) ≡ false
+  from-one [] S (inl h) = h
+  from-one [] S (inr r) = absurd r
+  from-one (y ∷ l) S (inl h) = from-one l (summand-add S (F y)) (inl (from-one-left S (F y) h))
+  from-one (y ∷ l) S (inr (inl h)) = from-one l (summand-add S (F y)) (inl (from-one-right S (F y) h))
+  from-one (y ∷ l) S (inr (inr r)) = from-one l (summand-add S (F y)) (inr r)
+
+  pub from-one-among : (x : Float) (l : List Float) → Some (λ z. lt (f z) (nat 1) ≡ false) (x ∷ l)
+      → lt (sumFrom (f x) (map f l)) (nat 1) ≡ false
+  from-one-among x l h = from-one l (F x) h
