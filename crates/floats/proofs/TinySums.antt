@@ -4,21 +4,20 @@ use mathlib.Core.Path.{_≡_, refl, sym, ap, _∙_, subst}
 use mathlib.Core.Logic.{_⊎_, inl, inr}
 use mathlib.Core.Bool.{Bool, true, false, cond, true≢false}
 use mathlib.Core.List.{List, [], _∷_, map}
-use Prim.Native.Nat.{ℕ, suc, _+_, _-_, _*_, _^_, _≤_, _<_, zero-le, suc-le-suc}
-use native.Mathlib.Nat.{le-trans, le-of-eq, le-of-lt, lt-of-le-of-lt, lt-of-lt-of-le, zero-lt-suc, zero-mul, one-mul, mul-one, mul-pos, mul-le-mul-left}
-use native.Mathlib.Nat.{mul-le-mul-right, le-of-mul-le-mul-right, pow-succ'}
+use Prim.Native.Nat.{ℕ, suc, _+_, _-_, _*_, _^_, _≤_, _<_, zero-le}
+use native.Mathlib.Nat.{le-trans, le-of-eq, le-of-lt, lt-of-le-of-lt, lt-of-lt-of-le, zero-lt-suc, zero-mul, one-mul, mul-one, mul-pos}
+use native.Mathlib.Nat.{mul-le-mul-left, mul-le-mul-right, le-of-mul-le-mul-right, pow-succ'}
 use native.Mathlib.Omega.{arith}
 use borrow.Author.Tests.{lt-ltb, le-ltb, ltb-false, leb-true, leb-false}
 use lib.IntN.{ℤ, pos}
-use lib.Dec.{T, leb, ltb, lit<, lit≤}
+use lib.Dec.{T, leb, ltb, lit<}
 use lib.ListN.{length}
 use lib.Pow.{pow-add, pow-pos, pow-mono}
 use lib.Ieee.{Float, nan, inf, fin, binary64, up, down, round, sum, add, lt, ofInt, fits}
-use lib.Ieee.Digits.{back}
 use lib.Ieee.Fits.{down-pos, add-fits}
 use lib.Ieee.Order.{round-mono}
 use lib.Ieee.Scale.{finite, round-same}
-use lib.Ieee.Positive.{num, den, den-pos, positive, first-pos}
+use lib.Ieee.Positive.{num, den, den-pos, first-pos}
 use Rattle.floats.specs.F64.{_⊕_, nat, sumFrom}
 use Rattle.floats.specs.Within.{NotBelow}
 use Rattle.floats.specs.Tiny.{Tiny, SameOrTiny, same, tiny, Summand}
@@ -31,37 +30,37 @@ use Rattle.floats.proofs.Absorbed.{absorbed}
 
 -- ---- a sum of two summands is one
 
-rounded-not-below : (a c : ℕ) → 0 < c → lt (round binary64 false a c) (nat 0) ≡ false
+rounded-test : (a c : ℕ) → 0 < c → lt (round binary64 false a c) (nat 0) ≡ false
 unfolding ofInt
-rounded-not-below a c C =
+rounded-test a c C =
     le-not-lt (nat 0) (round binary64 false a c) (round-mono binary64 0 1 a c (zero-lt-suc 0) C (le-trans (le-of-eq (zero-mul c)) zero-le))
 
-minus-zero-not-below : (a c : ℕ) → 0 < c → a ≡ 0 → lt (round binary64 true a c) (nat 0) ≡ false
+minus-zero-test : (a c : ℕ) → 0 < c → a ≡ 0 → lt (round binary64 true a c) (nat 0) ≡ false
 unfolding ofInt round lt
-minus-zero-not-below a c C z =
+minus-zero-test a c C z =
     ap (λ (x : Float). lt x (nat 0)) (round-same binary64 true a c 0 1 C (zero-lt-suc 0) (ap (λ (n : ℕ). n * 1) z ∙ sym (zero-mul c)))
 
 -- of numbers a / c and b / c in size, of which a negative one is a zero
-sizes-not-below : (s : Bool) (a : ℕ) (t : Bool) (b c : ℕ) → 0 < c → (s ≡ true → a ≡ 0) → (t ≡ true → b ≡ 0)
+sizes-test : (s : Bool) (a : ℕ) (t : Bool) (b c : ℕ) → 0 < c → (s ≡ true → a ≡ 0) → (t ≡ true → b ≡ 0)
     → lt (sum binary64 s a t b c) (nat 0) ≡ false
 unfolding sum
-sizes-not-below false a false b c C S R = rounded-not-below (a + b) c C
-sizes-not-below true a true b c C S R = let p = S refl in let q = R refl in minus-zero-not-below (a + b) c C (omega arith)
-sizes-not-below false a true b c C S R = let q = R refl in rw (le-ltb a b (omega arith)) (rounded-not-below (a - b) c C)
-sizes-not-below true a false b c C S R = let p = S refl in rw (le-ltb b a (omega arith)) (go (ltb a b))
+sizes-test false a false b c C S R = rounded-test (a + b) c C
+sizes-test true a true b c C S R = let p = S refl in let q = R refl in minus-zero-test (a + b) c C (omega arith)
+sizes-test false a true b c C S R = let q = R refl in rw (le-ltb a b (omega arith)) (rounded-test (a - b) c C)
+sizes-test true a false b c C S R = let p = S refl in rw (le-ltb b a (omega arith)) (go (ltb a b))
   where
     go : (t : Bool) → lt (cond t (round binary64 false (b - a) c) (round binary64 false (a - b) c)) (nat 0) ≡ false
-    go true = rounded-not-below (b - a) c C
-    go false = rounded-not-below (a - b) c C
+    go true = rounded-test (b - a) c C
+    go false = rounded-test (a - b) c C
 
-finite-not-below : (x y : Float) → NotBelow x → NotBelow y → lt (x ⊕ y) (nat 0) ≡ false
+finite-test : (x y : Float) → NotBelow x → NotBelow y → lt (x ⊕ y) (nat 0) ≡ false
 unfolding add
-finite-not-below nan y X Y = absurd (X .not-below)
-finite-not-below (inf s) y X Y = absurd (X .not-below)
-finite-not-below (fin s m e) nan X Y = absurd (Y .not-below)
-finite-not-below (fin s m e) (inf t) X Y = absurd (Y .not-below)
-finite-not-below (fin s m e) (fin t n d) X Y =
-    sizes-not-below s (m * up e * down d) t (n * up d * down e) (down e * down d) (mul-pos (down-pos e) (down-pos d))
+finite-test nan y X Y = absurd (X .not-below)
+finite-test (inf s) y X Y = absurd (X .not-below)
+finite-test (fin s m e) nan X Y = absurd (Y .not-below)
+finite-test (fin s m e) (inf t) X Y = absurd (Y .not-below)
+finite-test (fin s m e) (fin t n d) X Y =
+    sizes-test s (m * up e * down d) t (n * up d * down e) (down e * down d) (mul-pos (down-pos e) (down-pos d))
     (zero-size s m (up e) (down d) (X .not-below)) (zero-size t n (up d) (down e) (Y .not-below))
 
 -- a summand is a NaN, plus infinity, or a number that is not below zero
@@ -79,18 +78,18 @@ kind {x} h = go x (sym (ap (lt x) zero-is) ∙ h .not-below)
     go (inf false) t = infinite
     go (fin s m e) t = number (test-not-below (fin s m e) tt t)
 
-kinds-not-below : {x y : Float} → Kind x → Kind y → lt (x ⊕ y) (nat 0) ≡ false
+kinds-test : {x y : Float} → Kind x → Kind y → lt (x ⊕ y) (nat 0) ≡ false
 unfolding add lt ofInt round
-kinds-not-below no-number k = refl
-kinds-not-below infinite no-number = refl
-kinds-not-below infinite infinite = refl
-kinds-not-below infinite (number Y) = refl
-kinds-not-below (number X) no-number = refl
-kinds-not-below (number X) infinite = refl
-kinds-not-below (number {s} {m} {e} X) (number {s = t} {m = n} {e = d} Y) = finite-not-below (fin s m e) (fin t n d) X Y
+kinds-test no-number k = refl
+kinds-test infinite no-number = refl
+kinds-test infinite infinite = refl
+kinds-test infinite (number Y) = refl
+kinds-test (number X) no-number = refl
+kinds-test (number X) infinite = refl
+kinds-test (number {s} {m} {e} X) (number {s = t} {m = n} {e = d} Y) = finite-test (fin s m e) (fin t n d) X Y
 
 pub summand-add : {x y : Float} → Summand x → Summand y → Summand (x ⊕ y)
-summand-add {x} {y} X Y = record { is-f64 = add-fits binary64 x y; not-below = kinds-not-below (kind X) (kind Y) }
+summand-add {x} {y} X Y = record { is-f64 = add-fits binary64 x y; not-below = kinds-test (kind X) (kind Y) }
 
 -- and the same either way round
 either-way : {x y : Float} → Kind x → Kind y → x ⊕ y ≡ y ⊕ x
@@ -123,7 +122,7 @@ tiny-add {i} {x} {y} l X Y =
     record {
       not-negative =
           test-not-below (x ⊕ y) (both .is-finite)
-          (sym (ap (lt (x ⊕ y)) zero-is) ∙ finite-not-below x y (X .not-negative) (Y .not-negative));
+          (sym (ap (lt (x ⊕ y)) zero-is) ∙ finite-test x y (X .not-negative) (Y .not-negative));
       small = under-more both 1 i (le-of-eq (sym (pow-succ' 2 i) ∙ sym (one-mul (2 ^ suc i))));
     }
 
@@ -202,22 +201,6 @@ module _ {j : ℕ} (low : 55 ≤ j) (high : j ≤ 1000) where
   tiny-step A B X Y (tiny h g) (tiny p q) =
       tiny (both-small (tiny-more h (omega arith)) p) (both-small (tiny-more g (omega arith)) q)
 
--- ---- two sums over one list, summand by summand equal or tiny
-
-module _ (f g : Float → Float) (F : (x : Float) → Summand (f x)) (G : (x : Float) → Summand (g x))
-    (H : (x : Float) → SameOrTiny 1000 (f x) (g x)) where
-  running : (l : List Float) {j : ℕ} {s t : Float} → 55 * length l ≤ j → j ≤ 1000 → Summand s → Summand t → SameOrTiny j s t
-      → SameOrTiny (j - 55 * length l) (sumFrom s (map f l)) (sumFrom t (map g l))
-  running [] few high S R h = same-or-tiny-more h (omega arith)
-  running (y ∷ l) few high S R h =
-      same-or-tiny-more
-      (running l (omega arith) (omega arith) (summand-add S (F y)) (summand-add R (G y))
-      (tiny-step (omega arith) high S R (F y) (G y) h (same-or-tiny-more (H y) high))) (omega arith)
-
-  pub tiny-sums : (x : Float) (l : List Float) → length l ≤ 17
-      → SameOrTiny (1000 - 55 * length l) (sumFrom (f x) (map f l)) (sumFrom (g x) (map g l))
-  tiny-sums x l few = running l (omega arith) (omega arith) (F x) (G x) (H x)
-
 -- ---- a sum with a summand that is not below 1 is not below 1
 
 one-is : nat 1 ≡ fin false 1 (pos 0)
@@ -229,6 +212,12 @@ one-test : (x : Float) → NotBelow x → lt x (nat 1) ≡ ltb (num x) (den x)
 one-test x X =
     ap (lt x) one-is ∙ lt-fractions x (fin false 1 (pos 0)) X (record { not-below = tt })
     ∙ ap (λ (n : ℕ). ltb n (1 * den x)) (mul-one (num x)) ∙ ap (ltb (num x)) (one-mul (den x))
+
+below-one : {x : Float} → Tiny 1 x → lt x (nat 1) ≡ true
+below-one {x} h = one-test x (h .not-negative) ∙ lt-ltb (num x) (den x) (room (num x) (den x) (den-pos x) (h .small .small))
+  where
+    room : (n d : ℕ) → 0 < d → n * 2 ≤ 1 * d → n < d
+    room n d l h = omega arith
 
 from-one-number : (x y : Float) → NotBelow x → NotBelow y → lt x (nat 1) ≡ false → lt (y ⊕ x) (nat 1) ≡ false
 unfolding ofInt
@@ -282,3 +271,27 @@ module _ (f : Float → Float) (F : (x : Float) → Summand (f x)) where
   pub from-one-among : (x : Float) (l : List Float) → Some (λ z. lt (f z) (nat 1) ≡ false) (x ∷ l)
       → lt (sumFrom (f x) (map f l)) (nat 1) ≡ false
   from-one-among x l h = from-one l (F x) h
+
+-- ---- two sums over one list, summand by summand equal or tiny
+
+module _ (f g : Float → Float) (F : (x : Float) → Summand (f x)) (G : (x : Float) → Summand (g x))
+    (H : (x : Float) → SameOrTiny 1000 (f x) (g x)) where
+  running : (l : List Float) {j : ℕ} {s t : Float} → 55 * length l ≤ j → j ≤ 1000 → Summand s → Summand t → SameOrTiny j s t
+      → SameOrTiny (j - 55 * length l) (sumFrom s (map f l)) (sumFrom t (map g l))
+  running [] few high S R h = same-or-tiny-more h (omega arith)
+  running (y ∷ l) few high S R h =
+      same-or-tiny-more
+      (running l (omega arith) (omega arith) (summand-add S (F y)) (summand-add R (G y))
+      (tiny-step (omega arith) high S R (F y) (G y) h (same-or-tiny-more (H y) high))) (omega arith)
+
+  pub tiny-sums : (x : Float) (l : List Float) → length l ≤ 17
+      → SameOrTiny (1000 - 55 * length l) (sumFrom (f x) (map f l)) (sumFrom (g x) (map g l))
+  tiny-sums x l few = running l (omega arith) (omega arith) (F x) (G x) (H x)
+
+  pub same-sums : (x : Float) (l : List Float) → length l ≤ 17 → lt (sumFrom (f x) (map f l)) (nat 1) ≡ false
+      → sumFrom (f x) (map f l) ≡ sumFrom (g x) (map g l)
+  same-sums x l few h = go (same-or-tiny-more (tiny-sums x l few) (omega arith))
+    where
+      go : SameOrTiny 1 (sumFrom (f x) (map f l)) (sumFrom (g x) (map g l)) → sumFrom (f x) (map f l) ≡ sumFrom (g x) (map g l)
+      go (same e) = e
+      go (tiny s t) = absurd (true≢false (sym (below-one s) ∙ h))
