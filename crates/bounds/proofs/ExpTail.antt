@@ -1,6 +1,6 @@
 -- The lower end of `expOf`: from −708 on it is what it was while that end was −708, below it is from 0 to 2^−1020, and both are a `Tail`.
 -- Assumes nothing.
-use mathlib.Core.Path.{_≡_, refl, sym}
+use mathlib.Core.Path.{_≡_, refl, sym, _∙_}
 use mathlib.Core.Bool.{Bool, true, false, cond, true≢false}
 use Prim.Native.Nat.{ℕ, suc, _*_, _^_, _≤_}
 use native.Mathlib.Omega.{arith}
@@ -12,14 +12,19 @@ use lib.Ieee.{Float, nan, inf, fin, binary64, up, down, lt, isNan, ofInt, fits}
 use lib.Ieee.Fits.{cond-fits, nan-fits, inf-fits, ofInt-fits, mul-fits}
 use Rattle.floats.specs.F64.{_⊗_, whole, nat}
 use Rattle.floats.specs.Under.{Under}
-use Rattle.floats.specs.Tiny.{Tiny}
+use Rattle.floats.specs.Within.{NotBelow}
+use Rattle.floats.specs.Tiny.{Tiny, SameOrTiny, same, tiny, Summand}
 use Rattle.floats.proofs.Bounds.{positive-not-below, zero-not-below}
+use Rattle.floats.proofs.Differences.{zero-is, not-below-test}
 use Rattle.floats.proofs.Sizes.{under-more, under-mul}
+use Rattle.floats.proofs.Zeros.{zeroOf}
+use Rattle.floats.proofs.TinySums.{tiny-more}
 use Rattle.kernels.specs.Exp.{expReduced, expParts, expBetween, expOf}
 use Rattle.kernels.specs.Inner.{Deep}
 use Rattle.kernels.proofs.ExpSteps.{exponent-deep}
 use Rattle.bounds.specs.Tail.{Tail, expFlushed}
 use Rattle.bounds.proofs.ExpBounds.{kOf, least, deep, most, y-under, parts-positive, by-tests, not-both, exp-fits, lt-number}
+use Rattle.bounds.proofs.ExpBounds.{exp-of-zero}
 
 -- ---- from −708 on, a NaN and plus infinity among it, nothing changed
 
@@ -70,11 +75,8 @@ exp-tiny x d =
           under-more (under-mul (y-under x n h k) (deep-power (kOf x) (exponent-deep x h d)) (lit< tt) (lit≤ tt)) 1 1020 (lit≤ tt);
     }
 
-tiny-more : {x : Float} → Tiny 1020 x → Tiny 1000 x
-tiny-more t = record { not-negative = t .not-negative; small = under-more (t .small) 1 1000 (lit≤ tt) }
-
 pub exp-is-tail : Tail expOf
-exp-is-tail = record { is-f64 = exp-fits; from-708 = λ x h. refl; below-708 = λ x h. tiny-more (exp-tiny x h) }
+exp-is-tail = record { is-f64 = exp-fits; from-708 = λ x h. refl; below-708 = λ x h. tiny-more (exp-tiny x h) (lit≤ tt) }
 
 flushed-fits : (x : Float) → T (fits binary64 (expFlushed x))
 unfolding expFlushed expParts
@@ -95,3 +97,42 @@ flushed-is-tail = record {
   from-708 = λ x h. sym (exp-unchanged x h);
   below-708 = λ x h. rw (flushed-below x h) (zero-tiny 1000);
 }
+
+-- ---- whichever the tail is: never negative, and beside `expOf` the same or tiny
+
+not-below-zero : (x : Float) → NotBelow x → lt x (nat 0) ≡ false
+not-below-zero x h = rw zero-is (not-below-test x h)
+
+exp-not-negative : (x : Float) → lt (expOf x) (nat 0) ≡ false
+exp-not-negative x = go (isNan x) refl
+  where
+    go : (t : Bool) → isNan x ≡ t → lt (expOf x) (nat 0) ≡ false
+    go true n = unfold expOf lt in rw n refl
+    go false n =
+        by-tests (λ (y : Float). lt y (nat 0) ≡ false) x n (λ _. not-below-zero (nat 0) zero-not-below) (λ _. unfold lt ofInt in refl)
+        (λ h k. not-below-zero (expParts (kOf x) x) (positive-not-below (expParts (kOf x) x) (parts-positive x n h k)))
+
+module _ (e : Float → Float) (t : Tail e) where
+  pub tail-summand : (x : Float) → Summand (e x)
+  tail-summand x = record { is-f64 = t .is-f64 x; not-below = go (lt x deep) refl }
+    where
+      go : (b : Bool) → lt x deep ≡ b → lt (e x) (nat 0) ≡ false
+      go true h = not-below-zero (e x) (t .below-708 x h .not-negative)
+      go false h = rw (t .from-708 x h) (exp-not-negative x)
+
+  pub tail-same : (x : Float) → SameOrTiny 1000 (e x) (expOf x)
+  tail-same x = go (lt x deep) refl
+    where
+      go : (b : Bool) → lt x deep ≡ b → SameOrTiny 1000 (e x) (expOf x)
+      go true h = tiny (t .below-708 x h) (exp-is-tail .below-708 x h)
+      go false h = same (t .from-708 x h)
+
+  pub tail-nan : e nan ≡ nan
+  tail-nan = t .from-708 nan (unfold lt in refl) ∙ unfold expOf isNan in refl
+
+  pub tail-zero : (s : Bool) → e (zeroOf s) ≡ fin false 1 (pos 0)
+  tail-zero s = t .from-708 (zeroOf s) (above s) ∙ exp-of-zero s
+    where
+      above : (s : Bool) → lt (zeroOf s) deep ≡ false
+      above true = unfold lt ofInt in refl
+      above false = unfold lt ofInt in refl

@@ -21,5 +21,5 @@ pub mod Quotients
 pub mod ZeroDifference
 pub mod Monotone
 pub mod Sums
-pub mod Absorbed
+pub mod Lost
 pub mod TinySums

@@ -18,6 +18,7 @@ use lib.Ieee.Fits.{down-pos, add-fits}
 use lib.Ieee.Order.{round-mono}
 use lib.Ieee.Scale.{finite, round-same}
 use lib.Ieee.Positive.{num, den, den-pos, first-pos}
+use Rattle.lists.specs.Every.{Among}
 use Rattle.floats.specs.F64.{_⊕_, nat, sumFrom}
 use Rattle.floats.specs.Within.{NotBelow}
 use Rattle.floats.specs.Tiny.{Tiny, SameOrTiny, same, tiny, Summand}
@@ -26,7 +27,7 @@ use Rattle.floats.proofs.Differences.{nought, zero-is, add-either, test
 use Rattle.floats.proofs.Fractions.{zero-size, lt-fractions, some-positive}
 use Rattle.floats.proofs.Sizes.{under-add, under-more}
 use Rattle.floats.proofs.Sums.{sum-of}
-use Rattle.floats.proofs.Absorbed.{absorbed}
+use Rattle.floats.proofs.Lost.{lost-beside}
 
 -- ---- a sum of two summands is one
 
@@ -147,7 +148,7 @@ module _ (j : ℕ) (w : Float) (l : 54 ≤ j) (f : T (fits binary64 w)) (W : Not
   lost-in-number big u h =
       let p = some-positive w W (first-pos (num w) (2 ^ (j - 54)) (lt-of-le-of-lt zero-le big)) in
       let tiny-part = le-trans (le-of-eq (ap (λ (z : ℕ). num u * z) power)) (h .small .small) in
-      absorbed w u p f (h .not-negative)
+      lost-beside w u p f (h .not-negative)
       (lost (num u) (den u) (num w) (den w) (2 ^ 54) (2 ^ (j - 54)) (pow-pos (j - 54)) tiny-part (le-of-lt big))
       .1
 
@@ -250,17 +251,12 @@ from-one-right X Y h = from-one-kind (kind Y) (kind X) h
 pub from-one-left : {x y : Float} → Summand x → Summand y → lt x (nat 1) ≡ false → lt (x ⊕ y) (nat 1) ≡ false
 from-one-left {x} {y} X Y h = ap (λ (z : Float). lt z (nat 1)) (summands-either X Y) ∙ from-one-right Y X h
 
--- P holds of some member of a list
-abbrev pub Some : (Float → Type 0) → List Float → Type 0
-Some P [] = ⊥
-Some P (x ∷ l) = P x ⊎ Some P l
-
 module _ (f : Float → Float) (F : (x : Float) → Summand (f x)) where
   pub summand-sum : (l : List Float) {s : Float} → Summand s → Summand (sumFrom s (map f l))
   summand-sum [] S = S
   summand-sum (y ∷ l) S = summand-sum l (summand-add S (F y))
 
-  from-one : (l : List Float) {s : Float} → Summand s → (lt s (nat 1) ≡ false) ⊎ Some (λ z. lt (f z) (nat 1) ≡ false) l
+  from-one : (l : List Float) {s : Float} → Summand s → (lt s (nat 1) ≡ false) ⊎ Among (λ z. lt (f z) (nat 1) ≡ false) l
       → lt (sumFrom s (map f l)) (nat 1) ≡ false
   from-one [] S (inl h) = h
   from-one [] S (inr r) = absurd r
@@ -268,7 +264,7 @@ module _ (f : Float → Float) (F : (x : Float) → Summand (f x)) where
   from-one (y ∷ l) S (inr (inl h)) = from-one l (summand-add S (F y)) (inl (from-one-right S (F y) h))
   from-one (y ∷ l) S (inr (inr r)) = from-one l (summand-add S (F y)) (inr r)
 
-  pub from-one-among : (x : Float) (l : List Float) → Some (λ z. lt (f z) (nat 1) ≡ false) (x ∷ l)
+  pub from-one-among : (x : Float) (l : List Float) → Among (λ z. lt (f z) (nat 1) ≡ false) (x ∷ l)
       → lt (sumFrom (f x) (map f l)) (nat 1) ≡ false
   from-one-among x l h = from-one l (F x) h
 

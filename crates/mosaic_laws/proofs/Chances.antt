@@ -12,7 +12,7 @@ use lib.Dec.{T, lit≤}
 use lib.ListN.{length, getD, length-map}
 use lib.Ieee.{Float, nan, binary64, lt, fits}
 use lib.Ieee.Fits.{add-fits, div-fits}
-use Rattle.lists.specs.Every.{Each}
+use Rattle.lists.specs.Every.{Each, Among}
 use Rattle.floats.specs.F64.{_⊕_, _⊖_, _⊗_, nat, sumFrom}
 use Rattle.floats.specs.Within.{Within, Above, UpTo}
 use Rattle.floats.proofs.Bounds.{within-number, within-more, within-whole, within-add, within-sub, within-div, above-add, zero-not-below}
@@ -48,10 +48,6 @@ pow10-chance y w h l = let r = pow10-within y w h l in record { within = r .0; n
 
 -- ---- lists: each member, and some member
 
-abbrev Some : (Float → Type 0) → List Float → Type 0
-Some P [] = ⊥
-Some P (x ∷ l) = P x ⊎ Some P l
-
 -- by places
 pub each-place : (P : Float → Type 0) (l : List Float) → ((i : ℕ) → i < length l → P (getD l i nan)) → Each P l
 each-place P [] h = tt
@@ -71,7 +67,7 @@ each-both : (P Q R : Float → Type 0) → ((x : Float) → P x → Q x → R x)
 each-both P Q R h [] e g = tt
 each-both P Q R h (x ∷ l) e g = (h x (e .0) (g .0), each-both P Q R h l (e .1) (g .1))
 
-some-map : (P Q : Float → Type 0) (f : Float → Float) → ((x : Float) → P x → Q (f x)) → (l : List Float) → Some P l → Some Q (map f l)
+some-map : (P Q : Float → Type 0) (f : Float → Float) → ((x : Float) → P x → Q (f x)) → (l : List Float) → Among P l → Among Q (map f l)
 some-map P Q f h (x ∷ l) s = elim s [ inl p ↦ inl (h x p) | inr r ↦ inr (some-map P Q f h l r) ]
 
 -- ---- the largest
@@ -89,7 +85,7 @@ record Top (x : Float) (l : List Float) (t : Float) : Type 0 where
   pub posterior : DecimalPosterior t
   pub first-below : lt t x ≡ false
   pub rest-below : Each (λ y. lt t y ≡ false) l
-  pub is-one : Some (λ y. t ≡ y) (x ∷ l)
+  pub is-one : Among (λ y. t ≡ y) (x ∷ l)
 
 top-through : (x y t : Float) → DecimalPosterior x → DecimalPosterior y → DecimalPosterior t → lt y x ≡ false
     → lt t y ≡ false → lt t x ≡ false
@@ -111,13 +107,13 @@ top-is x (y ∷ l) X L =
       is-one = elim (h .is-one) [ inl e ↦ one-of (lt x y) t e | inr r ↦ inr (inr r) ];
     }
   where
-    one-of : (b : Bool) (t : Float) → t ≡ cond b y x → Some (λ v. t ≡ v) (x ∷ y ∷ l)
+    one-of : (b : Bool) (t : Float) → t ≡ cond b y x → Among (λ v. t ≡ v) (x ∷ y ∷ l)
     one-of true t e = inr (inl e)
     one-of false t e = inl e
 
 -- ---- a sum of chances of which one is at least 1
 
-sum-above : (n : ℕ) (s : Float) (l : List Float) → UpTo n s → Each (UpTo 1) l → n + length l ≤ 2 ^ 53 → Some (Above 0) (s ∷ l)
+sum-above : (n : ℕ) (s : Float) (l : List Float) → UpTo n s → Each (UpTo 1) l → n + length l ≤ 2 ^ 53 → Among (Above 0) (s ∷ l)
     → Above 0 (sumFrom s l)
 sum-above n s [] h e m some = elim some [ inl a ↦ a | inr r ↦ absurd r ]
 sum-above n s (x ∷ l) h e m some =

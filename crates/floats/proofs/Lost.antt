@@ -137,9 +137,9 @@ rounds-alike p b d U q D e held h =
     nothing : (n : ℕ) → n ≡ n + 0
     nothing n = omega arith
 
-pub absorbed : (u a : Float) → T (positive u) → T (fits binary64 u) → NotBelow a → num a * 2 ^ 54 * den u ≤ num u * den a
+pub lost-beside : (u a : Float) → T (positive u) → T (fits binary64 u) → NotBelow a → num a * 2 ^ 54 * den u ≤ num u * den a
     → (a ⊕ u ≡ u) × (u ⊕ a ≡ u)
-absorbed u a p f A h =
+lost-beside u a p f A h =
     let w = fits-in-units u p f in
     let d = den a * den u in
     let D : 0 < d = mul-pos (den-pos a) (den-pos u) in
