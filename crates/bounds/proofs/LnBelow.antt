@@ -32,7 +32,7 @@ use Rattle.bounds.proofs.LnSigns.{halved-quotient, kept-quotient, apart
 
 -- ---- k·hi + (t + k·lo), for a k below 0
 
-whole-negative : (j : ℕ) → whole (negsuc j) ≡ neg (nat (suc j))
+pub whole-negative : (j : ℕ) → whole (negsuc j) ≡ neg (nat (suc j))
 unfolding ofInt
 whole-negative j = negative-is (suc j) 1
 
@@ -148,7 +148,7 @@ power-few k n h = go (leb k n) refl
     go true e = leb-true k n e
     go false e = absurd (h (leb-false k n e))
 
-next-exponent : (j : ℕ) → negsuc (suc j) +ℤ pos 1 ≡ negsuc j
+pub next-exponent : (j : ℕ) → negsuc (suc j) +ℤ pos 1 ≡ negsuc j
 next-exponent j =
     let k : 1 < suc (suc j) = omega arith in
     let e : suc (suc j) - 2 ≡ j = omega arith in
