@@ -13,7 +13,7 @@ use Rattle.bounds.proofs.LnBounds.{within-ln}
 use Rattle.tens.proofs.Log10Laws.{ln-ten}
 
 -- ln 10 is 1 at least
-ln-ten-above : Above 0 (lnOf (nat 10))
+pub ln-ten-above : Above 0 (lnOf (nat 10))
 unfolding ofBits
 ln-ten-above = subst (λ (v : Float). Above 0 v) (sym ln-ten) (record { is-positive = tt; large = lit≤ tt })
 
