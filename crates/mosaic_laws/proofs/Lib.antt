@@ -17,3 +17,4 @@ pub mod AtOnce
 pub mod PriorAtOnce
 pub mod Steps
 pub mod Count
+pub mod TinyWrong

@@ -108,7 +108,7 @@ not-over-thousand x h f e =
     let b = ltb-false (num (nat 1000) * den x) (num x * den (nat 1000)) (sym by-size ∙ e) in
     record { is-finite = f; small = omega arith }
 
-hundred : nat 1000 ⊘ nat 10 ≡ nat 100
+pub hundred : nat 1000 ⊘ nat 10 ≡ nat 100
 unfolding div round ofInt
 hundred = refl
 
