@@ -24,7 +24,7 @@ use Rattle.bounds.proofs.LnApart.{ln-apart}
 use Rattle.bounds.proofs.LnSigns.{quotientOf, near-one-under, hi-over, hi-under, lo-under, turn, halved-quotient, kept-quotient}
 use Rattle.bounds.proofs.LnSigns.{apart, from-one, to-two}
 use Rattle.bounds.proofs.LnBelow.{whole-negative, next-exponent}
-use Rattle.bounds.proofs.Negatives.{over-beside}
+use Rattle.floats.proofs.Negatives.{over-beside}
 
 -- ---- k·hi + (t + k·lo), for a k of at most −339
 

@@ -21,7 +21,7 @@ use Rattle.bounds.proofs.LnBounds.{within-ln}
 use Rattle.bounds.proofs.LnBelow.{whole-negative}
 use Rattle.bounds.proofs.LnFar.{ln-far}
 use Rattle.bounds.proofs.Log10Bounds.{ln-ten-above}
-use Rattle.bounds.proofs.Negatives.{negative-twice, negatives-times, negative-over, over-by-under}
+use Rattle.floats.proofs.Negatives.{negative-twice, negatives-times, negative-over, over-by-under}
 
 -- ln 10 is at most 74/32
 ten-under : Under 74 5 (lnOf (nat 10))

@@ -23,3 +23,4 @@ pub mod Monotone
 pub mod Sums
 pub mod Lost
 pub mod TinySums
+pub mod Negatives

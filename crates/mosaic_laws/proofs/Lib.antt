@@ -18,3 +18,4 @@ pub mod PriorAtOnce
 pub mod Steps
 pub mod Count
 pub mod TinyWrong
+pub mod AnyTail

@@ -46,7 +46,7 @@ Summands ps n = (i : ℕ) → i < n → Summand (getD ps i nan)
 abbrev pub SameOrTinyEach : List Float → List Float → ℕ → Type 0
 SameOrTinyEach ps qs n = (i : ℕ) → i < n → SameOrTiny 1000 (getD ps i nan) (getD qs i nan)
 
-nothing-summand : Summand (nat 0)
+pub nothing-summand : Summand (nat 0)
 nothing-summand = record { is-f64 = ofInt-fits binary64 (pos 0); not-below = unfold lt ofInt round in refl }
 
 pub wrong-summand : (ps : List Float) (n best : ℕ) → Summands ps n → Summand (wrongOf ps best n)

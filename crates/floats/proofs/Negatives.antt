@@ -1,4 +1,4 @@
--- The negative of a number above zero through sums, products and quotients, with the bounds of `floats/specs/Under.antt` from below; and
+-- The negative of a number above zero through sums, products and quotients, with the bounds of `specs/Under.antt` from below; and
 -- such a bound of a quotient by what is at most b / 2^j. Assumes nothing.
 use mathlib.Core.Path.{_≡_, refl, ap, subst}
 use mathlib.Core.Bool.{Bool, true, false, Bool·not-not}

@@ -1,0 +1,160 @@
+-- What an answer of mosaic owes to the exponential below −708, where it is any number from 0 to 2^−1000: tiny probabilities and, as far as
+-- it is proved, nothing else: `mosaic-tail`, at every input. While exp was 0 there, the answers were these but for that:
+-- `mosaic-unchanged`. Assumes nothing.
+use mathlib.Core.Path.{_≡_, refl, ap, _∙_, subst}
+use mathlib.Core.Bool.{Bool, true, false, _||_, cond}
+use mathlib.Core.List.{List, [], _∷_, _++_, map}
+use Prim.Native.Nat.{ℕ, zero, suc, _+_, _-_, _*_, _/_, _≤_, _<_}
+use native.Mathlib.Nat.{mul-le-mul}
+use native.Mathlib.Omega.{arith}
+use lib.Dec.{leb, ltb, eqb}
+use lib.ListN.{length, getD, take, replicate, length-map}
+use lib.Ieee.{Float, nan, binary64, lt}
+use lib.Ieee.Fits.{nan-fits, ofInt-fits}
+use lib.IntN.{pos}
+use Rattle.floats.specs.F64.{_⊗_, nat}
+use Rattle.floats.specs.Tiny.{SameOrTiny, same, Summand}
+use Rattle.kernels.specs.Ln.{lnOf}
+use Rattle.kernels.specs.Exp.{expOf}
+use Rattle.tens.specs.Log10.{pow10Of}
+use Rattle.tens.specs.Normalised.{inTens, lessWhole, wholeOver, normalisedOver}
+use Rattle.bounds.specs.Tail.{Tail, expFlushed, tenBy}
+use Rattle.bounds.proofs.ExpTail.{exp-is-tail, flushed-is-tail, tail-summand, tail-same}
+use Rattle.diploid_laws.specs.Tails.{wholeBy}
+use Rattle.diploid_laws.proofs.AnyTail.{whole-by-exp, whole-tail}
+use Rattle.refusals.specs.declared.Refusal.{Refusal}
+use Rattle.refusals.specs.declared.Refusal.the-variants.{TooMany, Count, Model, NoCall}
+use Rattle.limits.specs.Limits.{countsAllowed}
+use Rattle.models.specs.declared.params.Params.{Params}
+use Rattle.picks.specs.Order.{larger, smaller}
+use Rattle.lists.specs.Lists.{padded}
+use Rattle.probabilities.specs.Quality.{inUse, tensOf, probabilities, qualityOf}
+use Rattle.probabilities.proofs.InUse.{in-use-all}
+use Rattle.alleles.specs.Alleles.{totalOf}
+use Rattle.hypotheses.specs.Edition.{first}
+use Rattle.hypotheses.specs.Hypotheses.{seenAlleles, hypotheses}
+use Rattle.hypotheses.specs.Choice.{posteriors}
+use Rattle.probabilities.specs.Winner.{winner}
+use Rattle.mosaic.specs.Allowed.{paramsAllowed}
+use Rattle.mosaic.specs.Genotype.{blank, calledOf, genotypeBy, genotypeOf}
+use Rattle.mosaic.specs.declared.genotype.MosaicResult.{MosaicResult}
+use Rattle.mosaic_laws.specs.Tails.{probabilitiesWith, calledWith, genotypeWith, SameButTiny}
+use Rattle.mosaic_laws.proofs.Count.{hypothesis-count}
+use Rattle.mosaic_laws.proofs.TinyWrong.{nothing-summand, quality-same}
+
+-- ---- at `expOf` the definitions over an exponential are the rules' own
+
+by-exp : (l : List Float) (n : ℕ) → probabilitiesWith expOf l n ≡ probabilities larger smaller l n
+unfolding probabilitiesWith probabilities pow10Of
+by-exp l n = rw (whole-by-exp (tensOf l (inUse n)))
+
+pub mosaic-by-exp : (p : Params) (counts : List ℕ) → genotypeWith expOf p counts ≡ genotypeOf p counts
+unfolding genotypeBy calledOf
+mosaic-by-exp p counts = rw (by-exp (posteriors first p counts) (length (hypotheses counts)))
+
+-- ---- what two functions give of one list, place by place, filled up
+
+module _ (R : Float → Float → Type 0) (none : R nan nan) (d : Float) (D : R d d) (f g : Float → Float) (h : (x : Float) → R (f x) (g x)) where
+  places-of : (l : List Float) (k i : ℕ) → R (getD (map f l ++ replicate k d) i nan) (getD (map g l ++ replicate k d) i nan)
+  places-of [] zero i = none
+  places-of [] (suc k) zero = D
+  places-of [] (suc k) (suc i) = places-of [] k i
+  places-of (x ∷ l) k zero = h x
+  places-of (x ∷ l) k (suc i) = places-of l k i
+
+  padded-of : (n : ℕ) (l : List Float) (i : ℕ) → R (getD (padded n d (map f l)) i nan) (getD (padded n d (map g l)) i nan)
+  padded-of n l i = rw (length-map l f, length-map l g) (places-of l (n - length l) i)
+
+-- ---- the probabilities
+
+take-few : (n : ℕ) (l : List Float) → length (take n l) ≤ n
+take-few zero l = omega arith
+take-few (suc n) [] = omega arith
+take-few (suc n) (x ∷ l) = omega (arith, take-few n l)
+
+tens-few : (n : ℕ) (l : List Float) → n ≤ 18 → length (tensOf l (inUse n)) ≤ 18
+tens-few n l h =
+    let few : length (take n l) ≤ n = take-few n l in
+    rw (in-use-all n (omega arith)) (rw (length-map (take n l) inTens) (omega arith))
+
+no-number : Summand nan
+no-number = record { is-f64 = nan-fits binary64; not-below = unfold lt in refl }
+
+module _ (e : Float → Float) (tail : Tail e) where
+  pub chance-summand : (l : List Float) (n i : ℕ) → Summand (getD (probabilitiesWith e l n) i nan)
+  unfolding probabilitiesWith
+  chance-summand l n i =
+      let tens = tensOf l (inUse n) in
+      let normal = map (lessWhole smaller (wholeBy e tens)) tens in
+      let each : (x : Float) → Summand (tenBy e x) = λ x. tail-summand e tail (x ⊗ lnOf (nat 10)) in
+      padded-of (λ x y. Summand x) no-number (nat 0) nothing-summand (tenBy e) (tenBy e) each 36 normal i
+
+  pub chance-either : (l : List Float) (n i : ℕ) → n ≤ 18
+      → SameOrTiny 1000 (getD (probabilitiesWith e l n) i nan) (getD (probabilitiesWith expOf l n) i nan)
+  unfolding probabilitiesWith
+  chance-either l n i h =
+      let tens = tensOf l (inUse n) in
+      let normal = map (lessWhole smaller (wholeBy expOf tens)) tens in
+      let each : (x : Float) → SameOrTiny 1000 (tenBy e x) (tenBy expOf x) = λ x. tail-same e tail (x ⊗ lnOf (nat 10)) in
+      rw (whole-tail e tail tens (tens-few n l h))
+      (padded-of (SameOrTiny 1000) (same refl) (nat 0) (same refl) (tenBy e) (tenBy expOf) each 36 normal i)
+
+-- ---- fewer seen alleles, no more hypotheses
+
+count-few : (k s n : ℕ) → s ≤ k → n ≡ s + s * (s - 1) / 2 → n ≤ k + k * (k - 1) / 2
+count-few k s n h e = let less : s - 1 ≤ k - 1 = omega arith in omega (arith, mul-le-mul h less)
+
+-- ---- the answer
+
+module _ (e : Float → Float) (tail : Tail e) (p : Params) (counts : List ℕ) where
+  abbrev n : ℕ
+  n = length (hypotheses counts)
+
+  abbrev posts : List Float
+  posts = posteriors first p counts
+
+  abbrev s : ℕ
+  s = length (seenAlleles counts)
+
+  quality-tail : s ≤ 4 → qualityOf smaller (probabilitiesWith e posts n) n (winner posts n)
+      ≡ qualityOf smaller (probabilitiesWith expOf posts n) n (winner posts n)
+  quality-tail h =
+      let few : n ≤ 10 = count-few 4 s n h (hypothesis-count counts) in
+      quality-same (probabilitiesWith e posts n) (probabilitiesWith expOf posts n) n (winner posts n) (omega arith)
+      (λ i _. chance-summand e tail posts n i) (λ i _. chance-summand expOf exp-is-tail posts n i)
+      (λ i _. chance-either e tail posts n i (omega arith))
+
+  chances-tail : s ≤ 5 → (i : ℕ)
+      → SameOrTiny 1000 (getD (probabilitiesWith e posts n) i nan) (getD (probabilitiesWith expOf posts n) i nan)
+  chances-tail h i =
+      let few : n ≤ 15 = count-few 5 s n h (hypothesis-count counts) in
+      chance-either e tail posts n i (omega arith)
+
+  called-tail : SameButTiny (calledWith e p counts) (calledWith expOf p counts)
+  called-tail = record { same-call = refl; same-quality = quality-tail; same-or-tiny = λ h i _. chances-tail h i }
+
+  blank-tail : (r : Refusal) → SameButTiny (blank r) (blank r)
+  blank-tail r = record { same-call = refl; same-quality = λ _. refl; same-or-tiny = λ _ i _. same refl }
+
+  by-exp-tail : SameButTiny (genotypeWith e p counts) (genotypeWith expOf p counts)
+  by-exp-tail =
+      go (leb (length counts) 8) (paramsAllowed p) (countsAllowed counts) (ltb (totalOf counts) (p .depth) || eqb (totalOf counts) 0)
+    where
+      answer : (Float → Float) → Bool → Bool → Bool → Bool → MosaicResult
+      answer e a b c d =
+          cond a (cond b (cond c (cond d (blank NoCall) (calledWith e p counts)) (blank Count)) (blank Model)) (blank TooMany)
+
+      go : (a b c d : Bool) → SameButTiny (answer e a b c d) (answer expOf a b c d)
+      go false b c d = blank-tail TooMany
+      go true false c d = blank-tail Model
+      go true true false d = blank-tail Count
+      go true true true true = blank-tail NoCall
+      go true true true false = called-tail
+
+  pub mosaic-tail : SameButTiny (genotypeWith e p counts) (genotypeOf p counts)
+  mosaic-tail = subst (SameButTiny (genotypeWith e p counts)) (mosaic-by-exp p counts) by-exp-tail
+
+-- ---- while exp was 0 below −708
+
+pub mosaic-unchanged : (p : Params) (counts : List ℕ) → SameButTiny (genotypeWith expFlushed p counts) (genotypeOf p counts)
+mosaic-unchanged = mosaic-tail expFlushed flushed-is-tail
