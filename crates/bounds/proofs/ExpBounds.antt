@@ -1,6 +1,6 @@
 -- `expOf` at every number: a number and an f64; from -745 to 709 the series times 2^k, rounded once, finite and above zero; 0 below; never
 -- −0.0; bounded by where x ends. Assumes nothing.
-use mathlib.Core.Path.{_≡_, refl, sym, _∙_}
+use mathlib.Core.Path.{_≡_, refl, sym, ap, _∙_}
 use mathlib.Core.Bool.{Bool, true, false, cond, true≢false}
 use Prim.Native.Nat.{ℕ, zero, suc, _+_, _*_, _^_, _≤_, zero-le}
 use native.Mathlib.Nat.{le-trans, le-of-eq, mul-one, mul-le-mul-right}
@@ -308,3 +308,14 @@ exp-beside-zero s x = go (isNan x) refl
         by-tests (λ y. zeroOf s ⊕ y ≡ y) x n (λ _. zeros-beside s) (λ _. unfold add in refl)
         (λ h k. zero-beside s (expParts (kOf x) x) (parts-positive x n h k)
         (unfold expParts in mul-fits binary64 (expReduced (whole (kOf x)) x) (fin false 1 (kOf x))))
+
+pub exp-no-minus-zero : (x : Float) → expOf x ≡ zeroOf true → ⊥
+exp-no-minus-zero x e = true≢false (ap sign (sym (both e (exp-beside-zero false x))))
+  where
+    sign : Float → Bool
+    sign nan = true
+    sign (inf s) = s
+    sign (fin s m e) = s
+
+    both : expOf x ≡ zeroOf true → zeroOf false ⊕ expOf x ≡ expOf x → zeroOf false ≡ zeroOf true
+    both e h = unfold add round in rw e at h

@@ -8,7 +8,7 @@ use borrow.Author.Tests.{ltb-false, le-ltb}
 use lib.IntN.{ℤ, pos, negsuc, negℤ}
 use lib.Dec.{T, lit≤, lit<}
 use lib.Pow.{pow-mono}
-use lib.Ieee.{Float, nan, inf, fin, binary64, up, down, lt, isNan, ofInt, fits}
+use lib.Ieee.{Float, nan, inf, fin, binary64, up, down, size, round, neg, add, sub, mul, lt, isNan, ofInt, ofBits, fits}
 use lib.Ieee.Fits.{cond-fits, nan-fits, inf-fits, ofInt-fits, mul-fits}
 use Rattle.floats.specs.F64.{_⊗_, whole, nat}
 use Rattle.floats.specs.Under.{Under}
@@ -19,7 +19,7 @@ use Rattle.floats.proofs.Differences.{zero-is, not-below-test}
 use Rattle.floats.proofs.Sizes.{under-more, under-mul}
 use Rattle.floats.proofs.Zeros.{zeroOf}
 use Rattle.floats.proofs.TinySums.{tiny-more}
-use Rattle.kernels.specs.Exp.{expReduced, expParts, expBetween, expOf}
+use Rattle.kernels.specs.Exp.{expSeries, expReduced, expParts, expDeep, expBetween, expOf}
 use Rattle.kernels.specs.Inner.{Deep}
 use Rattle.kernels.proofs.ExpSteps.{exponent-deep}
 use Rattle.bounds.specs.Tail.{Tail, expFlushed}
@@ -39,6 +39,12 @@ not-least (fin true m e) h = le-ltb (745 * down e) (m * up e * 1) (omega (arith,
 pub exp-unchanged : (x : Float) → lt x (whole (negℤ (pos 708))) ≡ false → expOf x ≡ expFlushed x
 unfolding expOf expBetween expFlushed
 exp-unchanged x h = rw (not-least x h, h)
+
+-- ---- at −745, its lower end, it is the smallest f64
+
+pub exp-at-end : expOf (whole (negℤ (pos 745))) ≡ fin false 1 (negsuc 1073)
+unfolding expOf expBetween expDeep expReduced expSeries size isNan neg add sub mul round lt ofInt ofBits
+exp-at-end = refl
 
 -- ---- below −708: 0, or a series of at most 3/2 times a 2^k of at most 2^−1021
 

@@ -158,7 +158,7 @@ module _ (p : Params) (counts : List ℕ) (ok : Accepted p counts) where
       ∙ map-at posterior (hypotheses counts) (pair 0 0) nan i h))
       (each-within i h)
 
-  posts-length : length posts ≡ 36
+  pub posts-length : length posts ≡ 36
   unfolding posteriors
   posts-length =
       let few = subst (λ (k : ℕ). k ≤ 36) (sym (length-map (hypotheses counts) posterior)) (at-most-36 counts) in

@@ -19,3 +19,4 @@ pub mod Steps
 pub mod Count
 pub mod TinyWrong
 pub mod AnyTail
+pub mod Vanish

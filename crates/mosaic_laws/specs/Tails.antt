@@ -10,17 +10,18 @@ use lib.Ieee.{Float, nan}
 use Rattle.floats.specs.F64.{nat}
 use Rattle.floats.specs.Tiny.{SameOrTiny}
 use Rattle.bounds.specs.Tail.{tenBy}
-use Rattle.tens.specs.Normalised.{lessWhole}
+use Rattle.tens.specs.Normalised.{lessWhole, wholeOver}
 use Rattle.diploid_laws.specs.Tails.{wholeBy}
 use Rattle.refusals.specs.declared.Refusal.the-variants.{TooMany, Count, Model, NoCall}
 use Rattle.limits.specs.Limits.{countsAllowed}
 use Rattle.models.specs.declared.params.Params.{Params}
-use Rattle.picks.specs.Order.{smaller}
+use Rattle.picks.specs.Order.{larger, smaller}
 use Rattle.lists.specs.Lists.{padded}
 use Rattle.probabilities.specs.Quality.{inUse, tensOf}
 use Rattle.alleles.specs.Alleles.{totalOf}
 use Rattle.hypotheses.specs.Edition.{first}
-use Rattle.hypotheses.specs.Choice.{chosen}
+use Rattle.hypotheses.specs.Hypotheses.{hypotheses}
+use Rattle.hypotheses.specs.Choice.{posteriors, chosen}
 use Rattle.mosaic.specs.Allowed.{paramsAllowed}
 use Rattle.mosaic.specs.Genotype.{blank, answerFrom}
 use Rattle.mosaic.specs.declared.genotype.MosaicResult.{MosaicResult}
@@ -47,6 +48,11 @@ genotypeWith e p counts =
     (blank Count))
     (blank Model))
     (blank TooMany)
+
+-- M7: the normalised posterior of the hypothesis in place i, as a decimal logarithm; its probability is ten to this
+abbrev pub normalisedAt : Params → List ℕ → ℕ → Float
+normalisedAt p counts i =
+    let tens = tensOf (posteriors first p counts) (length (hypotheses counts)) in lessWhole smaller (wholeOver larger tens) (getD tens i nan)
 
 -- M8: an answer with its quality and its probabilities left out
 abbrev pub withoutChances : MosaicResult → MosaicResult
