@@ -5,7 +5,7 @@ use mathlib.Core.Bool.{Bool, true, false, cond, true≢false}
 use Prim.Native.Nat.{ℕ, zero, suc, _+_, _*_, _^_, _≤_, zero-le}
 use native.Mathlib.Nat.{le-trans, le-of-eq, mul-one, mul-le-mul-right}
 use native.Mathlib.Omega.{arith}
-use borrow.Author.Tests.{ltb-false, le-ltb}
+use borrow.Author.Tests.{le-ltb}
 use lib.IntN.{ℤ, pos, negsuc, negℤ, _+ℤ_}
 use lib.Dec.{T, lit≤}
 use lib.Pow.{pow-mono}
@@ -66,7 +66,8 @@ argument-under (fin s m e) n h k =
     let p = m * up e in
     let d = down e in
     rw (product-is s m e, nearest-is s p d (down-pos e) z)
-    (reduced-under s m e (le-trans (few-steps s p d (down-pos e) z) (at-most-1075 s)) (scaled-within s p d (down-pos e) z false .is-finite))
+    (reduced-under s m e (le-trans (few-steps s p d (down-pos e) z) (at-most-1075 s))
+    (scaled-within s p d (down-pos e) z false .is-finite))
 
 x-under : (x : Float) → isNan x ≡ false → lt x least ≡ false → lt most x ≡ false → Under 745 0 x
 unfolding isNan lt ofInt
@@ -161,8 +162,8 @@ exp-fits x =
     let y = expReduced (whole (kOf x)) x in
     let up = y ⊗ fin false 1 (kOf x +ℤ pos 54) in
     let down = fin false 1 (negℤ (pos 54)) in
-    let at-once = y ⊗ fin false 1 (kOf x) in
-    let between = cond-fits binary64 (lt x deep) (up ⊗ down) at-once (mul-fits binary64 up down) (mul-fits binary64 y (fin false 1 (kOf x))) in
+    let power = fin false 1 (kOf x) in
+    let between = cond-fits binary64 (lt x deep) (up ⊗ down) (y ⊗ power) (mul-fits binary64 up down) (mul-fits binary64 y power) in
     cond-fits binary64 (isNan x) nan _ (nan-fits binary64)
     (cond-fits binary64 (lt x least) (nat 0) _ (ofInt-fits binary64 (pos 0))
     (cond-fits binary64 (lt most x) (inf false) _ (inf-fits binary64 false) between))

@@ -1,13 +1,12 @@
 -- The series of `expOf` at an r of at most 3/8 in size: above 1/2 and at most 3/2, and above 1 where r is above 1/8. Assumes nothing.
 use mathlib.Core.Path.{sym}
-use mathlib.Core.Bool.{true, false}
+use mathlib.Core.Bool.{false}
 use Prim.Native.Nat.{ℕ, zero, suc, _+_, _*_, _^_, _≤_, _<_}
-use native.Mathlib.Nat.{le-trans, le-of-eq, mul-one, mul-pos, mul-le-mul, mul-le-mul-right, zero-lt-suc}
+use native.Mathlib.Nat.{le-trans, le-of-eq, mul-one, mul-pos, mul-le-mul, zero-lt-suc}
 use native.Mathlib.Omega.{arith}
 use lib.Dec.{T, lit≤, lit<}
-use lib.Ieee.{Float, nan, inf, fin, binary64, up, down, sum, add, fits}
-use lib.Ieee.Fits.{down-pos, add-fits}
-use lib.Ieee.Scale.{finite}
+use lib.Ieee.{Float, binary64, fits}
+use lib.Ieee.Fits.{add-fits}
 use Rattle.floats.specs.F64.{_⊕_, _⊗_, ratio, reciprocals, hornerFrom}
 use Rattle.floats.specs.Under.{Under, Over}
 use Rattle.floats.proofs.Sizes.{round-at-most, round-over, under-more, under-mul, over-mul, under-add, over-add, over-plus}

@@ -1,7 +1,7 @@
 -- The lower end of `expOf`: from −708 on it is what it was while that end was −708, below it is from 0 to 2^−1020, and both are a `Tail`.
 -- Assumes nothing.
 use mathlib.Core.Path.{_≡_, refl, sym, _∙_}
-use mathlib.Core.Bool.{Bool, true, false, cond, true≢false}
+use mathlib.Core.Bool.{Bool, true, false, true≢false}
 use Prim.Native.Nat.{ℕ, suc, _*_, _^_, _≤_}
 use native.Mathlib.Omega.{arith}
 use borrow.Author.Tests.{ltb-false, le-ltb}
@@ -10,7 +10,7 @@ use lib.Dec.{T, lit≤, lit<}
 use lib.Pow.{pow-mono}
 use lib.Ieee.{Float, nan, inf, fin, binary64, up, down, size, round, neg, add, sub, mul, lt, isNan, ofInt, ofBits, fits}
 use lib.Ieee.Fits.{cond-fits, nan-fits, inf-fits, ofInt-fits, mul-fits}
-use Rattle.floats.specs.F64.{_⊗_, whole, nat}
+use Rattle.floats.specs.F64.{whole, nat}
 use Rattle.floats.specs.Under.{Under}
 use Rattle.floats.specs.Within.{NotBelow}
 use Rattle.floats.specs.Tiny.{Tiny, SameOrTiny, same, tiny, Summand}

@@ -1,13 +1,13 @@
 -- No diploid answer depends on what the exponential is below −708, so long as it is from 0 to 2^−1000 there: `genotype-tail`, at every
 -- input. It was 0 there once, and no answer changed: `genotype-unchanged`. In each sum one summand is 1, or a NaN, and the others are lost
 -- beside it where they are tiny. Assumes nothing.
-use mathlib.Core.Path.{_≡_, refl, sym, ap, _∙_}
+use mathlib.Core.Path.{_≡_, refl, ap}
 use mathlib.Core.Logic.{_⊎_, inl, inr}
-use mathlib.Core.Bool.{Bool, true, false, cond, _&&_}
+use mathlib.Core.Bool.{Bool, true, false, cond}
 use mathlib.Core.List.{List, [], _∷_}
 use Prim.Native.Nat.{ℕ, _+_, _≤_}
 use native.Mathlib.Omega.{arith}
-use lib.Dec.{eqb, lit≤}
+use lib.Dec.{lit≤}
 use lib.IntN.{pos}
 use lib.ListN.{length}
 use lib.Ieee.{Float, nan, inf, fin, lt, neg, add, sub, mul, ofInt}
@@ -19,7 +19,7 @@ use Rattle.lists.specs.Every.{Among}
 use Rattle.kernels.specs.Ln.{lnOf}
 use Rattle.kernels.specs.Exp.{expOf}
 use Rattle.tens.specs.Log10.{log10Of, pow10Of}
-use Rattle.tens.specs.Normalised.{largestFrom, lessWhole, wholeOver}
+use Rattle.tens.specs.Normalised.{largestFrom, wholeOver}
 use Rattle.bounds.specs.Tail.{Tail, expFlushed, tenBy}
 use Rattle.bounds.proofs.ExpTail.{exp-is-tail, flushed-is-tail, tail-summand, tail-same, tail-nan, tail-zero}
 use Rattle.refusals.specs.declared.Refusal.the-variants.{Done}
@@ -32,11 +32,10 @@ use Rattle.qualities.specs.declared.quality.Quals.{Quals}
 use Rattle.qualities.specs.Quality.{listed, eachInTens, wholeOf, normalised, qualsOf}
 use Rattle.scores.specs.declared.scores.Scored.{Scored}
 use Rattle.scores.specs.declared.scores.Scored.the-variants.{Beyond, Unread, Are}
-use Rattle.scores.specs.Scores.{fraction, oneWay, eitherWay, phasedScores, scoresBy, scoredBy}
+use Rattle.scores.specs.Scores.{oneWay, eitherWay, phasedScores, scoresBy, scoredBy}
 use Rattle.tables.specs.Calibration.{calibrated}
 use Rattle.diploid.specs.Genotype.{winner, called, answered, genotypeBy, genotypeOf}
-use Rattle.diploid.specs.declared.genotype.GenotypeResult.{GenotypeResult}
-use Rattle.diploid_laws.specs.Tails.{eitherWayBy, wholeBy, scoresWith, scoredWith, normalisedWith, qualsWith, calledWith, genotypeWith}
+use Rattle.diploid_laws.specs.Tails.{eitherWayBy, wholeBy, scoresWith, scoredWith, qualsWith, calledWith, genotypeWith}
 use Rattle.diploid_laws.proofs.QualityBounds.{zero-times-ten}
 
 -- ---- at `expOf` the definitions over an exponential are the rules' own
@@ -46,7 +45,8 @@ unfolding wholeOver pow10Of
 whole-by-exp [] = refl
 whole-by-exp (x ∷ l) = refl
 
-scores-by-exp : (mode : Mode) (m : Model) (ref alt1 alt2 : ℕ) → scoresWith expOf mode m ref alt1 alt2 ≡ scoresBy larger mode m ref alt1 alt2
+scores-by-exp : (mode : Mode) (m : Model) (ref alt1 alt2 : ℕ)
+    → scoresWith expOf mode m ref alt1 alt2 ≡ scoresBy larger mode m ref alt1 alt2
 scores-by-exp Beta m ref alt1 alt2 = refl
 scores-by-exp Bino m ref alt1 alt2 = refl
 scores-by-exp Phased m ref alt1 alt2 = unfold scoresBy phasedScores eitherWay in refl

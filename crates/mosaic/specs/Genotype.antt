@@ -76,7 +76,8 @@ answerOf max min counts choice = answerFrom min counts choice (probabilities max
 unfoldable pub calledOf : Pick → Pick → Edition → Params → List ℕ → MosaicResult
 calledOf max min e p counts = answerOf max min counts (chosen e p counts)
 
--- R11: no call of a total below the least depth, or where no allele is seen, which is a total of 0 (`none-seen`, mosaic_laws/proofs/Answers.antt)
+-- R11: no call of a total below the least depth, or where no allele is seen, which is a total of 0 (`none-seen`,
+-- mosaic_laws/proofs/Answers.antt)
 abbrev pub callOf : Pick → Pick → Edition → Params → List ℕ → MosaicResult
 callOf max min e p counts = cond (ltb (totalOf counts) (p .depth) || eqb (totalOf counts) 0) (blank NoCall) (calledOf max min e p counts)
 

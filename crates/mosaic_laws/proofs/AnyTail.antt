@@ -1,23 +1,22 @@
 -- What an answer of mosaic owes to the exponential below −708, where it is any number from 0 to 2^−1000: tiny probabilities and, as far as
 -- it is proved, nothing else: `mosaic-tail`, at every input. While exp was 0 there, the answers were these but for that:
 -- `mosaic-unchanged`. Assumes nothing.
-use mathlib.Core.Path.{_≡_, refl, ap, _∙_, subst}
+use mathlib.Core.Path.{_≡_, refl, subst}
 use mathlib.Core.Bool.{Bool, true, false, _||_, cond}
 use mathlib.Core.List.{List, [], _∷_, _++_, map}
-use Prim.Native.Nat.{ℕ, zero, suc, _+_, _-_, _*_, _/_, _≤_, _<_}
+use Prim.Native.Nat.{ℕ, zero, suc, _+_, _-_, _*_, _/_, _≤_}
 use native.Mathlib.Nat.{mul-le-mul}
 use native.Mathlib.Omega.{arith}
 use lib.Dec.{leb, ltb, eqb}
 use lib.ListN.{length, getD, take, replicate, length-map}
 use lib.Ieee.{Float, nan, binary64, lt}
-use lib.Ieee.Fits.{nan-fits, ofInt-fits}
-use lib.IntN.{pos}
+use lib.Ieee.Fits.{nan-fits}
 use Rattle.floats.specs.F64.{_⊗_, nat}
 use Rattle.floats.specs.Tiny.{SameOrTiny, same, Summand}
 use Rattle.kernels.specs.Ln.{lnOf}
 use Rattle.kernels.specs.Exp.{expOf}
 use Rattle.tens.specs.Log10.{pow10Of}
-use Rattle.tens.specs.Normalised.{inTens, lessWhole, wholeOver, normalisedOver}
+use Rattle.tens.specs.Normalised.{inTens, lessWhole}
 use Rattle.bounds.specs.Tail.{Tail, expFlushed, tenBy}
 use Rattle.bounds.proofs.ExpTail.{exp-is-tail, flushed-is-tail, tail-summand, tail-same}
 use Rattle.diploid_laws.specs.Tails.{wholeBy}
@@ -54,7 +53,8 @@ mosaic-by-exp p counts = rw (by-exp (posteriors first p counts) (length (hypothe
 
 -- ---- what two functions give of one list, place by place, filled up
 
-module _ (R : Float → Float → Type 0) (none : R nan nan) (d : Float) (D : R d d) (f g : Float → Float) (h : (x : Float) → R (f x) (g x)) where
+module _ (R : Float → Float → Type 0) (none : R nan nan) (d : Float) (D : R d d) (f g : Float → Float)
+    (h : (x : Float) → R (f x) (g x)) where
   places-of : (l : List Float) (k i : ℕ) → R (getD (map f l ++ replicate k d) i nan) (getD (map g l ++ replicate k d) i nan)
   places-of [] zero i = none
   places-of [] (suc k) zero = D

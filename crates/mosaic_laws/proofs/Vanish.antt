@@ -1,18 +1,16 @@
--- No probability vanishes that is 10^−323 or more: on accepted inputs with a read each is ten to its normalised posterior, `chance-is`, and
--- above zero where that is −323 or more, `chance-positive`. Assumes nothing.
-use mathlib.Core.Path.{_≡_, refl, sym, ap, _∙_, subst}
-use mathlib.Core.Bool.{true, false}
+-- No probability vanishes that is 10^−323 or more: on accepted inputs with a read each is ten to its normalised posterior, `chance-is`,
+-- and above zero where that is −323 or more, `chance-positive`. Assumes nothing.
+use mathlib.Core.Path.{_≡_, ap, _∙_}
 use mathlib.Core.List.{List}
 use Prim.Native.Nat.{ℕ, _≤_, _<_}
 use lib.IntN.{pos, negℤ}
 use lib.Dec.{T, lit≤}
 use lib.ListN.{length, getD, take}
 use lib.Seq.{length-take-le, getD-take}
-use lib.Ieee.{Float, nan, inf, fin, le, ofInt}
+use lib.Ieee.{Float, nan, le}
 use lib.Ieee.Positive.{positive}
-use Rattle.floats.specs.F64.{_⊖_, whole, nat}
+use Rattle.floats.specs.F64.{_⊖_, whole}
 use Rattle.floats.proofs.Bounds.{within-sub}
-use Rattle.floats.proofs.Differences.{nought}
 use Rattle.tens.specs.Log10.{pow10Of}
 use Rattle.tens.specs.Normalised.{inTens, wholeOver}
 use Rattle.bounds.proofs.TenBounds.{pow10-chance-positive}
@@ -36,7 +34,8 @@ use Rattle.mosaic_laws.specs.Tails.{normalisedAt}
 use Rattle.mosaic_laws.proofs.Chances.{in-tens-posterior, whole-within}
 use Rattle.mosaic_laws.proofs.Answers.{some-hypothesis, posteriors-within, posts-length, tens-some, tens-few, tens-posteriors}
 
-module _ (p : Params) (counts : List ℕ) (ok : Accepted p counts) (read : 0 < totalOf counts) (i : ℕ) (there : i < length (hypotheses counts)) where
+module _ (p : Params) (counts : List ℕ) (ok : Accepted p counts) (read : 0 < totalOf counts) (i : ℕ)
+    (there : i < length (hypotheses counts)) where
   abbrev n : ℕ
   n = length (hypotheses counts)
 

@@ -52,7 +52,8 @@ genotypeWith e p counts =
 -- M7: the normalised posterior of the hypothesis in place i, as a decimal logarithm; its probability is ten to this
 abbrev pub normalisedAt : Params → List ℕ → ℕ → Float
 normalisedAt p counts i =
-    let tens = tensOf (posteriors first p counts) (length (hypotheses counts)) in lessWhole smaller (wholeOver larger tens) (getD tens i nan)
+    let tens = tensOf (posteriors first p counts) (length (hypotheses counts)) in
+    lessWhole smaller (wholeOver larger tens) (getD tens i nan)
 
 -- M8: an answer with its quality and its probabilities left out
 abbrev pub withoutChances : MosaicResult → MosaicResult
