@@ -9,7 +9,8 @@ use lib.Ieee.{Float, binary64, fits}
 use lib.Ieee.Fits.{add-fits}
 use Rattle.floats.specs.F64.{_⊕_, _⊗_, ratio, reciprocals, hornerFrom}
 use Rattle.floats.specs.Under.{Under, Over}
-use Rattle.floats.proofs.Sizes.{round-at-most, round-over, under-more, under-mul, over-mul, under-add, over-add, over-plus}
+use Rattle.floats.proofs.Sizes.{round-at-most, round-over, under-more, under-mul, over-mul, under-add, over-add}
+use Rattle.floats.proofs.Quotients.{both-over}
 use Rattle.kernels.specs.Exp.{factorial, factorials, expSeries}
 
 -- ---- the coefficients: 1, 1, and what is at most 1/2
@@ -78,7 +79,7 @@ module _ (r : Float) (small : Under 3 3 r) where
     last-more : Over 33 8 r → Over 17803 14 (last p)
     last-more g =
         let w : Over 1419 14 (nextToLast p ⊗ r) = over-mul next-over g (lit< tt) (lit< tt) (lit≤ tt) (product-under .is-finite) in
-        over-plus w (one-over 14 (lit< tt) (lit≤ tt) (lit< tt) (lit≤ tt)) (lit< tt) (lit< tt) (lit≤ tt) (last-under .is-finite)
+        both-over w (one-over 14 (lit< tt) (lit≤ tt) (lit< tt) (lit≤ tt)) (lit< tt) (lit< tt) (lit≤ tt) (last-under .is-finite)
 
   -- ---- the steps before them keep what runs within 1
 

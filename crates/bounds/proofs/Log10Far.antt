@@ -11,6 +11,8 @@ use lib.Ieee.Positive.{num, den, den-pos, positive}
 use Rattle.floats.specs.F64.{_⊗_, _⊘_, nat, whole}
 use Rattle.floats.specs.Within.{Within}
 use Rattle.floats.specs.Under.{Under, Over}
+use Rattle.floats.proofs.Quotients.{over-div}
+use Rattle.floats.proofs.Negatives.{negative-twice, negatives-times, negative-over}
 use Rattle.floats.proofs.Bounds.{within-mul, within-div, within-neg, within-whole, positive-not-below}
 use Rattle.floats.proofs.Fractions.{lt-fractions}
 use Rattle.floats.proofs.Sizes.{over-mul}
@@ -21,7 +23,6 @@ use Rattle.bounds.proofs.LnBounds.{within-ln}
 use Rattle.bounds.proofs.LnBelow.{whole-negative}
 use Rattle.bounds.proofs.LnFar.{ln-far}
 use Rattle.bounds.proofs.Log10Bounds.{ln-ten-above}
-use Rattle.floats.proofs.Negatives.{negative-twice, negatives-times, negative-over, over-by-under}
 
 -- ln 10 is at most 74/32
 ten-under : Under 74 5 (lnOf (nat 10))
@@ -58,7 +59,7 @@ module _ (x : Float) (f : T (fits binary64 x)) (p : T (positive x)) (u : Under 1
   -- 7440/74 is at least 201/2
   log10-over : Over 201 1 log10Size
   log10-over =
-      over-by-under (ln-far x f p u) (ln-ten-above .is-positive) ten-under 201 1 (lit≤ tt) (lit< tt) (lit< tt) (lit≤ tt)
+      over-div (ln-far x f p u) (ln-ten-above .is-positive) ten-under 201 1 (lit≤ tt) (lit< tt) (lit< tt) (lit≤ tt)
       (log10-within .is-finite)
 
   raw-over : Over 2010 1 (nat 10 ⊗ log10Size)

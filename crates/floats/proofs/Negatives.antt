@@ -1,15 +1,14 @@
--- The negative of a number above zero through sums, products and quotients, with the bounds of `specs/Under.antt` from below; and
--- such a bound of a quotient by what is at most b / 2^j. Assumes nothing.
+-- The negative of a number above zero through sums, products and quotients, with the bounds of `specs/Under.antt` from below. Assumes
+-- nothing.
 use mathlib.Core.Path.{_≡_, refl, ap, subst}
 use mathlib.Core.Bool.{Bool, true, false, Bool·not-not}
 use Prim.Native.Nat.{ℕ, _+_, _-_, _*_, _^_, _≤_, _<_}
-use native.Mathlib.Nat.{le-of-lt, mul-pos, mul-le-mul-right, le-of-mul-le-mul-right, lt-of-mul-lt-mul-right}
+use native.Mathlib.Nat.{le-of-lt, mul-pos, mul-le-mul-right, lt-of-mul-lt-mul-right}
 use native.Mathlib.Omega.{arith}
 use borrow.Author.Tests.{lt-ltb, le-ltb}
 use lib.Dec.{T, ltb→lt}
-use lib.Pow.{pow-pos}
 use lib.Ieee.{Float, nan, inf, fin, binary64, up, down, round, neg, sum, add, mul, div}
-use lib.Ieee.Fits.{up-pos, down-pos}
+use lib.Ieee.Fits.{down-pos}
 use lib.Ieee.Scale.{finite}
 use lib.Ieee.Positive.{positive}
 use Rattle.floats.specs.F64.{_⊕_, _⊗_, _⊘_}
@@ -52,30 +51,6 @@ negative-over (fin false m e) (inf t) p q = absurd q
 negative-over (fin false m e) (fin true n d) p q = absurd q
 negative-over (fin false m e) (fin false n d) p q =
     rw (eqb-zero n (ltb→lt 0 n q)) (negative-is (m * up e * down d) (n * up d * down e))
-
--- what is at least a / 2^j by what is at most b / 2^j
-quotient-shares : (p q a b d g n z w : ℕ) → 0 < z → a * d ≤ p * z → q * z ≤ b * g → n * b ≤ a * w → n * (q * d) ≤ p * g * w
-quotient-shares p q a b d g n z w Z h k l =
-    let r : n * (q * d) * z ≤ p * g * w * z =
-    omega (arith, mul-le-mul-right (n * d) k, mul-le-mul-right (d * g) l, mul-le-mul-right (g * w) h) in
-    le-of-mul-le-mul-right r Z
-
-pub over-by-under : {a b j : ℕ} {x y : Float} → Over a j x → T (positive y) → Under b j y → (n k : ℕ) → n * b ≤ a * 2 ^ k → 0 < n
-    → n < 2 ^ 53 → k ≤ 1074
-    → T (finite (x ⊘ y)) → Over n k (x ⊘ y)
-unfolding div
-over-by-under {x = nan} h p g n k l N L K f = absurd (h .is-positive)
-over-by-under {x = inf s} h p g n k l N L K f = absurd (h .is-positive)
-over-by-under {x = fin true m e} h p g n k l N L K f = absurd (h .is-positive)
-over-by-under {x = fin false m e} {y = nan} h p g n k l N L K f = absurd p
-over-by-under {x = fin false m e} {y = inf t} h p g n k l N L K f = absurd p
-over-by-under {x = fin false m e} {y = fin true q d} h p g n k l N L K f = absurd p
-over-by-under {a} {b} {j} {x = fin false m e} {y = fin false q d} h p g n k l N L K f =
-    let Q : 0 < q = ltb→lt 0 q p in
-    let z = eqb-zero q Q in
-    rw z
-    (round-over (m * up e * down d) (q * up d * down e) n k (mul-pos (mul-pos Q (up-pos d)) (down-pos e)) N L K
-    (quotient-shares (m * up e) (q * up d) a b (down e) (down d) n (2 ^ j) (2 ^ k) (pow-pos j) (h .large) (g .small) l) (rw z at f))
 
 -- ---- the negative of what is at least (a + n) / 2^j, plus what is at most a / 2^j in size
 

@@ -40,14 +40,14 @@ under-div {a} {b} {j} {x = fin s m e} {y = fin false q d} h g n k l B N K =
     (round-at-most (unlike s false) (m * up e * down d) (q * up d * down e) n k (mul-pos (mul-pos Q (up-pos d)) (down-pos e)) N K
     (shares (m * up e) (q * up d) a b (down e) (down d) n (2 ^ j) (2 ^ k) (pow-pos j) B (h .small) (g .large) l))
 
--- and of what is at least a / 2^i by what is at most b
-over-shares : (p q a b d g n z w : ℕ) → 0 < z → a * d ≤ p * z → q ≤ b * g → n * b * z ≤ a * w → n * (q * d) ≤ p * g * w
+-- and of what is at least a / 2^j by what is at most b / 2^j
+over-shares : (p q a b d g n z w : ℕ) → 0 < z → a * d ≤ p * z → q * z ≤ b * g → n * b ≤ a * w → n * (q * d) ≤ p * g * w
 over-shares p q a b d g n z w Z h k l =
     let r : n * (q * d) * z ≤ p * g * w * z =
-    omega (arith, mul-le-mul-right (n * d * z) k, mul-le-mul-right (g * d) l, mul-le-mul-right (g * w) h) in
+    omega (arith, mul-le-mul-right (n * d) k, mul-le-mul-right (d * g) l, mul-le-mul-right (g * w) h) in
     le-of-mul-le-mul-right r Z
 
-pub over-div : {a b i : ℕ} {x y : Float} → Over a i x → T (positive y) → Within b y → (n k : ℕ) → n * b * 2 ^ i ≤ a * 2 ^ k → 0 < n
+pub over-div : {a b j : ℕ} {x y : Float} → Over a j x → T (positive y) → Under b j y → (n k : ℕ) → n * b ≤ a * 2 ^ k → 0 < n
     → n < 2 ^ 53 → k ≤ 1074
     → T (finite (x ⊘ y)) → Over n k (x ⊘ y)
 unfolding div
@@ -57,12 +57,12 @@ over-div {x = fin true m e} h p g n k l N L K f = absurd (h .is-positive)
 over-div {x = fin false m e} {y = nan} h p g n k l N L K f = absurd p
 over-div {x = fin false m e} {y = inf t} h p g n k l N L K f = absurd p
 over-div {x = fin false m e} {y = fin true q d} h p g n k l N L K f = absurd p
-over-div {a} {b} {i} {x = fin false m e} {y = fin false q d} h p g n k l N L K f =
+over-div {a} {b} {j} {x = fin false m e} {y = fin false q d} h p g n k l N L K f =
     let Q : 0 < q = ltb→lt 0 q p in
     let z = eqb-zero q Q in
     rw z
     (round-over (m * up e * down d) (q * up d * down e) n k (mul-pos (mul-pos Q (up-pos d)) (down-pos e)) N L K
-    (over-shares (m * up e) (q * up d) a b (down e) (down d) n (2 ^ i) (2 ^ k) (pow-pos i) (h .large) (g .small) l) (rw z at f))
+    (over-shares (m * up e) (q * up d) a b (down e) (down d) n (2 ^ j) (2 ^ k) (pow-pos j) (h .large) (g .small) l) (rw z at f))
 
 -- ---- a sum of what is at least a / 2^j and what is at least b / 2^j
 

@@ -228,23 +228,6 @@ over-add {a} {b} {j} {x = fin s m e} {y = fin false q d} h k n g N l J t =
         (le-trans (mul-le-mul-right (d * f) g)
         (le-trans (le-of-eq (ap (λ (z : ℕ). b * z) (mul-comm d f) ∙ sym (mul-assoc b f d))) (le-trans (mul-le-mul-right d k) (le-of-eq (mul-right-comm q (2 ^ j) d))))))
 
--- the sum of two that are above zero
-pub over-plus : {a b j : ℕ} {x y : Float} → Over a j x → Over b j y → 0 < a + b → a + b < 2 ^ 53 → j ≤ 1074 → T (finite (x ⊕ y))
-    → Over (a + b) j (x ⊕ y)
-unfolding add sum
-over-plus {x = nan} {y} h k z l J t = absurd (h .is-positive)
-over-plus {x = inf s} {y} h k z l J t = absurd (h .is-positive)
-over-plus {x = fin true m e} {y} h k z l J t = absurd (h .is-positive)
-over-plus {x = fin false m e} {y = nan} h k z l J t = absurd (k .is-positive)
-over-plus {x = fin false m e} {y = inf s} h k z l J t = absurd (k .is-positive)
-over-plus {x = fin false m e} {y = fin true q d} h k z l J t = absurd (k .is-positive)
-over-plus {a} {b} {j} {x = fin false m e} {y = fin false q d} h k z l J t =
-    round-over (m * up e * down d + q * up d * down e) (down e * down d) (a + b) j (mul-pos (down-pos e) (down-pos d)) z l J
-    (both (m * up e) (q * up d) (down e) (down d) (2 ^ j) (h .large) (k .large)) t
-  where
-    both : (p q d f z : ℕ) → a * d ≤ p * z → b * f ≤ q * z → (a + b) * (d * f) ≤ (p * f + q * d) * z
-    both p q d f z h k = omega (arith, mul-le-mul-right f h, mul-le-mul-right d k)
-
 -- ---- the product of two that are above zero is so, where the product of their lower ends rounds to more than zero
 
 above-positive : (x : Float) → T (above x) → T (finite x) → T (positive x)

@@ -16,8 +16,9 @@ use lib.Ieee.Positive.{num, den, positive, positive-finite, le→cross}
 use Rattle.lists.specs.Lists.{numbers}
 use Rattle.lists.proofs.PlaceLaws.{number-at, numbers-length, map-at}
 use Rattle.floats.specs.F64.{_⊘_, nat, decimal}
-use Rattle.floats.specs.Within.{Within, Above, NotBelow}
+use Rattle.floats.specs.Within.{Within, Above}
 use Rattle.floats.specs.Under.{Over}
+use Rattle.floats.proofs.Sizes.{within-under, under-more}
 use Rattle.floats.proofs.Bounds.{zero-not-below, within-whole, within-fraction, within-more}
 use Rattle.floats.proofs.Bounds.{within-ratio, above-fraction, positive-not-below}
 use Rattle.floats.proofs.Fractions.{le-fractions}
@@ -113,7 +114,8 @@ module _ (n : ℕ) (h : Pair) (c : ℕ) (used : c < inUse n) where
       let q = total-above .is-positive in
       let most = within-ratio term total (positive-finite term p) q (le→cross term total p q term-at-most) in
       let over : Over 1 10 term = record { is-positive = p; large = one-mul-le (den term) (num term * 2 ^ 10) (t .large) } in
-      let positive = over-div over q total-within 1 13 (lit≤ tt) (lit< tt) (lit< tt) (lit≤ tt) (most .is-finite) .is-positive in
+      let most-total = under-more (within-under total-within) 8192 10 (lit≤ tt) in
+      let positive = over-div over q most-total 1 13 (lit≤ tt) (lit< tt) (lit< tt) (lit≤ tt) (most .is-finite) .is-positive in
       record { above-zero = zero-below (term ⊘ total) positive; at-most-one = at-most-one (term ⊘ total) positive most }
     where
       one-mul-le : (d n : ℕ) → d ≤ n → 1 * d ≤ n
