@@ -37,6 +37,7 @@ kOf x = nearestWhole (x ⊗ log2e)
 abbrev pub argument : Float → Float
 argument x = x ⊖ whole (kOf x) ⊗ hi ⊖ whole (kOf x) ⊗ lo
 
+-- the three ends: below the first it is 0, below the second it goes by way of 2^(k + 54), above the third it is plus infinity
 abbrev pub least : Float
 least = whole (negℤ (pos 745))
 
