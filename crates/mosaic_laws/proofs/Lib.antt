@@ -20,3 +20,4 @@ pub mod Count
 pub mod TinyWrong
 pub mod AnyTail
 pub mod Vanish
+pub mod NoZero

@@ -1,0 +1,361 @@
+-- An answer in whose list no hypothesis has the probability 0 is the same in every bit whether exp is 0 below −708, as it once was, or
+-- what K4 says: `no-zero-same`, for any number of seen alleles. Where exp is 0 below −708 and no probability is 0, it was taken nowhere
+-- below −708: not at the normalised posteriors, and so not in the sum that they are normalised by, since that is not below its largest
+-- summand. Over any exponential: `no-tail-same`. Assumes nothing.
+use mathlib.Core.Path.{_≡_, refl, ap, _∙_, subst}
+use mathlib.Core.Logic.{inl, inr}
+use mathlib.Core.Bool.{Bool, true, false, _||_, cond}
+use mathlib.Core.List.{List, [], _∷_, map}
+use Prim.Native.Nat.{ℕ, _+_, _-_, _*_, _^_, _≤_, _<_}
+use native.Mathlib.Omega.{arith}
+use borrow.Author.Tests.{leb-true}
+use lib.IntN.{pos, negℤ}
+use lib.Dec.{T, leb, ltb, eqb, lit≤}
+use lib.ListN.{length, getD, take, replicate, length-map, List·getD-append}
+use lib.Seq.{length-take-le}
+use lib.Ieee.{Float, nan, fin, binary64, lt, le, ofInt, fits}
+use lib.Ieee.Fits.{cond-fits, ofInt-fits, sub-fits, mul-fits}
+use lib.Ieee.Positive.{positive, above-of-le}
+use Rattle.lists.specs.Every.{Each, Among}
+use Rattle.lists.proofs.PlaceLaws.{map-at}
+use Rattle.floats.specs.F64.{_⊖_, _⊗_, whole, nat, sumFrom}
+use Rattle.floats.specs.Within.{Within, UpTo}
+use Rattle.floats.specs.Tiny.{Summand}
+use Rattle.floats.proofs.Bounds.{within-more, within-whole, within-add, within-sub, within-mul}
+use Rattle.floats.proofs.Clear.{clear-not-below, clear-div}
+use Rattle.floats.proofs.Differences.{less-itself, not-below}
+use Rattle.floats.proofs.Monotone.{sub-from-order, mul-order, add-not-below}
+use Rattle.floats.proofs.Ranges.{above-finite}
+use Rattle.floats.proofs.Sizes.{under-within}
+use Rattle.floats.proofs.TinySums.{summand-sum, from-one-among}
+use Rattle.floats.proofs.Zeros.{Number}
+use Rattle.kernels.specs.Ln.{lnOf}
+use Rattle.kernels.specs.Exp.{expOf}
+use Rattle.tens.specs.Log10.{log10Of, pow10Of}
+use Rattle.tens.specs.Normalised.{inTens, largestFrom, lessWhole}
+use Rattle.bounds.specs.Tail.{Tail, expFlushed, tenBy}
+use Rattle.bounds.proofs.ExpBounds.{deep, lt-number}
+use Rattle.bounds.proofs.ExpTail.{flushed-is-tail, tail-summand, tail-zero}
+use Rattle.bounds.proofs.LnSigns.{one-positive, ln-clear}
+use Rattle.bounds.proofs.Log10Bounds.{within-log10}
+use Rattle.picks.specs.Order.{larger, smaller}
+use Rattle.diploid_laws.specs.Tails.{wholeBy}
+use Rattle.diploid_laws.proofs.Largest.{either-of, larger-left, larger-right}
+use Rattle.diploid_laws.proofs.QualityBounds.{ten-above, ten-within, zero-times-ten, smaller-zero}
+use Rattle.diploid_laws.proofs.Signs.{NotAbove, lt-itself, lt-not-back, no-trans, difference-not-above}
+use Rattle.refusals.specs.declared.Refusal.the-variants.{TooMany, Count, Model, NoCall}
+use Rattle.limits.specs.Limits.{countsAllowed}
+use Rattle.models.specs.declared.params.Params.{Params}
+use Rattle.probabilities.specs.Quality.{tensOf}
+use Rattle.probabilities.proofs.InUse.{in-use-all}
+use Rattle.alleles.specs.Alleles.{totalOf}
+use Rattle.hypotheses.specs.Edition.{first}
+use Rattle.hypotheses.specs.Hypotheses.{hypotheses}
+use Rattle.hypotheses.specs.Choice.{posteriors}
+use Rattle.hypotheses.proofs.Scanned.{at-most-36}
+use Rattle.mosaic.specs.Allowed.{paramsAllowed}
+use Rattle.mosaic.specs.Genotype.{blank, genotypeOf}
+use Rattle.mosaic.specs.declared.genotype.MosaicResult.{MosaicResult}
+use Rattle.mosaic_laws.specs.Accepted.{Accepted}
+use Rattle.mosaic_laws.specs.Tails.{probabilitiesWith, calledWith, genotypeWith}
+use Rattle.mosaic_laws.proofs.Chances.{chance-add, chance-more, pow10-chance, each-place, DecimalPosterior}
+use Rattle.mosaic_laws.proofs.Answers.{posts-length, tens-few, tens-posteriors}
+use Rattle.mosaic_laws.proofs.AnyTail.{mosaic-by-exp}
+
+-- ---- order
+
+decimal-number : {x : Float} → DecimalPosterior x → Number x
+decimal-number X = record { is-finite = X .within .is-finite; is-f64 = X .is-f64 }
+
+deep-number : Number deep
+deep-number = record {
+  is-finite = within-whole (negℤ (pos 708)) 708 (lit≤ tt) (lit≤ tt) .is-finite;
+  is-f64 = ofInt-fits binary64 (negℤ (pos 708));
+}
+
+-- the smaller of two is not above the first
+smaller-left : (a b : Float) → lt a (smaller a b) ≡ false
+smaller-left a b = go (lt b a) refl
+  where
+    go : (t : Bool) → lt b a ≡ t → lt a (cond t b a) ≡ false
+    go true h = lt-not-back b a h
+    go false h = lt-itself a
+
+-- ---- the largest of a list
+
+-- t is one of the list, and none of them is above it
+record Largest (l : List Float) (t : Float) : Type 0 where
+  posterior : DecimalPosterior t
+  none-above : Each (λ y. lt t y ≡ false) l
+  is-one : Among (λ y. t ≡ y) l
+
+largest-is : (x : Float) (l : List Float) → DecimalPosterior x → Each DecimalPosterior l → Largest (x ∷ l) (largestFrom larger x l)
+largest-is x [] X L = record { posterior = X; none-above = (lt-itself x, tt); is-one = inl refl }
+largest-is x (y ∷ l) X L =
+    let z = larger x y in
+    let Z = either-of DecimalPosterior (lt x y) x y X (L .0) in
+    let h = largest-is z l Z (L .1) in
+    let t = largestFrom larger z l in
+    let through : (v : Float) → DecimalPosterior v → lt z v ≡ false → lt t v ≡ false = λ v W k.
+    no-trans v z t (decimal-number W) (decimal-number Z) (decimal-number (h .posterior)) k (h .none-above .0) in
+    record {
+      posterior = h .posterior;
+      none-above = (through x X (larger-left x y), (through y (L .0) (larger-right x y), h .none-above .1));
+      is-one = elim (h .is-one) [ inl e ↦ one-of (lt x y) t e | inr r ↦ inr (inr r) ];
+    }
+  where
+    one-of : (b : Bool) (t : Float) → t ≡ cond b y x → Among (λ v. t ≡ v) (x ∷ y ∷ l)
+    one-of true t e = inr (inl e)
+    one-of false t e = inl e
+
+among-is : (P : Float → Type 0) (t : Float) (l : List Float) → P t → Among (λ y. t ≡ y) l → Among P l
+among-is P t (y ∷ l) h s = elim s [ inl e ↦ inl (subst P e h) | inr r ↦ inr (among-is P t l h r) ]
+
+-- ---- two functions that agree at each member
+
+map-agrees : (f g : Float → Float) (P Q : Float → Type 0) → ((y : Float) → P y → Q y → f y ≡ g y) → (l : List Float)
+    → Each P l → Each Q l → map f l ≡ map g l
+map-agrees f g P Q h [] p q = refl
+map-agrees f g P Q h (y ∷ l) p q = rw (h y (p .0) (q .0), map-agrees f g P Q h l (p .1) (q .1))
+
+-- ---- where exp is taken for a probability: y less the whole w, at most 0, times ln 10; here it is not below −708
+
+abbrev NotDeep : Float → Float → Type 0
+NotDeep w y = lt (lessWhole smaller w y ⊗ lnOf (nat 10)) deep ≡ false
+
+one-not-below : lt (fin false 1 (pos 0)) (nat 1) ≡ false
+unfolding lt ofInt
+one-not-below = refl
+
+module _ (e : Float → Float) (tail : Tail e) where
+  -- ten to a y of at most 0
+  ten-chance : {n : ℕ} (y : Float) → Within n y → NotAbove y → n * 3 ≤ 2 ^ 53 → UpTo 1 (tenBy e y)
+  ten-chance y w h l = go (lt (y ⊗ lnOf (nat 10)) deep) refl
+    where
+      go : (t : Bool) → lt (y ⊗ lnOf (nat 10)) deep ≡ t → UpTo 1 (tenBy e y)
+      go true k =
+          let s = tail .below-708 (y ⊗ lnOf (nat 10)) k in
+          record { within = under-within (s .small) 1 (lit≤ tt); not-negative = s .not-negative }
+      go false k =
+          let c : UpTo 1 (tenBy expOf y) = unfold pow10Of in pow10-chance y w h l in
+          rw (tail .from-708 (y ⊗ lnOf (nat 10)) k) c
+
+  -- ---- the whole of x and a list is not below the largest
+
+  module _ (x : Float) (l : List Float) (X : DecimalPosterior x) (L : Each DecimalPosterior l) (few : length l ≤ 36) where
+    abbrev top : Float
+    top = largestFrom larger x l
+
+    the-top : Largest (x ∷ l) top
+    the-top = largest-is x l X L
+
+    abbrev power : Float → Float
+    power y = tenBy e (y ⊖ top)
+
+    power-chance : (y : Float) → DecimalPosterior y → lt top y ≡ false → UpTo 1 (power y)
+    power-chance y Y h =
+        let t = the-top .posterior .within in
+        let w = within-sub (Y .within) t (lit≤ tt) in
+        ten-chance (y ⊖ top) w (difference-not-above y top (Y .within .is-finite) (t .is-finite) w h) (lit≤ tt)
+
+    sum-chance : (k : List Float) {n : ℕ} {s : Float} → Each DecimalPosterior k → Each (λ y. lt top y ≡ false) k → UpTo n s
+        → n + length k ≤ 2 ^ 53 → UpTo (n + length k) (sumFrom s (map power k))
+    sum-chance [] K H S m = chance-more S (omega arith)
+    sum-chance (y ∷ k) K H S m =
+        chance-more
+        (sum-chance k (K .1) (H .1) (chance-add S (power-chance y (K .0) (H .0)) (omega arith)) (omega arith)) (omega arith)
+
+    abbrev sum : Float
+    sum = sumFrom (power x) (map power l)
+
+    sum-within : UpTo (1 + length l) sum
+    sum-within =
+        let n = the-top .none-above in
+        sum-chance l L (n .1) (power-chance x X (n .0)) (omega arith)
+
+    summand : (y : Float) → Summand (power y)
+    summand y = tail-summand e tail ((y ⊖ top) ⊗ lnOf (nat 10))
+
+    sum-fits : T (fits binary64 sum)
+    sum-fits = summand-sum power summand l (summand x) .is-f64
+
+    -- the largest is among them, and its power is 1
+    sum-from-one : T (le (nat 1) sum)
+    sum-from-one =
+        let at-top : lt (power top) (nat 1) ≡ false =
+        rw (less-itself top (the-top .posterior .within .is-finite), zero-times-ten false, tail-zero e tail false) one-not-below in
+        let some = among-is (λ y. lt (power y) (nat 1) ≡ false) top (x ∷ l) at-top (the-top .is-one) in
+        not-below sum (nat 1) (sum-within .within .is-finite) (within-whole (pos 1) 1 (lit≤ tt) (lit≤ tt) .is-finite)
+        (from-one-among power summand x l some)
+
+    sum-positive : T (positive sum)
+    sum-positive = above-finite sum (above-of-le (nat 1) sum one-positive sum-from-one) (sum-within .within .is-finite)
+
+    log-chance : UpTo (2 ^ 12) (log10Of sum)
+    unfolding log10Of
+    log-chance =
+        let w = within-log10 sum sum-fits sum-positive in
+        let c = ln-clear sum sum-fits (sum-within .within .is-finite) sum-from-one in
+        record {
+          within = w;
+          not-negative = clear-not-below (log10Of sum) (clear-div (lnOf sum) (lnOf (nat 10)) c (ten-above .is-positive) (w .is-finite));
+        }
+
+    abbrev w : Float
+    w = wholeBy e (x ∷ l)
+
+    whole-within : Within (2 ^ 48) w
+    whole-within = within-more (within-add (the-top .posterior .within) (log-chance .within) (lit≤ tt)) (lit≤ tt)
+
+    whole-not-below : lt w top ≡ false
+    whole-not-below = add-not-below top (log10Of sum) (the-top .posterior .within) (the-top .posterior .is-f64) log-chance (lit≤ tt)
+
+    -- so what is not deep less the whole is not deep less the largest
+    less-top : (y : Float) → DecimalPosterior y → NotDeep w y → lt ((y ⊖ top) ⊗ lnOf (nat 10)) deep ≡ false
+    less-top y Y h =
+        let ten = lnOf (nat 10) in
+        let a = y ⊖ top in
+        let b = y ⊖ w in
+        let c = smaller b (nat 0) in
+        let t = within-more (the-top .posterior .within) (lit≤ tt) in
+        let A : Within (2 ^ 47 + 2 ^ 48) a = within-sub (Y .within) t (lit≤ tt) in
+        let B : Within (2 ^ 47 + 2 ^ 48) b = within-sub (Y .within) whole-within (lit≤ tt) in
+        let C : Within (2 ^ 47 + 2 ^ 48) c = smaller-zero b B .0 in
+        let fit = sub-fits binary64 y w in
+        let order : lt a c ≡ false =
+        no-trans c b a
+        (record { is-finite = C .is-finite; is-f64 = cond-fits binary64 (lt (nat 0) b) (nat 0) b (ofInt-fits binary64 (pos 0)) fit })
+        (record { is-finite = B .is-finite; is-f64 = fit })
+        (record { is-finite = A .is-finite; is-f64 = sub-fits binary64 y top })
+        (smaller-left b (nat 0)) (sub-from-order y top w (Y .within) t whole-within (lit≤ tt) whole-not-below) in
+        no-trans deep (c ⊗ ten) (a ⊗ ten) deep-number
+        (record { is-finite = within-mul C ten-within (lit≤ tt) .is-finite; is-f64 = mul-fits binary64 c ten })
+        (record { is-finite = within-mul A ten-within (lit≤ tt) .is-finite; is-f64 = mul-fits binary64 a ten })
+        h (mul-order a c ten A C ten-within (ten-above .is-positive) (lit≤ tt) order)
+
+    power-same : (y : Float) → DecimalPosterior y → NotDeep w y → power y ≡ tenBy expOf (y ⊖ top)
+    power-same y Y h = tail .from-708 ((y ⊖ top) ⊗ lnOf (nat 10)) (less-top y Y h)
+
+    whole-from : Each (NotDeep w) (x ∷ l) → w ≡ wholeBy expOf (x ∷ l)
+    whole-from h =
+        rw (
+          power-same x X (h .0),
+          map-agrees power (λ y. tenBy expOf (y ⊖ top)) DecimalPosterior (NotDeep w) power-same l L (h .1),
+        )
+
+  whole-same : (l : List Float) → length l ≤ 36 → Each DecimalPosterior l → Each (NotDeep (wholeBy e l)) l → wholeBy e l ≡ wholeBy expOf l
+  whole-same [] few L h = refl
+  whole-same (x ∷ l) few L h = whole-from x l (L .0) (L .1) (omega arith) h
+
+-- ---- the probabilities
+
+module _ (e : Float → Float) (p : Params) (counts : List ℕ) (ok : Accepted p counts) where
+  abbrev n : ℕ
+  n = length (hypotheses counts)
+
+  abbrev posts : List Float
+  posts = posteriors first p counts
+
+  abbrev tens : List Float
+  tens = tensOf posts n
+
+  abbrev normal : List Float
+  normal = map (lessWhole smaller (wholeBy e tens)) tens
+
+  chances-same : Tail e → Each (NotDeep (wholeBy e tens)) tens → probabilitiesWith e posts n ≡ probabilitiesWith expOf posts n
+  unfolding probabilitiesWith
+  chances-same tail h =
+      let same : map (tenBy e) normal ≡ map (tenBy expOf) normal = each-ten (wholeBy e tens) tens h in
+      rw (in-use-all n (at-most-36 counts), ← whole-same e tail tens (tens-few p counts ok) (tens-posteriors p counts ok) h, same)
+    where
+      each-ten : (w : Float) (l : List Float) → Each (NotDeep w) l
+          → map (tenBy e) (map (lessWhole smaller w) l) ≡ map (tenBy expOf) (map (lessWhole smaller w) l)
+      each-ten w [] h = refl
+      each-ten w (y ∷ l) h = rw (tail .from-708 (lessWhole smaller w y ⊗ lnOf (nat 10)) (h .0), each-ten w l (h .1))
+
+  called-same : Tail e → Each (NotDeep (wholeBy e tens)) tens → calledWith e p counts ≡ calledWith expOf p counts
+  called-same tail h = rw (chances-same tail h)
+
+  tens-length : length tens ≡ n
+  tens-length =
+      length-map (take n posts) inTens ∙ length-take-le n posts (rw (posts-length p counts ok) (at-most-36 counts))
+
+  -- the probability in place i
+  chance-at : (i : ℕ) → i < length tens
+      → getD (probabilitiesWith e posts n) i nan ≡ tenBy e (lessWhole smaller (wholeBy e tens) (getD tens i nan))
+  unfolding probabilitiesWith
+  chance-at i h =
+      let less = lessWhole smaller (wholeBy e tens) in
+      let m : i < length normal = rw (length-map tens less) h in
+      let q : i < length (map (tenBy e) normal) = rw (length-map normal (tenBy e)) m in
+      rw (in-use-all n (at-most-36 counts))
+      (List·getD-append (map (tenBy e) normal) (replicate (36 - length (map (tenBy e) normal)) (nat 0)) nan i q
+      ∙ map-at (tenBy e) normal nan nan i m ∙ ap (tenBy e) (map-at less tens nan nan i h))
+
+-- ---- the answer, by its refusals
+
+-- a condition under which a call is the same is one under which every answer is: a refusal takes no exponential
+by-refusals : (e : Float → Float) (p : Params) (counts : List ℕ) → T (fits binary64 (p .alpha)) → T (fits binary64 (p .beta))
+    → (H : MosaicResult → Type 0)
+    → (Accepted p counts → H (calledWith e p counts) → calledWith e p counts ≡ calledWith expOf p counts)
+    → H (genotypeWith e p counts)
+    → genotypeWith e p counts ≡ genotypeOf p counts
+by-refusals e p counts alpha beta H called h =
+    go (leb (length counts) 8) (paramsAllowed p) (countsAllowed counts) (ltb (totalOf counts) (p .depth) || eqb (totalOf counts) 0)
+    refl refl refl h
+    ∙ mosaic-by-exp p counts
+  where
+    answer : (Float → Float) → Bool → Bool → Bool → Bool → MosaicResult
+    answer e a b c d =
+        cond a (cond b (cond c (cond d (blank NoCall) (calledWith e p counts)) (blank Count)) (blank Model)) (blank TooMany)
+
+    go : (a b c d : Bool) → leb (length counts) 8 ≡ a → paramsAllowed p ≡ b → countsAllowed counts ≡ c → H (answer e a b c d)
+        → answer e a b c d ≡ answer expOf a b c d
+    go false b c d q r s h = refl
+    go true false c d q r s h = refl
+    go true true false d q r s h = refl
+    go true true true true q r s h = refl
+    go true true true false q r s h =
+        let few = leb-true (length counts) 8 q in
+        called (record { params-are = r; alpha-is-f64 = alpha; beta-is-f64 = beta; counts-are = s; few = few }) h
+
+-- where no probability is ten to less than −708 / ln 10, an answer owes nothing to the exponential below −708
+pub no-tail-same : (e : Float → Float) → Tail e → (p : Params) (counts : List ℕ)
+    → T (fits binary64 (p .alpha)) → T (fits binary64 (p .beta))
+    → (let tens = tensOf (posteriors first p counts) (length (hypotheses counts)) in
+    Each (λ y. lt (lessWhole smaller (wholeBy e tens) y ⊗ lnOf (nat 10)) (whole (negℤ (pos 708))) ≡ false) tens)
+    → genotypeWith e p counts ≡ genotypeOf p counts
+no-tail-same e tail p counts alpha beta h =
+    by-refusals e p counts alpha beta (λ _. Unit) (λ ok _. called-same e p counts ok tail h) tt
+
+-- ---- while exp was 0 below −708
+
+flushed-not-deep : (x : Float) → (expFlushed x ≡ nat 0 → ⊥) → lt x deep ≡ false
+unfolding expFlushed
+flushed-not-deep x some = go (lt x deep) refl
+  where
+    go : (t : Bool) → lt x deep ≡ t → t ≡ false
+    go true h = absurd (some (rw (lt-number x deep h .0, h)))
+    go false h = refl
+
+abbrev NoneZero : MosaicResult → Type 0
+NoneZero a = (i : ℕ) → i < a .hypotheses → getD (a .probabilities) i nan ≡ nat 0 → ⊥
+
+none-deep : (p : Params) (counts : List ℕ) → Accepted p counts → NoneZero (calledWith expFlushed p counts)
+    → let tens = tensOf (posteriors first p counts) (length (hypotheses counts)) in Each (NotDeep (wholeBy expFlushed tens)) tens
+none-deep p counts ok some =
+    let tens = tensOf (posteriors first p counts) (length (hypotheses counts)) in
+    let w = wholeBy expFlushed tens in
+    each-place (NotDeep w) tens (λ i m.
+    flushed-not-deep (lessWhole smaller w (getD tens i nan) ⊗ lnOf (nat 10)) (λ z.
+    some i (subst (λ (k : ℕ). i < k) (tens-length expFlushed p counts ok) m) (chance-at expFlushed p counts ok i m ∙ z)))
+
+-- what was recorded then with no probability of 0 is what is answered now, in every bit
+pub no-zero-same : (p : Params) (counts : List ℕ) → T (fits binary64 (p .alpha)) → T (fits binary64 (p .beta))
+    → ((i : ℕ) → i < genotypeWith expFlushed p counts .hypotheses
+    → getD (genotypeWith expFlushed p counts .probabilities) i nan ≡ nat 0
+    → ⊥)
+    → genotypeWith expFlushed p counts ≡ genotypeOf p counts
+no-zero-same p counts alpha beta h =
+    by-refusals expFlushed p counts alpha beta NoneZero
+    (λ ok some. called-same expFlushed p counts ok flushed-is-tail (none-deep p counts ok some)) h
