@@ -81,7 +81,7 @@ unfolding lt ofInt
 one-not-below = refl
 
 -- the largest of a list is among it
-largest-among : (P : Float → Type 0) (x : Float) (l : List Float) → P (largestFrom larger x l) → Among P (x ∷ l)
+pub largest-among : (P : Float → Type 0) (x : Float) (l : List Float) → P (largestFrom larger x l) → Among P (x ∷ l)
 largest-among P x [] h = inl h
 largest-among P x (y ∷ l) h = go (lt x y) refl (largest-among P (larger x y) l h)
   where
@@ -98,7 +98,7 @@ module _ (e : Float → Float) (tail : Tail e) where
     | inr h ↦ rw (h, tail-zero e tail false) one-not-below
   ]
 
-  ten-from-one : (z : Float) → lt (tenBy e (z ⊖ z)) (nat 1) ≡ false
+  pub ten-from-one : (z : Float) → lt (tenBy e (z ⊖ z)) (nat 1) ≡ false
   ten-from-one z = elim (itself z) [
     | inl h ↦ rw h (unfold mul in rw (tail-nan e tail) (unfold lt in refl))
     | inr h ↦ rw (h, zero-times-ten false, tail-zero e tail false) one-not-below

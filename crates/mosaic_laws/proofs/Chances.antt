@@ -81,7 +81,7 @@ pub in-tens-posterior : (x : Float) → Within (2 ^ 47) x → DecimalPosterior (
 in-tens-posterior x w = record { within = within-div w ten-above (lit≤ tt); is-f64 = div-fits binary64 x (lnOf (nat 10)) }
 
 -- t is one of x and l, and none of them is above it
-record Top (x : Float) (l : List Float) (t : Float) : Type 0 where
+pub record Top (x : Float) (l : List Float) (t : Float) : Type 0 where
   pub posterior : DecimalPosterior t
   pub first-below : lt t x ≡ false
   pub rest-below : Each (λ y. lt t y ≡ false) l
@@ -93,7 +93,7 @@ top-through x y t X Y H h k =
     not-below-trans x y t (X .is-f64) (Y .is-f64) (H .is-f64) (within-number (X .within)) (within-number (Y .within))
     (within-number (H .within)) h k
 
-top-is : (x : Float) (l : List Float) → DecimalPosterior x → Each DecimalPosterior l → Top x l (largestFrom larger x l)
+pub top-is : (x : Float) (l : List Float) → DecimalPosterior x → Each DecimalPosterior l → Top x l (largestFrom larger x l)
 top-is x [] X L = record { posterior = X; first-below = lt-itself x; rest-below = tt; is-one = inl refl }
 top-is x (y ∷ l) X L =
     let z = larger x y in

@@ -3,7 +3,6 @@
 -- below −708: not at the normalised posteriors, and so not in the sum that they are normalised by, since that is not below its largest
 -- summand. Over any exponential: `no-tail-same`. Assumes nothing.
 use mathlib.Core.Path.{_≡_, refl, ap, _∙_, subst}
-use mathlib.Core.Logic.{inl, inr}
 use mathlib.Core.Bool.{Bool, true, false, _||_, cond}
 use mathlib.Core.List.{List, [], _∷_, map}
 use Prim.Native.Nat.{ℕ, _+_, _-_, _*_, _^_, _≤_, _<_}
@@ -13,17 +12,17 @@ use lib.IntN.{pos, negℤ}
 use lib.Dec.{T, leb, ltb, eqb, lit≤}
 use lib.ListN.{length, getD, take, replicate, length-map, List·getD-append}
 use lib.Seq.{length-take-le}
-use lib.Ieee.{Float, nan, fin, binary64, lt, le, ofInt, fits}
+use lib.Ieee.{Float, nan, binary64, lt, le, fits}
 use lib.Ieee.Fits.{cond-fits, ofInt-fits, sub-fits, mul-fits}
 use lib.Ieee.Positive.{positive, above-of-le}
-use Rattle.lists.specs.Every.{Each, Among}
+use Rattle.lists.specs.Every.{Each}
 use Rattle.lists.proofs.PlaceLaws.{map-at}
 use Rattle.floats.specs.F64.{_⊖_, _⊗_, whole, nat, sumFrom}
 use Rattle.floats.specs.Within.{Within, UpTo}
 use Rattle.floats.specs.Tiny.{Summand}
 use Rattle.floats.proofs.Bounds.{within-more, within-whole, within-add, within-sub, within-mul}
 use Rattle.floats.proofs.Clear.{clear-not-below, clear-div}
-use Rattle.floats.proofs.Differences.{less-itself, not-below}
+use Rattle.floats.proofs.Differences.{not-below}
 use Rattle.floats.proofs.Monotone.{sub-from-order, mul-order, add-not-below}
 use Rattle.floats.proofs.Ranges.{above-finite}
 use Rattle.floats.proofs.Sizes.{under-within}
@@ -35,13 +34,13 @@ use Rattle.tens.specs.Log10.{log10Of, pow10Of}
 use Rattle.tens.specs.Normalised.{inTens, largestFrom, lessWhole}
 use Rattle.bounds.specs.Tail.{Tail, expFlushed, tenBy}
 use Rattle.bounds.proofs.ExpBounds.{deep, lt-number}
-use Rattle.bounds.proofs.ExpTail.{flushed-is-tail, tail-summand, tail-zero}
+use Rattle.bounds.proofs.ExpTail.{flushed-is-tail, tail-summand}
 use Rattle.bounds.proofs.LnSigns.{one-positive, ln-clear}
 use Rattle.bounds.proofs.Log10Bounds.{within-log10}
 use Rattle.picks.specs.Order.{larger, smaller}
 use Rattle.diploid_laws.specs.Tails.{wholeBy}
-use Rattle.diploid_laws.proofs.Largest.{either-of, larger-left, larger-right}
-use Rattle.diploid_laws.proofs.QualityBounds.{ten-above, ten-within, zero-times-ten, smaller-zero}
+use Rattle.diploid_laws.proofs.AnyTail.{largest-among, ten-from-one}
+use Rattle.diploid_laws.proofs.QualityBounds.{ten-above, ten-within, smaller-zero}
 use Rattle.diploid_laws.proofs.Signs.{NotAbove, lt-itself, lt-not-back, no-trans, difference-not-above}
 use Rattle.refusals.specs.declared.Refusal.the-variants.{TooMany, Count, Model, NoCall}
 use Rattle.limits.specs.Limits.{countsAllowed}
@@ -57,8 +56,8 @@ use Rattle.mosaic.specs.Allowed.{paramsAllowed}
 use Rattle.mosaic.specs.Genotype.{blank, genotypeOf}
 use Rattle.mosaic.specs.declared.genotype.MosaicResult.{MosaicResult}
 use Rattle.mosaic_laws.specs.Accepted.{Accepted}
-use Rattle.mosaic_laws.specs.Tails.{probabilitiesWith, calledWith, genotypeWith}
-use Rattle.mosaic_laws.proofs.Chances.{chance-add, chance-more, pow10-chance, each-place, DecimalPosterior}
+use Rattle.mosaic_laws.specs.Tails.{probabilitiesWith, calledWith, genotypeWith, NoneZero}
+use Rattle.mosaic_laws.proofs.Chances.{chance-add, chance-more, pow10-chance, each-place, DecimalPosterior, Top, top-is}
 use Rattle.mosaic_laws.proofs.Answers.{posts-length, tens-few, tens-posteriors}
 use Rattle.mosaic_laws.proofs.AnyTail.{mosaic-by-exp}
 
@@ -81,36 +80,6 @@ smaller-left a b = go (lt b a) refl
     go true h = lt-not-back b a h
     go false h = lt-itself a
 
--- ---- the largest of a list
-
--- t is one of the list, and none of them is above it
-record Largest (l : List Float) (t : Float) : Type 0 where
-  posterior : DecimalPosterior t
-  none-above : Each (λ y. lt t y ≡ false) l
-  is-one : Among (λ y. t ≡ y) l
-
-largest-is : (x : Float) (l : List Float) → DecimalPosterior x → Each DecimalPosterior l → Largest (x ∷ l) (largestFrom larger x l)
-largest-is x [] X L = record { posterior = X; none-above = (lt-itself x, tt); is-one = inl refl }
-largest-is x (y ∷ l) X L =
-    let z = larger x y in
-    let Z = either-of DecimalPosterior (lt x y) x y X (L .0) in
-    let h = largest-is z l Z (L .1) in
-    let t = largestFrom larger z l in
-    let through : (v : Float) → DecimalPosterior v → lt z v ≡ false → lt t v ≡ false = λ v W k.
-    no-trans v z t (decimal-number W) (decimal-number Z) (decimal-number (h .posterior)) k (h .none-above .0) in
-    record {
-      posterior = h .posterior;
-      none-above = (through x X (larger-left x y), (through y (L .0) (larger-right x y), h .none-above .1));
-      is-one = elim (h .is-one) [ inl e ↦ one-of (lt x y) t e | inr r ↦ inr (inr r) ];
-    }
-  where
-    one-of : (b : Bool) (t : Float) → t ≡ cond b y x → Among (λ v. t ≡ v) (x ∷ y ∷ l)
-    one-of true t e = inr (inl e)
-    one-of false t e = inl e
-
-among-is : (P : Float → Type 0) (t : Float) (l : List Float) → P t → Among (λ y. t ≡ y) l → Among P l
-among-is P t (y ∷ l) h s = elim s [ inl e ↦ inl (subst P e h) | inr r ↦ inr (among-is P t l h r) ]
-
 -- ---- two functions that agree at each member
 
 map-agrees : (f g : Float → Float) (P Q : Float → Type 0) → ((y : Float) → P y → Q y → f y ≡ g y) → (l : List Float)
@@ -122,10 +91,6 @@ map-agrees f g P Q h (y ∷ l) p q = rw (h y (p .0) (q .0), map-agrees f g P Q h
 
 abbrev NotDeep : Float → Float → Type 0
 NotDeep w y = lt (lessWhole smaller w y ⊗ lnOf (nat 10)) deep ≡ false
-
-one-not-below : lt (fin false 1 (pos 0)) (nat 1) ≡ false
-unfolding lt ofInt
-one-not-below = refl
 
 module _ (e : Float → Float) (tail : Tail e) where
   -- ten to a y of at most 0
@@ -146,8 +111,8 @@ module _ (e : Float → Float) (tail : Tail e) where
     abbrev top : Float
     top = largestFrom larger x l
 
-    the-top : Largest (x ∷ l) top
-    the-top = largest-is x l X L
+    the-top : Top x l top
+    the-top = top-is x l X L
 
     abbrev power : Float → Float
     power y = tenBy e (y ⊖ top)
@@ -169,9 +134,7 @@ module _ (e : Float → Float) (tail : Tail e) where
     sum = sumFrom (power x) (map power l)
 
     sum-within : UpTo (1 + length l) sum
-    sum-within =
-        let n = the-top .none-above in
-        sum-chance l L (n .1) (power-chance x X (n .0)) (omega arith)
+    sum-within = sum-chance l L (the-top .rest-below) (power-chance x X (the-top .first-below)) (omega arith)
 
     summand : (y : Float) → Summand (power y)
     summand y = tail-summand e tail ((y ⊖ top) ⊗ lnOf (nat 10))
@@ -182,9 +145,7 @@ module _ (e : Float → Float) (tail : Tail e) where
     -- the largest is among them, and its power is 1
     sum-from-one : T (le (nat 1) sum)
     sum-from-one =
-        let at-top : lt (power top) (nat 1) ≡ false =
-        rw (less-itself top (the-top .posterior .within .is-finite), zero-times-ten false, tail-zero e tail false) one-not-below in
-        let some = among-is (λ y. lt (power y) (nat 1) ≡ false) top (x ∷ l) at-top (the-top .is-one) in
+        let some = largest-among (λ y. lt (power y) (nat 1) ≡ false) x l (ten-from-one e tail top) in
         not-below sum (nat 1) (sum-within .within .is-finite) (within-whole (pos 1) 1 (lit≤ tt) (lit≤ tt) .is-finite)
         (from-one-among power summand x l some)
 
@@ -338,9 +299,6 @@ flushed-not-deep x some = go (lt x deep) refl
     go true h = absurd (some (rw (lt-number x deep h .0, h)))
     go false h = refl
 
-abbrev NoneZero : MosaicResult → Type 0
-NoneZero a = (i : ℕ) → i < a .hypotheses → getD (a .probabilities) i nan ≡ nat 0 → ⊥
-
 none-deep : (p : Params) (counts : List ℕ) → Accepted p counts → NoneZero (calledWith expFlushed p counts)
     → let tens = tensOf (posteriors first p counts) (length (hypotheses counts)) in Each (NotDeep (wholeBy expFlushed tens)) tens
 none-deep p counts ok some =
@@ -352,10 +310,7 @@ none-deep p counts ok some =
 
 -- what was recorded then with no probability of 0 is what is answered now, in every bit
 pub no-zero-same : (p : Params) (counts : List ℕ) → T (fits binary64 (p .alpha)) → T (fits binary64 (p .beta))
-    → ((i : ℕ) → i < genotypeWith expFlushed p counts .hypotheses
-    → getD (genotypeWith expFlushed p counts .probabilities) i nan ≡ nat 0
-    → ⊥)
-    → genotypeWith expFlushed p counts ≡ genotypeOf p counts
+    → NoneZero (genotypeWith expFlushed p counts) → genotypeWith expFlushed p counts ≡ genotypeOf p counts
 no-zero-same p counts alpha beta h =
     by-refusals expFlushed p counts alpha beta NoneZero
     (λ ok some. called-same expFlushed p counts ok flushed-is-tail (none-deep p counts ok some)) h

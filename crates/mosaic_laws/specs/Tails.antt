@@ -79,3 +79,7 @@ pub record SameButTiny (a b : MosaicResult) : Type 0 where
   pub same-quality : b .seen ≤ 4 → a .quality ≡ b .quality
   -- and with up to five each probability is the same, or both are from 0 to 2^−1000
   pub same-or-tiny : b .seen ≤ 5 → (i : ℕ) → i < 36 → SameOrTiny 1000 (getD (a .probabilities) i nan) (getD (b .probabilities) i nan)
+
+-- M7: no hypothesis of an answer has the probability 0
+abbrev pub NoneZero : MosaicResult → Type 0
+NoneZero a = (i : ℕ) → i < a .hypotheses → getD (a .probabilities) i nan ≡ nat 0 → ⊥
