@@ -1,16 +1,21 @@
-//! Runs the port and the plain Rust on the same inputs and compares every bit; any NaN equals any NaN. A line for each kind of docs/VECTORS.md, and
-//! one each for the histories of parts and for the sites of docs/CALLS.md. Calls go through the C functions, and some of each kind through the program `vectors` as text too.
+//! Runs the port and the plain Rust on the same inputs and compares every bit; any NaN equals any NaN. A line for each kind of
+//! docs/VECTORS.md, two for the exponential's tail, and one each for the histories of parts and for the sites of docs/CALLS.md. Calls go
+//! through the C functions, and some of each kind through the program `vectors` as text too.
 use crate::asked::Exchange;
 use crate::cases::{self, word};
 use crate::diploid::{self, Input};
 use crate::inputs::{self, Random, Trial};
 use crate::tally::Tally;
 use crate::{
-    diploid_cases, diploid_inputs, histories, kanpig, kernels, mosaic, mosaic_cases, mosaic_inputs, port, site_cases, trio_compare,
+    diploid_cases, diploid_inputs, histories, kanpig, kernels, mosaic, mosaic_cases, mosaic_inputs, port, site_cases, tail_inputs,
+    trio_compare,
 };
 
 /// Of the inputs of a kind, so many are asked as text.
 const AS_TEXT: usize = 50_000;
+
+/// So many random floats are asked in the exponential's tail.
+const IN_TAIL: usize = 1_200_000;
 
 fn same(a: f64, b: f64) -> bool {
     a.to_bits() == b.to_bits() || (a.is_nan() && b.is_nan())
@@ -30,11 +35,25 @@ fn asked_all<T>(name: &str, inputs: &[T], case: impl Fn(&T) -> (String, String))
     asked(name, &exchange)
 }
 
-fn float_kernel(name: &str, xs: &[f64], port: extern "C" fn(f64) -> f64, plain: fn(f64) -> f64) -> Tally {
+/// A kernel on some floats.
+fn answers_of(name: &str, xs: &[f64], port: extern "C" fn(f64) -> f64, plain: fn(f64) -> f64) -> Tally {
     let answers = xs.iter().map(|&x| (x, port(x), plain(x)));
     let differences: Vec<_> = answers.filter(|&(_, a, b)| !same(a, b)).collect();
     let called = Tally::shown(name, xs.len(), &differences);
-    (called + asked_all(name, xs, |&x| (format!("{name} {}", word(x)), word(plain(x))))).line(name)
+    called + asked_all(name, xs, |&x| (format!("{name} {}", word(x)), word(plain(x))))
+}
+
+fn float_kernel(name: &str, xs: &[f64], port: extern "C" fn(f64) -> f64, plain: fn(f64) -> f64) -> Tally {
+    answers_of(name, xs, port, plain).line(name)
+}
+
+/// The exponential's tail, in lines of its own.
+fn tails() -> [Tally; 2] {
+    let (exps, tens) = (tail_inputs::exps(8, IN_TAIL), tail_inputs::tens(9, IN_TAIL));
+    [
+        answers_of("exp", &exps, port::exp, kernels::exp).line("exp, tail"),
+        answers_of("pow10", &tens, port::pow10, kernels::pow10).line("pow10, tail"),
+    ]
 }
 
 fn binomial(trials: &[Trial]) -> Tally {
@@ -127,6 +146,7 @@ pub fn run() -> bool {
         binomial(&trials),
         key(&xs),
     ];
+    all.extend(tails());
     all.extend(genotypers(&xs));
     let kinds = all.len();
     let whole: Tally = all.into_iter().sum();

@@ -1,5 +1,6 @@
 //! The inputs, the same in every run: a small generator of random numbers, and lists of floats and counts around the places where an
 //! answer could go wrong.
+use crate::tail_inputs;
 
 /// splitmix64.
 pub struct Random(u64);
@@ -104,6 +105,7 @@ pub fn floats(seed: u64, n: usize) -> Vec<f64> {
     let random = &mut Random::new(seed);
     let mut all = vec![f64::NAN];
     all.extend(with_neighbours(&SPECIAL));
+    all.extend(with_neighbours(&tail_inputs::ends()));
     all.extend(with_neighbours(&powers_of_two()));
     all.extend(ties());
     all.extend(ties_of_ten());

@@ -27,6 +27,7 @@ mod part;
 mod port;
 mod site_cases;
 mod step_cases;
+mod tail_inputs;
 mod tally;
 mod trio;
 mod trio_cases;
