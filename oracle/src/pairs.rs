@@ -31,14 +31,17 @@ fn away_from_zeros(random: &mut Random) -> f64 {
     }
 }
 
+/// The tail has numbers of its own, so that the other ranges keep theirs.
 pub fn run() {
-    let random = &mut Random::new(6);
+    let (random, tail) = (&mut Random::new(6), &mut Random::new(7));
     logarithm(random, "ln", port::ln);
     print("exp", "-1 to 1", port::exp, || random.between(-1.0, 1.0));
     print("exp", "-708 to 709", port::exp, || random.between(-708.0, 709.0));
+    print("exp", "-745 to -708", port::exp, || tail.between(-745.0, -708.0));
     logarithm(random, "log10", port::log10);
     print("ten to the y", "-1 to 1", port::pow10, || random.between(-1.0, 1.0));
     print("ten to the y", "-307 to 307", port::pow10, || random.between(-307.0, 307.0));
+    print("ten to the y", "-323 to -307", port::pow10, || tail.between(-323.0, -307.0));
     print("log gamma", "1 ± 1/16", port::ln_gamma, || random.between(0.9375, 1.0625));
     print("log gamma", "2 ± 1/16", port::ln_gamma, || random.between(1.9375, 2.0625));
     print("log gamma", "0 to 16, elsewhere", port::ln_gamma, || away_from_zeros(random));
