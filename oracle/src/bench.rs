@@ -160,6 +160,10 @@ pub fn run() {
     float_row("log10", "2^-30 to 2^30", &xs, [port::log10, plain_log10, std_log10]);
     let xs = many(|| random.between(-700.0, 700.0));
     float_row("exp", "-700 to 700", &xs, [port::exp, plain_exp, std_exp]);
+    // with numbers of its own, so that the rows after it keep theirs
+    let tail = &mut Random::new(15);
+    let xs = many(|| tail.between(-745.0, -708.0));
+    float_row("exp", "-745 to -708", &xs, [port::exp, plain_exp, std_exp]);
     let xs = many(|| random.between(-300.0, 300.0));
     float_row("ten to the y", "-300 to 300", &xs, [port::pow10, plain_pow10, std_pow10]);
     let xs = many(|| random.between(0.001, 16.0));
