@@ -2,6 +2,7 @@
 use crate::diploid::{Input, ENDS};
 use crate::inputs::{moved, Random};
 use crate::kanpig;
+use crate::tail_inputs::{HIGHEST, LOWEST};
 
 /// Counts at the limit, where log gamma changes its rule, and usual ones.
 const COUNTS: [u32; 10] = [0, 1, 2, 14, 15, 16, 30, 100, 999_999, 1_000_000];
@@ -92,6 +93,24 @@ pub fn allowed(random: &mut Random, mode: u32) -> Input {
         let value = kanpig::with_ours::call(&input).gq;
         let pairs = 1 + random.below(16) as usize;
         input.table = table(random, pairs, value);
+    }
+    input
+}
+
+/// An input whose scores lie so far apart that the exponential is asked in its tail, or near it: with all counts so many times as large,
+/// the distances of scores are nearly as many times as large, in Beta where precisions are high. gq and sq are ten for each power of ten,
+/// and are capped at 1000.
+pub fn far_apart(random: &mut Random, mode: u32) -> Input {
+    let highest = pick(random, &[20, 60, 200, 1000]);
+    let mut input = Input { counts: [0; 3].map(|_| random.below(highest + 1) as u32), ..model(random, mode) };
+    if random.below(2) == 0 {
+        input.precisions = input.precisions.map(|_| parameter(random, (1e4, 1e6)));
+    }
+    let answer = kanpig::with_ours::call(&input);
+    let distance = pick(random, &[answer.gq, answer.sq]) * 10.0_f64.ln() / 10.0;
+    if (20.0..230.0).contains(&distance) {
+        let times = random.between(-HIGHEST, -LOWEST) / distance;
+        input.counts = input.counts.map(|count| (f64::from(count) * times).round().min(1e6) as u32);
     }
     input
 }

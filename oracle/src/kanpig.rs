@@ -1,7 +1,8 @@
 //! kanpig's diploid genotyper itself. Its text is taken at build time and bound to kernels (build.rs): once to those of kernels.rs, which
-//! are the port's to the bit, and once to the standard library's. What its text names of other crates is written here.
+//! are the port's to the bit, once to the same with the exponential's tail flushed, and once to the standard library's. What its text names
+//! of other crates is written here.
 use crate::diploid::{Answer, Input};
-use crate::kernels;
+use crate::{flushed, kernels};
 use std::cmp::Ordering;
 
 /// Whether kanpig's text was found when this was built.
@@ -146,6 +147,11 @@ unsafe extern "C" {
 
 bound! {
     with_ours: ln super::kernels::ln, exp super::kernels::exp, log10 super::kernels::log10, pow10 super::kernels::pow10,
+    ln_gamma super::kernels::ln_gamma
+}
+
+bound! {
+    with_flushed: ln super::kernels::ln, exp super::flushed::exp, log10 super::kernels::log10, pow10 super::flushed::pow10,
     ln_gamma super::kernels::ln_gamma
 }
 

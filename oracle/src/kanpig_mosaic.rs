@@ -1,7 +1,8 @@
 //! kanpig's mosaic genotyper itself. Its text is taken at build time (build.rs) and bound to kernels and to a map: to those of kernels.rs and an
-//! ordered map, to the standard library's functions and an ordered map, and to those of kernels.rs and the hash map that it names.
-use crate::kernels;
+//! ordered map, to the same with the exponential's tail flushed, to the standard library's functions and an ordered map, and to those of
+//! kernels.rs and the hash map that it names.
 use crate::mosaic::{Answer, Input};
+use crate::{flushed, kernels};
 
 /// A module with kanpig's text over this map and these kernels.
 macro_rules! bound {
@@ -69,6 +70,10 @@ macro_rules! bound {
 
 bound! {
     with_ours: map BTreeMap, ln super::kernels::ln, log10 super::kernels::log10, pow10 super::kernels::pow10
+}
+
+bound! {
+    with_flushed: map BTreeMap, ln super::kernels::ln, log10 super::kernels::log10, pow10 super::flushed::pow10
 }
 
 bound! {

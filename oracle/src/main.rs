@@ -9,6 +9,7 @@ mod diploid;
 mod diploid_cases;
 mod diploid_inputs;
 mod distances;
+mod flushed;
 mod forged;
 mod fuzz;
 mod histories;
@@ -27,8 +28,10 @@ mod part;
 mod port;
 mod site_cases;
 mod step_cases;
+mod tail_changes;
 mod tail_inputs;
 mod tally;
+mod threads;
 mod trio;
 mod trio_cases;
 mod trio_compare;
@@ -56,7 +59,11 @@ fn main() -> ExitCode {
             }
         }
         "bench" => bench::run(),
-        "changes" => changes::run(),
+        "changes" => {
+            changes::run();
+            println!();
+            tail_changes::run();
+        }
         "distances" => {
             distances::run();
             trio_distances::run();

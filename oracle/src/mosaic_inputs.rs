@@ -1,6 +1,8 @@
 //! The inputs of the mosaic genotype, the same in every run.
 use crate::inputs::{moved, Random};
 use crate::mosaic::Input;
+use crate::port;
+use crate::tail_inputs::{HIGHEST, LOWEST};
 
 fn pick<T: Copy>(random: &mut Random, from: &[T]) -> T {
     from[random.below(from.len() as u64) as usize]
@@ -43,14 +45,46 @@ fn counts(random: &mut Random, alleles: u64) -> Vec<u32> {
     (0..n).map(|_| draw(random)).collect()
 }
 
-/// An input within the limits; some have no call.
-pub fn allowed(random: &mut Random, alleles: u64) -> Input {
-    let mut input = Input::default_params(counts(random, alleles));
+/// These counts with parameters within the limits: the default ones, or any.
+fn with_parameters(random: &mut Random, counts: Vec<u32>) -> Input {
+    let mut input = Input::default_params(counts);
     if random.below(3) > 0 {
         input.alpha = prior(random);
         input.beta = prior(random);
         input.highest = highest(random);
         input.depth = pick(random, &[0, 1, 2, 20]);
+    }
+    input
+}
+
+/// An input within the limits; some have no call.
+pub fn allowed(random: &mut Random, alleles: u64) -> Input {
+    let counts = counts(random, alleles);
+    with_parameters(random, counts)
+}
+
+/// So many counts above zero of every size, at times with zeros among them.
+fn unlike_counts(random: &mut Random, seen: usize) -> Vec<u32> {
+    let most = pick(random, &[100.0, 300.0, 1000.0_f64]);
+    let mut counts: Vec<u32> = (0..seen).map(|_| random.between(0.0, most.ln()).exp() as u32).collect();
+    while counts.len() < 8 && random.below(4) == 0 {
+        counts.insert(random.below(counts.len() as u64 + 1) as usize, 0);
+    }
+    counts
+}
+
+/// An input of so many seen alleles with a hypothesis whose probability lies in the exponential's tail, or near it: with all counts so many
+/// times as large, the logarithms of probabilities are nearly as many times as large.
+pub fn far_apart(random: &mut Random, seen: usize) -> Input {
+    let counts = unlike_counts(random, seen);
+    let mut input = with_parameters(random, counts);
+    let distances = port::mosaic(&input).probabilities.map(|p| -p.ln());
+    let telling: Vec<f64> = distances.into_iter().filter(|d| (20.0..1000.0).contains(d)).collect();
+    if !telling.is_empty() {
+        let times = random.between(-HIGHEST, -LOWEST) / pick(random, &telling);
+        for count in input.counts.iter_mut().filter(|count| **count > 0) {
+            *count = (f64::from(*count) * times).round().clamp(1.0, 1e6) as u32;
+        }
     }
     input
 }
