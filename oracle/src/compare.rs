@@ -105,7 +105,8 @@ fn mosaics() -> Tally {
     let few = (0..100_000).map(|_| mosaic_inputs::allowed(random, 5)).collect();
     let many = (0..20_000).map(|_| mosaic_inputs::allowed(random, 8)).collect();
     let odd = (0..100_000).map(|_| mosaic_inputs::disturbed(random)).collect();
-    let groups = [few, many, odd];
+    let far_apart = (0..14_000).map(|i| mosaic_inputs::far_apart(random, 2 + i % 7)).collect();
+    let groups = [few, many, odd, far_apart];
     show_least_quality(&groups);
     groups.iter().map(|inputs| mosaic(inputs)).sum::<Tally>().line("mosaic")
 }
