@@ -2,7 +2,7 @@
 //! Rust and kanpig's text and never from the port, to crates/vectors/stdout. The form of both is docs/VECTORS.md. Each kind has a function
 //! of its own.
 use crate::inputs::{self, Random};
-use crate::{diploid_cases, kernels, mosaic_cases, step_cases, trio_cases};
+use crate::{diploid_cases, kernels, mosaic_cases, step_cases, tail_inputs, trio_cases};
 use std::collections::HashSet;
 use std::fs;
 use std::io;
@@ -62,6 +62,17 @@ pub fn float_kernel(cases: &mut Cases, name: &str, xs: &[f64], kernel: fn(f64) -
 fn exact_ties() -> Vec<f64> {
     let half = |x: f64| (x * 1.4426950408889634).fract().abs() == 0.5;
     inputs::ties().into_iter().filter(|&x| half(x)).step_by(12).collect()
+}
+
+/// The ends of the exponential's tail with their neighbours, below it and inside it, as the function takes them: what is not asked anyway.
+fn tail(asked: &[f64], taken: fn(f64) -> f64) -> Vec<f64> {
+    let random = &mut Random::new(7);
+    let ends = tail_inputs::ENDS.map(taken).into_iter();
+    let mut all: Vec<f64> = ends.flat_map(|x| (-2..=2).map(move |i| inputs::moved(x, i))).collect();
+    all.extend([-746.0, -744.0, -740.0, -720.0, -709.0].map(taken));
+    all.extend((0..10).map(|_| taken(random.between(tail_inputs::LOWEST, tail_inputs::HIGHEST))));
+    all.retain(|x| !asked.contains(x));
+    all
 }
 
 /// A trial's question and answer.
@@ -169,8 +180,10 @@ fn kernel_cases(cases: &mut Cases) {
     float_kernel(cases, "ln", &xs, kernels::ln);
     float_kernel(cases, "exp", &xs, kernels::exp);
     float_kernel(cases, "exp", &exact_ties(), kernels::exp);
+    float_kernel(cases, "exp", &tail(&xs, |x| x), kernels::exp);
     float_kernel(cases, "log10", &xs, kernels::log10);
     float_kernel(cases, "pow10", &xs, kernels::pow10);
+    float_kernel(cases, "pow10", &tail(&xs, tail_inputs::of_ten), kernels::pow10);
     float_kernel(cases, "lgamma", &xs, kernels::ln_gamma);
     binomial(cases);
     key(cases, &xs);
