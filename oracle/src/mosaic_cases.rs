@@ -150,6 +150,14 @@ fn equals(cases: &mut Cases) {
     add(cases, &Input { beta: 1000.0, highest: 0.001, ..plain(&[900, 1]) });
 }
 
+/// Probabilities in the exponential's tail, and around its lower end.
+fn far_apart(cases: &mut Cases) {
+    for counts in [&[1700, 180][..], &[1800, 200], &[3000, 724], &[3000, 725], &[3000, 0, 726], &[1500, 800, 100]] {
+        add(cases, &plain(counts));
+    }
+    add(cases, &plain(&[590, 500, 200, 100, 50, 20, 10, 5]));
+}
+
 fn random(cases: &mut Cases) {
     let random = &mut Random::new(71);
     for _ in 0..30 {
@@ -196,6 +204,7 @@ pub fn write(cases: &mut Cases) {
     parameters(cases);
     limits(cases);
     equals(cases);
+    far_apart(cases);
     random(cases);
     unreadable(cases);
 }
