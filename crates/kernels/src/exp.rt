@@ -1,7 +1,8 @@
 // The exponential (docs/RULES.md, K4).
 ghost use mathlib.Core.Path.{_≡_};
-ghost use mathlib.Core.Bool.{false};
-ghost use lib.Ieee.{fin};
+ghost use mathlib.Core.Bool.{true, false};
+ghost use lib.IntN.{pos, negℤ};
+ghost use lib.Ieee.{fin, lt};
 ghost use Rattle.floats.specs.F64.{whole};
 ghost use Rattle.floats.specs.Within.{Within};
 ghost use Rattle.kernels.specs.Exp.{nearestWhole, expSeries, expReduced, expParts, expDeep, expOf};
@@ -77,23 +78,31 @@ fn exp_deep(k: i32, n: f64, x: f64) -> f64
     exp_reduced(n, x) * power(k + 54) * DOWN
 }
 
-// e^x, at every x.
+// e^x below -708.
+fn exp_tail(x: f64) -> f64
+    requires { ⌜ lt x (whole (negℤ (pos 708))) ≡ true ⌝ }
+    ensures { λ r. ⌜ r ≡ expOf x ⌝ }
+{
+    if x < -745.0 {
+        return 0.0;
+    }
+    let n = nearest_whole(x * 1.4426950408889634);
+    exp_deep(n as i32, n, x)
+}
+
+// e^x, at every x. One test here stands for both lower limits of the definition, so that what is not in the tail takes no longer for it.
 pub fn exp(x: f64) -> f64
     ensures { λ r. ⌜ r ≡ expOf x ⌝ }
 {
     if x != x {
         return x;
     }
-    if x < -745.0 {
-        return 0.0;
+    if x < -708.0 {
+        return exp_tail(x);
     }
     if x > 709.0 {
         return 1.0 / 0.0;
     }
     let n = nearest_whole(x * 1.4426950408889634);
-    let k = n as i32;
-    if x < -708.0 {
-        return exp_deep(k, n, x);
-    }
-    exp_parts(k, n, x)
+    exp_parts(n as i32, n, x)
 }
