@@ -75,7 +75,7 @@ fn of_mosaic(input: mosaic::Input) -> [u64; 8] {
 }
 
 /// Seen alleles, and how many inputs have so many: fewer where there are many, which take long.
-const SEEN: [(usize, u64); 7] = [(2, 100_000), (3, 300_000), (4, 260_000), (5, 200_000), (6, 75_000), (7, 30_000), (8, 15_000)];
+const SEEN: [(usize, u64); 7] = [(2, 20_000), (3, 30_000), (4, 30_000), (5, 650_000), (6, 230_000), (7, 80_000), (8, 40_000)];
 
 fn mosaics() {
     header(&MOSAIC);
