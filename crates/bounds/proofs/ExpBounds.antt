@@ -24,7 +24,7 @@ use Rattle.floats.proofs.Zeros.{zeroOf, zero-plus}
 use Rattle.kernels.specs.Exp.{nearestWhole, expSeries, expReduced, expParts, expDeep, expBetween, expOf}
 use Rattle.kernels.specs.Ln.{hi, lo}
 use Rattle.kernels.proofs.ExpSteps.{log2e, digits, steps, product-is, steps-at-most, size-by-tests, few-steps, scaled-within, nearest-is}
-use Rattle.kernels.proofs.ExpSteps.{exponent-reached, exponent-deep}
+use Rattle.kernels.proofs.ExpSteps.{exponent-in-reach, exponent-deep}
 use Rattle.bounds.proofs.ExpReduced.{reduced-under, reduced-over}
 use Rattle.bounds.proofs.ExpSeries.{series-under, series-over, series-more, series-fits}
 use Rattle.bounds.proofs.ExpTimes.{AtMost, times-positive, times-within, twice-once}
@@ -96,7 +96,7 @@ module _ (x : Float) (n : isNan x ≡ false) (h : lt x least ≡ false) (k : lt 
 
   pub parts-positive : T (positive (expParts (kOf x) x))
   unfolding expParts expReduced
-  parts-positive = times-positive (expSeries (argument x)) (kOf x) y-under y-over y-more (exponent-reached x h k)
+  parts-positive = times-positive (expSeries (argument x)) (kOf x) y-under y-over y-more (exponent-in-reach x h k)
 
   -- by way of 2^(k + 54), and at once
   deep-is : lt x deep ≡ true → expDeep (kOf x) x ≡ expParts (kOf x) x
@@ -126,10 +126,10 @@ by-tests P x n a b c = rw n (go (lt x least) (lt most x) refl refl)
 
 -- ---- from -745 to 709 it is the series times 2^k, rounded once; at k = -1075 that 2^k is itself no f64
 
-pub exp-once : (x : Float) → T (le (whole (negℤ (pos 745))) x) → T (le x (nat 709))
+pub exp-rounds-once : (x : Float) → T (le (whole (negℤ (pos 745))) x) → T (le x (nat 709))
     → expOf x ≡ expParts (nearestWhole (x ⊗ decimal 14426950408889634 16)) x
 unfolding expOf
-exp-once x h k =
+exp-rounds-once x h k =
     let n = le-number x most k in
     let a = le-not-lt least x h in
     let b = le-not-lt x most k in rw (n, a, b, between-is x n a b)

@@ -22,7 +22,7 @@ use Rattle.floats.proofs.Rounded.{round-smaller, fraction-val}
 use Rattle.floats.proofs.Sizes.{under-within, under-mul, over-mul, mul-positive}
 use Rattle.kernels.specs.Inner.{Deep}
 use Rattle.kernels.proofs.ExpPower.{deep-sum}
-use Rattle.kernels.proofs.ExpSteps.{Reached}
+use Rattle.kernels.proofs.ExpSteps.{InReach}
 
 -- ---- 2^k
 
@@ -41,19 +41,19 @@ up-over a = record { is-positive = tt; large = mul-pos (mul-pos (lit< tt) (pow-p
 down-over : (a i : ℕ) → suc a ≤ i → Over 1 i (fin false 1 (negsuc a))
 down-over a i l = record { is-positive = tt; large = omega (arith, pow-mono l) }
 
-reached-at-most : (k : ℤ) → Reached k → AtMost 1023 k
-reached-at-most (pos a) h = h
-reached-at-most (negsuc a) h = tt
+in-reach-at-most : (k : ℤ) → InReach k → AtMost 1023 k
+in-reach-at-most (pos a) h = h
+in-reach-at-most (negsuc a) h = tt
 
 -- ---- what is at most 3/2, times 2^k: 3/2 times 2^1023 is a float
 
-times-finite : (y : Float) (k : ℤ) → Under 3 1 y → Reached k → T (finite (y ⊗ fin false 1 k))
+times-finite : (y : Float) (k : ℤ) → Under 3 1 y → InReach k → T (finite (y ⊗ fin false 1 k))
 unfolding mul round
 times-finite nan k h n = absurd (h .is-finite)
 times-finite (inf s) k h n = absurd (h .is-finite)
 times-finite (fin s m e) k h n =
     round-smaller (unlike s false) (m * up e * (1 * up k)) (down e * down k) (3 * 2 ^ 1023) 2 (mul-pos (down-pos e) (down-pos k)) (lit< tt)
-    (cross (m * up e) (1 * up k) (down e) (down k) (2 ^ 1023) (h .small) (power-under 1023 k (reached-at-most k n) .small)) tt .0
+    (cross (m * up e) (1 * up k) (down e) (down k) (2 ^ 1023) (h .small) (power-under 1023 k (in-reach-at-most k n) .small)) tt .0
   where
     cross : (a u d g z : ℕ) → a * 2 ≤ 3 * d → u * 1 ≤ z * g → a * u * 2 ≤ 3 * z * (d * g)
     cross a u d g z h k =
@@ -74,7 +74,7 @@ last-or-not b h = go (ltb b 1074) refl
     go true e = let l = ltb-true b 1074 e in inl (omega arith)
     go false e = let l = ltb-false b 1074 e in inr (omega arith)
 
-pub times-positive : (y : Float) (k : ℤ) → Under 3 1 y → Over 257 9 y → (k ≡ negsuc 1074 → Over 17803 14 y) → Reached k
+pub times-positive : (y : Float) (k : ℤ) → Under 3 1 y → Over 257 9 y → (k ≡ negsuc 1074 → Over 17803 14 y) → InReach k
     → T (positive (y ⊗ fin false 1 k))
 unfolding round
 times-positive y (pos a) h l more n = over-mul l (up-over a) (lit< tt) (lit< tt) (lit≤ tt) (times-finite y (pos a) h n) .is-positive

@@ -81,7 +81,7 @@ pub in-tens-posterior : (x : Float) → Within (2 ^ 47) x → DecimalPosterior (
 in-tens-posterior x w = record { within = within-div w ten-above (lit≤ tt); is-f64 = div-fits binary64 x (lnOf (nat 10)) }
 
 -- t is one of x and l, and none of them is above it
-pub record Top (x : Float) (l : List Float) (t : Float) : Type 0 where
+pub record LargestOf (x : Float) (l : List Float) (t : Float) : Type 0 where
   pub posterior : DecimalPosterior t
   pub first-below : lt t x ≡ false
   pub rest-below : Each (λ y. lt t y ≡ false) l
@@ -93,12 +93,12 @@ top-through x y t X Y H h k =
     not-below-trans x y t (X .is-f64) (Y .is-f64) (H .is-f64) (within-number (X .within)) (within-number (Y .within))
     (within-number (H .within)) h k
 
-pub top-is : (x : Float) (l : List Float) → DecimalPosterior x → Each DecimalPosterior l → Top x l (largestFrom larger x l)
-top-is x [] X L = record { posterior = X; first-below = lt-itself x; rest-below = tt; is-one = inl refl }
-top-is x (y ∷ l) X L =
+pub largest-is : (x : Float) (l : List Float) → DecimalPosterior x → Each DecimalPosterior l → LargestOf x l (largestFrom larger x l)
+largest-is x [] X L = record { posterior = X; first-below = lt-itself x; rest-below = tt; is-one = inl refl }
+largest-is x (y ∷ l) X L =
     let z = larger x y in
     let Z = either-of DecimalPosterior (lt x y) x y X (L .0) in
-    let h = top-is z l Z (L .1) in
+    let h = largest-is z l Z (L .1) in
     let t = largestFrom larger z l in
     record {
       posterior = h .posterior;
@@ -129,8 +129,8 @@ module _ (x : Float) (l : List Float) (X : DecimalPosterior x) (L : Each Decimal
   abbrev top : Float
   top = largestFrom larger x l
 
-  the-top : Top x l top
-  the-top = top-is x l X L
+  the-top : LargestOf x l top
+  the-top = largest-is x l X L
 
   abbrev powerOf : Float → Float
   powerOf y = pow10Of (y ⊖ top)

@@ -57,7 +57,7 @@ use Rattle.mosaic.specs.Genotype.{blank, genotypeOf}
 use Rattle.mosaic.specs.declared.genotype.MosaicResult.{MosaicResult}
 use Rattle.mosaic_laws.specs.Accepted.{Accepted}
 use Rattle.mosaic_laws.specs.Tails.{probabilitiesWith, calledWith, genotypeWith, NoneZero}
-use Rattle.mosaic_laws.proofs.Chances.{chance-add, chance-more, pow10-chance, each-place, DecimalPosterior, Top, top-is}
+use Rattle.mosaic_laws.proofs.Chances.{chance-add, chance-more, pow10-chance, each-place, DecimalPosterior, LargestOf, largest-is}
 use Rattle.mosaic_laws.proofs.Answers.{posts-length, tens-few, tens-posteriors}
 use Rattle.mosaic_laws.proofs.AnyTail.{mosaic-by-exp}
 
@@ -111,8 +111,8 @@ module _ (e : Float → Float) (tail : Tail e) where
     abbrev top : Float
     top = largestFrom larger x l
 
-    the-top : Top x l top
-    the-top = top-is x l X L
+    the-top : LargestOf x l top
+    the-top = largest-is x l X L
 
     abbrev power : Float → Float
     power y = tenBy e (y ⊖ top)

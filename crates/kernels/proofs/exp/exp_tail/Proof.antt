@@ -2,15 +2,16 @@
 use mathlib.Core.Path.{_≡_}
 use mathlib.Core.Bool.{true, false}
 use Prim.Native.Nat.{_≤_}
-use lib.IntN.{ℤ, pos, negsuc, natAbs}
-use lib.Ieee.{Float, isNan, lt, neg, round, ofInt, ofBits, toSigned}
+use lib.IntN.{ℤ, negsuc, natAbs}
+use lib.Ieee.{Float, lt, neg, round, ofInt, ofBits, toSigned}
 use mir.Syntax.{w32}
 use mir.Val.{toZ, ofZ}
 use mir.ValLaws.{toZ-ofZ}
 use Rattle.floats.specs.F64.{_⊗_, whole}
 use Rattle.kernels.specs.Exp.{nearestWhole, expDeep, expBetween, expOf}
 use Rattle.kernels.proofs.ExpPower.{whole-fits, whole-back}
-use Rattle.kernels.proofs.ExpSteps.{log2e, tail-number, tail-not-above, reached-few, exponent-reached, exponent-deep, product-within}
+use Rattle.kernels.proofs.ExpSteps.{log2e, tail-number, tail-not-above, in-reach-few, exponent-in-reach, exponent-deep}
+use Rattle.kernels.proofs.ExpSteps.{product-within}
 use Rattle.kernels.proofs.exp.exp_tail.Statement.{statement}
 use Rattle.kernels.proofs.exp.exp_tail.Tie as tie
 
@@ -55,7 +56,7 @@ few : (c : tie.After-nearest-whole) → natAbs (k c) ≤ 2000
 few c =
     let x = xOf (c .before) in
     let p = passed (c .before) in
-    reached-few (k c) (exponent-reached x (p .not-below) (tail-not-above x (p .in-tail)))
+    in-reach-few (k c) (exponent-in-reach x (p .not-below) (tail-not-above x (p .in-tail)))
 
 float-to-int-exp-deep : tie.Need-float-to-int-exp-deep
 float-to-int-exp-deep c = rw (n-is (c .before)) (whole-back (k (c .before)) (few (c .before)) .0)
