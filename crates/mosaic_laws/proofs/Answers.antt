@@ -171,7 +171,7 @@ module _ (p : Params) (counts : List ℕ) (ok : Accepted p counts) where
   taken : length (take n posts) ≡ n
   taken = length-take-le n posts (subst (λ (k : ℕ). n ≤ k) (sym posts-length) (at-most-36 counts))
 
-  tens-length : length tens ≡ n
+  pub tens-length : length tens ≡ n
   tens-length = length-map (take n posts) inTens ∙ taken
 
   pub tens-some : 0 < n → 0 < length tens

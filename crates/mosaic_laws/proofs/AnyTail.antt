@@ -40,6 +40,7 @@ use Rattle.mosaic.specs.declared.genotype.MosaicResult.{MosaicResult}
 use Rattle.mosaic_laws.specs.Tails.{probabilitiesWith, calledWith, genotypeWith, SameButTiny}
 use Rattle.mosaic_laws.proofs.Count.{hypothesis-count}
 use Rattle.mosaic_laws.proofs.TinyWrong.{nothing-summand, quality-same}
+use Rattle.mosaic_laws.proofs.Cases.{Passed, by-refusals}
 
 -- ---- at `expOf` the definitions over an exponential are the rules' own
 
@@ -50,6 +51,15 @@ by-exp l n = rw (whole-by-exp (tensOf l (inUse n)))
 pub mosaic-by-exp : (p : Params) (counts : List ℕ) → genotypeWith expOf p counts ≡ genotypeOf p counts
 unfolding genotypeBy calledOf
 mosaic-by-exp p counts = rw (by-exp (posteriors first p counts) (length (hypotheses counts)))
+
+-- what holds of two like refusals and of a call beside the one by `expOf` holds of an answer beside the rules' own
+pub beside-own : (R : MosaicResult → MosaicResult → Type 0) → ((r : Refusal) → R (blank r) (blank r))
+    → (e : Float → Float) (p : Params) (counts : List ℕ)
+    → (Passed p counts → R (calledWith e p counts) (calledWith expOf p counts))
+    → R (genotypeWith e p counts) (genotypeOf p counts)
+beside-own R refused e p counts called =
+    subst (R (genotypeWith e p counts)) (mosaic-by-exp p counts)
+    (by-refusals R refused p counts (calledWith e p counts) (calledWith expOf p counts) called)
 
 -- ---- what two functions give of one list, place by place, filled up
 

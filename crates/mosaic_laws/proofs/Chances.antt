@@ -4,7 +4,7 @@ use mathlib.Core.Path.{_≡_, refl, sym, ap, _∙_, subst}
 use mathlib.Core.Logic.{inl, inr}
 use mathlib.Core.Bool.{Bool, true, false, cond}
 use mathlib.Core.List.{List, [], _∷_, map}
-use Prim.Native.Nat.{ℕ, suc, _+_, _*_, _^_, _≤_, _<_, zero-le}
+use Prim.Native.Nat.{ℕ, zero, suc, _+_, _*_, _^_, _≤_, _<_, zero-le}
 use native.Mathlib.Nat.{not-suc-le-zero}
 use native.Mathlib.Omega.{arith}
 use lib.IntN.{pos}
@@ -58,6 +58,11 @@ each-place P (x ∷ l) h = (h 0 (some (length l)), each-place P l (λ i m. h (su
 
     next : (i n : ℕ) → i < n → suc i < suc n
     next i n m = omega arith
+
+pub each-at : (P : Float → Type 0) (l : List Float) → Each P l → (i : ℕ) → i < length l → P (getD l i nan)
+each-at P [] e i m = absurd (not-suc-le-zero m)
+each-at P (x ∷ l) e zero m = e .0
+each-at P (x ∷ l) e (suc i) m = each-at P l (e .1) i (omega arith)
 
 pub each-map : (P Q : Float → Type 0) (f : Float → Float) → ((x : Float) → P x → Q (f x)) → (l : List Float) → Each P l → Each Q (map f l)
 each-map P Q f h [] e = tt

@@ -17,6 +17,7 @@ pub mod AtOnce
 pub mod PriorAtOnce
 pub mod Steps
 pub mod Count
+pub mod Cases
 pub mod TinyWrong
 pub mod AnyTail
 pub mod Vanish

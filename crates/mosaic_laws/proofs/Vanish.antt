@@ -1,74 +1,119 @@
--- No probability vanishes that is 10^−323 or more: on accepted inputs with a read each is ten to its normalised posterior, `chance-is`,
--- and above zero where that is −323 or more, `chance-positive`. Assumes nothing.
+-- Which probabilities vanish: each is ten to its normalised posterior, `chance-is`, so it is 0 where that times ln 10 is below −745,
+-- `chance-zero`, and above zero everywhere else, `chance-positive`; in particular where the normalised posterior is −323 or more,
+-- `chance-from-323`. Assumes nothing.
 use mathlib.Core.Path.{_≡_, ap, _∙_}
-use mathlib.Core.List.{List}
-use Prim.Native.Nat.{ℕ, _≤_, _<_}
+use mathlib.Core.Bool.{true, false}
+use mathlib.Core.List.{List, map}
+use Prim.Native.Nat.{ℕ, _+_, _-_, _^_, _<_, zero-le}
+use native.Mathlib.Nat.{not-suc-le-zero}
 use lib.IntN.{pos, negℤ}
 use lib.Dec.{T, lit≤}
-use lib.ListN.{length, getD, take}
-use lib.Seq.{length-take-le, getD-take}
-use lib.Ieee.{Float, nan, le}
+use lib.ListN.{length, getD, replicate, length-map, List·getD-append}
+use lib.Ieee.{Float, nan, binary64, round, lt, le, fits}
 use lib.Ieee.Positive.{positive}
-use Rattle.floats.specs.F64.{_⊖_, whole}
-use Rattle.floats.proofs.Bounds.{within-sub}
+use Rattle.floats.specs.F64.{_⊖_, _⊗_, whole, nat}
+use Rattle.floats.specs.Within.{Within}
+use Rattle.floats.proofs.Bounds.{within-sub, within-mul}
+use Rattle.floats.proofs.Differences.{nought}
+use Rattle.floats.proofs.Ranges.{le-number}
+use Rattle.kernels.specs.Ln.{lnOf}
+use Rattle.kernels.specs.Exp.{expOf}
 use Rattle.tens.specs.Log10.{pow10Of}
-use Rattle.tens.specs.Normalised.{inTens, wholeOver}
+use Rattle.tens.specs.Normalised.{wholeOver, lessWhole}
+use Rattle.bounds.specs.Tail.{tenBy}
+use Rattle.bounds.proofs.ExpBounds.{exp-below, by-tests, not-both, not-most, parts-positive}
 use Rattle.bounds.proofs.TenBounds.{pow10-chance-positive}
 use Rattle.models.specs.declared.params.Params.{Params}
 use Rattle.picks.specs.Order.{larger, smaller}
 use Rattle.lists.proofs.PlaceLaws.{map-at}
 use Rattle.probabilities.specs.Quality.{tensOf}
-use Rattle.probabilities.specs.Inner.{probabilityOf}
-use Rattle.probabilities.proofs.Normal.{probability-at}
 use Rattle.probabilities.proofs.InUse.{in-use-all}
-use Rattle.alleles.specs.Alleles.{totalOf}
 use Rattle.hypotheses.specs.Edition.{first}
 use Rattle.hypotheses.specs.Hypotheses.{hypotheses}
 use Rattle.hypotheses.specs.Choice.{posteriors}
 use Rattle.hypotheses.proofs.Scanned.{at-most-36}
-use Rattle.mosaic.specs.Genotype.{calledOf}
-use Rattle.diploid_laws.proofs.Signs.{NotAbove, not-above-le}
-use Rattle.diploid_laws.proofs.QualityBounds.{smaller-zero}
+use Rattle.mosaic.specs.Genotype.{genotypeOf}
+use Rattle.diploid_laws.specs.Tails.{wholeBy}
+use Rattle.diploid_laws.proofs.AnyTail.{whole-by-exp}
+use Rattle.diploid_laws.proofs.Signs.{NotAbove, not-above-le, mul-not-above}
+use Rattle.diploid_laws.proofs.QualityBounds.{ten-above, ten-within, smaller-zero}
 use Rattle.mosaic_laws.specs.Accepted.{Accepted}
-use Rattle.mosaic_laws.specs.Tails.{normalisedAt}
-use Rattle.mosaic_laws.proofs.Chances.{in-tens-posterior, whole-within}
-use Rattle.mosaic_laws.proofs.Answers.{some-hypothesis, posteriors-within, posts-length, tens-some, tens-few, tens-posteriors}
+use Rattle.mosaic_laws.specs.Tails.{probabilitiesWith, normalisedAt}
+use Rattle.mosaic_laws.proofs.Chances.{each-at, DecimalPosterior, whole-within}
+use Rattle.mosaic_laws.proofs.Answers.{some-hypothesis, tens-length, tens-some, tens-few, tens-posteriors}
+use Rattle.mosaic_laws.proofs.Cases.{passed-accepted}
+use Rattle.mosaic_laws.proofs.AnyTail.{beside-own}
 
-module _ (p : Params) (counts : List ℕ) (ok : Accepted p counts) (read : 0 < totalOf counts) (i : ℕ)
-    (there : i < length (hypotheses counts)) where
+-- ---- the probability in place i, by any exponential
+
+module _ (p : Params) (counts : List ℕ) (ok : Accepted p counts) (i : ℕ) (there : i < length (hypotheses counts)) where
   abbrev n : ℕ
   n = length (hypotheses counts)
 
   abbrev posts : List Float
   posts = posteriors first p counts
 
-  abbrev x : Float
-  x = getD posts i nan
+  abbrev tens : List Float
+  tens = tensOf posts n
 
-  enough : n ≤ length posts
-  enough = rw (posts-length p counts ok) (at-most-36 counts)
+  pub chance-at : (e : Float → Float)
+      → getD (probabilitiesWith e posts n) i nan ≡ tenBy e (lessWhole smaller (wholeBy e tens) (getD tens i nan))
+  unfolding probabilitiesWith
+  chance-at e =
+      let less = lessWhole smaller (wholeBy e tens) in
+      let normal = map less tens in
+      let h : i < length tens = rw (tens-length p counts ok) there in
+      let m : i < length normal = rw (length-map tens less) h in
+      let q : i < length (map (tenBy e) normal) = rw (length-map normal (tenBy e)) m in
+      rw (in-use-all n (at-most-36 counts))
+      (List·getD-append (map (tenBy e) normal) (replicate (36 - length (map (tenBy e) normal)) (nat 0)) nan i q
+      ∙ map-at (tenBy e) normal nan nan i m ∙ ap (tenBy e) (map-at less tens nan nan i h))
 
-  tens-at : getD (tensOf posts n) i nan ≡ inTens x
-  tens-at =
-      map-at inTens (take n posts) nan nan i (rw (length-take-le n posts enough) there) ∙ ap inTens (getD-take n posts i nan there)
+  own-chance : getD (probabilitiesWith expOf posts n) i nan ≡ pow10Of (normalisedAt p counts i)
+  unfolding pow10Of
+  own-chance = chance-at expOf ∙ rw (whole-by-exp tens)
 
-  pub chance-is : getD (calledOf larger smaller first p counts .probabilities) i nan ≡ pow10Of (normalisedAt p counts i)
-  unfolding calledOf probabilityOf
+  -- the normalised posterior is a number not above 0
+  normalised : 0 < n → Within (2 ^ 47 + 2 ^ 48) (normalisedAt p counts i) × NotAbove (normalisedAt p counts i)
+  normalised some =
+      let w = whole-within tens (tens-some p counts ok some) (tens-few p counts ok) (tens-posteriors p counts ok) in
+      let Y = each-at DecimalPosterior tens (tens-posteriors p counts ok) i (rw (tens-length p counts ok) there) in
+      smaller-zero (getD tens i nan ⊖ wholeOver larger tens) (within-sub (Y .within) w (lit≤ tt))
+
+-- ---- in an answer; a refusal has no hypotheses
+
+module _ (p : Params) (counts : List ℕ) (alpha : T (fits binary64 (p .alpha))) (beta : T (fits binary64 (p .beta))) (i : ℕ)
+    (there : i < genotypeOf p counts .hypotheses) where
+  abbrev y : Float
+  y = normalisedAt p counts i
+
+  abbrev chance : Float
+  chance = getD (genotypeOf p counts .probabilities) i nan
+
+  pub chance-is : chance ≡ pow10Of y
   chance-is =
-      let all = in-use-all n (at-most-36 counts) in
-      let at = probability-at larger smaller posts (posts-length p counts ok) n i (rw all there) in
-      at ∙ rw (all, tens-at)
+      beside-own (λ _ a. i < a .hypotheses → getD (a .probabilities) i nan ≡ pow10Of y) (λ _ h. absurd (not-suc-le-zero h))
+      expOf p counts (λ ok h. own-chance p counts (passed-accepted ok alpha beta) i h) there
 
-  -- it is not above 0
-  not-above : NotAbove (normalisedAt p counts i)
-  not-above =
-      let some = some-hypothesis counts (ok .few) read in
-      let w = whole-within (tensOf posts n) (tens-some p counts ok some) (tens-few p counts ok) (tens-posteriors p counts ok) in
-      let X = in-tens-posterior x (posteriors-within p counts ok i there) in
-      rw tens-at (smaller-zero (inTens x ⊖ wholeOver larger (tensOf posts n)) (within-sub (X .within) w (lit≤ tt)) .1)
+  bounds : Within (2 ^ 47 + 2 ^ 48) y × NotAbove y
+  bounds =
+      beside-own (λ _ a. i < a .hypotheses → Within (2 ^ 47 + 2 ^ 48) y × NotAbove y) (λ _ h. absurd (not-suc-le-zero h))
+      expOf p counts (λ ok h.
+      normalised p counts (passed-accepted ok alpha beta) i h (some-hypothesis counts (ok .few) (ok .read))) there
 
-  pub chance-positive : T (le (whole (negℤ (pos 323))) (normalisedAt p counts i))
-      → T (positive (getD (calledOf larger smaller first p counts .probabilities) i nan))
+  pub chance-zero : lt (y ⊗ lnOf (nat 10)) (whole (negℤ (pos 745))) ≡ true → chance ≡ nat 0
+  chance-zero h = chance-is ∙ (unfold pow10Of in exp-below (y ⊗ lnOf (nat 10)) h)
+
+  pub chance-positive : lt (y ⊗ lnOf (nat 10)) (whole (negℤ (pos 745))) ≡ false → T (positive chance)
   chance-positive h =
-      let y = normalisedAt p counts i in
-      rw chance-is (pow10-chance-positive y h (not-above-le y not-above))
+      let ten = lnOf (nat 10) in
+      let z = y ⊗ ten in
+      let finite = within-mul (bounds .0) ten-within (lit≤ tt) .is-finite in
+      let low = not-above-le z (mul-not-above y ten (bounds .1) (ten-above .is-positive) finite) in
+      let number = le-number z nought low in
+      rw chance-is (unfold pow10Of round in
+      by-tests (λ (v : Float). T (positive v)) z number (λ t. absurd (not-both t h))
+      (λ t. absurd (not-both t (not-most 0 zero-le z low))) (parts-positive z number))
+
+  pub chance-from-323 : T (le (whole (negℤ (pos 323))) y) → T (positive chance)
+  chance-from-323 h = rw chance-is (pow10-chance-positive y h (not-above-le y (bounds .1)))

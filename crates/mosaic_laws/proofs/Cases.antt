@@ -1,0 +1,70 @@
+-- An answer of mosaic is a refusal, or the call of inputs that passed every test. So what holds of two like refusals, and of two calls of
+-- such inputs, holds of the two answers: `by-refusals`. Assumes nothing.
+use mathlib.Core.Path.{_≡_, refl}
+use mathlib.Core.Bool.{Bool, true, false, _||_, cond}
+use mathlib.Core.List.{List}
+use Prim.Native.Nat.{ℕ, _≤_, _<_}
+use native.Mathlib.Omega.{arith}
+use borrow.Author.Tests.{leb-true, eqb-false}
+use lib.Dec.{T, leb, ltb, eqb}
+use lib.ListN.{length}
+use lib.Ieee.{binary64, fits}
+use Rattle.refusals.specs.declared.Refusal.{Refusal}
+use Rattle.refusals.specs.declared.Refusal.the-variants.{TooMany, Count, Model, NoCall}
+use Rattle.limits.specs.Limits.{countsAllowed}
+use Rattle.models.specs.declared.params.Params.{Params}
+use Rattle.alleles.specs.Alleles.{totalOf}
+use Rattle.mosaic.specs.Allowed.{paramsAllowed}
+use Rattle.mosaic.specs.Genotype.{blank}
+use Rattle.mosaic.specs.declared.genotype.MosaicResult.{MosaicResult}
+use Rattle.mosaic_laws.specs.Accepted.{Accepted}
+
+-- what the tests said of inputs that are not refused
+pub record Passed (p : Params) (counts : List ℕ) : Type 0 where
+  pub few : length counts ≤ 8
+  pub params-are : paramsAllowed p ≡ true
+  pub counts-are : countsAllowed counts ≡ true
+  pub read : 0 < totalOf counts
+
+pub passed-accepted : {p : Params} {counts : List ℕ} → Passed p counts → T (fits binary64 (p .alpha)) → T (fits binary64 (p .beta))
+    → Accepted p counts
+passed-accepted h alpha beta = record {
+  params-are = h .params-are;
+  alpha-is-f64 = alpha;
+  beta-is-f64 = beta;
+  counts-are = h .counts-are;
+  few = h .few;
+}
+
+-- O1, R11: the refusals in their order, and where there is none the call
+abbrev unlessRefused : Params → List ℕ → MosaicResult → MosaicResult
+unlessRefused p counts call =
+    cond (leb (length counts) 8)
+    (cond (paramsAllowed p)
+    (cond (countsAllowed counts)
+    (cond (ltb (totalOf counts) (p .depth) || eqb (totalOf counts) 0) (blank NoCall) call)
+    (blank Count))
+    (blank Model))
+    (blank TooMany)
+
+pub by-refusals : (R : MosaicResult → MosaicResult → Type 0) → ((r : Refusal) → R (blank r) (blank r))
+    → (p : Params) (counts : List ℕ) (a b : MosaicResult)
+    → (Passed p counts → R a b)
+    → R (unlessRefused p counts a) (unlessRefused p counts b)
+by-refusals R refused p counts a b called =
+    go (leb (length counts) 8) (paramsAllowed p) (countsAllowed counts) (ltb (totalOf counts) (p .depth)) (eqb (totalOf counts) 0)
+    refl refl refl refl
+  where
+    answer : MosaicResult → Bool → Bool → Bool → Bool → MosaicResult
+    answer call q r s t = cond q (cond r (cond s (cond t (blank NoCall) call) (blank Count)) (blank Model)) (blank TooMany)
+
+    go : (q r s t u : Bool) → leb (length counts) 8 ≡ q → paramsAllowed p ≡ r → countsAllowed counts ≡ s → eqb (totalOf counts) 0 ≡ u
+        → R (answer a q r s (t || u)) (answer b q r s (t || u))
+    go false r s t u Q P C N = refused TooMany
+    go true false s t u Q P C N = refused Model
+    go true true false t u Q P C N = refused Count
+    go true true true true u Q P C N = refused NoCall
+    go true true true false true Q P C N = refused NoCall
+    go true true true false false Q P C N =
+        let some = eqb-false (totalOf counts) 0 N in
+        called (record { few = leb-true (length counts) 8 Q; params-are = P; counts-are = C; read = omega arith })
