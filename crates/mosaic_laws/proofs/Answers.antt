@@ -2,14 +2,14 @@
 -- and the quality from −2 to 100: `finite-answer`. With the refusals, the same of every answer: `every-answer`. Assumes nothing.
 use mathlib.Core.Path.{_≡_, refl, sym, ap, _∙_, subst}
 use mathlib.Core.Logic.{inr}
-use mathlib.Core.Bool.{Bool, true, false, not, _||_, cond, true≢false}
+use mathlib.Core.Bool.{Bool, true, false, not, cond, true≢false}
 use mathlib.Core.List.{List, [], _∷_, map}
 use mathlib.Mathlib.Data.Bool.Basic.{and-elim-left}
 use Prim.Native.Nat.{ℕ, zero, suc, pred, _-_, _^_, _≤_, _<_}
 use native.Mathlib.Nat.{not-suc-le-zero}
 use native.Mathlib.Omega.{arith}
-use borrow.Author.Tests.{ltb-true, ltb-false, leb-true, eqb-false}
-use lib.Dec.{T, leb, ltb, eqb, lit≤, eqb·suc-zero}
+use borrow.Author.Tests.{ltb-true, ltb-false}
+use lib.Dec.{T, ltb, eqb, lit≤, eqb·suc-zero}
 use lib.ListN.{length, getD, take, replicate, getD-replicate, length-append, length-map, List·getD-append}
 use lib.Seq.{length-take-le, getD-take}
 use lib.Ieee.{Float, nan, binary64, fits}
@@ -17,8 +17,6 @@ use Rattle.floats.specs.F64.{nat}
 use Rattle.floats.specs.Within.{Within, UpTo}
 use Rattle.floats.proofs.Bounds.{within-more, positive-not-below}
 use Rattle.refusals.specs.declared.Refusal.{Refusal}
-use Rattle.refusals.specs.declared.Refusal.the-variants.{TooMany, Count, Model, NoCall}
-use Rattle.limits.specs.Limits.{countsAllowed}
 use Rattle.picks.specs.Order.{larger, smaller}
 use Rattle.tens.specs.Normalised.{inTens, wholeOver}
 use Rattle.probabilities.specs.Quality.{tensOf, probabilities, wrongOf, qualityBy}
@@ -29,7 +27,6 @@ use Rattle.lists.specs.Every.{Each}
 use Rattle.lists.specs.Lists.{numbers, passing}
 use Rattle.lists.proofs.PlaceLaws.{number-at, map-at}
 use Rattle.hypotheses.specs.Edition.{first}
-use Rattle.mosaic.specs.Allowed.{paramsAllowed}
 use Rattle.alleles.specs.Alleles.{countAt, seenIn, germlineIn, somaticIn, totalOver, totalOf, pair}
 use Rattle.hypotheses.specs.Hypotheses.{seenAlleles, singles, pairs, hypotheses, allPairs, bothSeen}
 use Rattle.candidates.specs.Shares.{vafAt}
@@ -39,7 +36,6 @@ use Rattle.hypotheses.specs.Choice.{posteriors}
 use Rattle.mosaic.specs.Genotype.{blank, flagsOf, calledOf, genotypeBy, genotypeOf}
 use Rattle.models.specs.declared.params.Params.{Params}
 use Rattle.alleles.specs.declared.pair.Pair.{Pair}
-use Rattle.mosaic.specs.declared.genotype.MosaicResult.{MosaicResult}
 use Rattle.lists.proofs.PaddedLaws.{padded-length}
 use Rattle.probabilities.proofs.WinnerLaws.{winner-low}
 use Rattle.hypotheses.proofs.Scanned.{all-seen, at-most-36}
@@ -49,6 +45,7 @@ use Rattle.mosaic_laws.proofs.Seen.{seen-some, seen-in, count-in}
 use Rattle.mosaic_laws.proofs.Places.{flag-at, found-rest}
 use Rattle.mosaic_laws.proofs.Finite.{posterior-within, found-vafs}
 use Rattle.mosaic_laws.proofs.Chances.{chance-more, nothing, DecimalPosterior, each-map, each-place, in-tens-posterior, chance}
+use Rattle.mosaic_laws.proofs.Cases.{passed-accepted, by-refusals}
 use Rattle.mosaic_laws.proofs.Qualities.{wrong-chance, wrong-fits, bounded, minus-two}
 
 -- ---- the members of a list that pass a test
@@ -284,21 +281,6 @@ pub every-answer : (p : Params) (counts : List ℕ) → T (fits binary64 (p .alp
     → FiniteAnswer (genotypeOf p counts)
 unfolding genotypeBy
 every-answer p counts f h =
-    go (leb (length counts) 8) (paramsAllowed p) (countsAllowed counts) (ltb (totalOf counts) (p .depth))
-    (eqb (totalOf counts) 0) refl refl refl refl
-  where
-    called : MosaicResult
-    called = calledOf larger smaller first p counts
-
-    go : (a b c d e : Bool) → leb (length counts) 8 ≡ a → paramsAllowed p ≡ b → countsAllowed counts ≡ c → eqb (totalOf counts) 0 ≡ e
-        → FiniteAnswer (cond a (cond b (cond c (cond (d || e) (blank NoCall) called) (blank Count)) (blank Model)) (blank TooMany))
-    go false b c d e q r s t = blank-finite TooMany
-    go true false c d e q r s t = blank-finite Model
-    go true true false d e q r s t = blank-finite Count
-    go true true true true e q r s t = blank-finite NoCall
-    go true true true false true q r s t = blank-finite NoCall
-    go true true true false false q r s t =
-        let some = eqb-false (totalOf counts) 0 t in
-        let few = leb-true (length counts) 8 q in
-        let ok : Accepted p counts = record { params-are = r; alpha-is-f64 = f; beta-is-f64 = h; counts-are = s; few = few } in
-        finite-answer p counts ok (omega arith)
+    let call = calledOf larger smaller first p counts in
+    by-refusals (λ _ a. FiniteAnswer a) blank-finite p counts call call (λ ok.
+    finite-answer p counts (passed-accepted ok f h) (ok .read))

@@ -1,14 +1,13 @@
 -- Which zero a max and a min give changes no answer of mosaic. M7: every posterior is finite, so the steps are alike but for a zero's
 -- sign, which no power of ten sees, and a cap of 1000 is no zero: `mosaic-any`. M3: 0.01 is no zero: `share-any`. Assumes nothing.
 use mathlib.Core.Path.{_≡_, refl, sym, ap, ap₂, subst}
-use mathlib.Core.Bool.{Bool, true, false, _||_, cond}
+use mathlib.Core.Bool.{Bool, true, false, cond}
 use mathlib.Core.List.{List, [], _∷_, map}
 use Prim.Native.Nat.{ℕ, _≤_, _<_}
 use native.Mathlib.Nat.{not-suc-le-zero}
 use native.Mathlib.Omega.{arith}
-use borrow.Author.Tests.{leb-true, eqb-false}
 use lib.IntN.{negsuc}
-use lib.Dec.{T, leb, ltb, eqb, lit≤}
+use lib.Dec.{T, lit≤}
 use lib.ListN.{length}
 use lib.Ieee.{Float, binary64, round, lt, fits}
 use lib.Ieee.Fits.{round-fits, add-fits, sub-fits, mul-fits, div-fits}
@@ -19,8 +18,6 @@ use Rattle.floats.proofs.Zeros.{Number, Alike, same, alike-sym, alike-trans, al
 use Rattle.kernels.specs.Ln.{lnOf}
 use Rattle.tens.specs.Log10.{log10Of, pow10Of}
 use Rattle.tens.specs.Normalised.{largestFrom, wholeOver, lessWhole, normalisedOver}
-use Rattle.refusals.specs.declared.Refusal.the-variants.{TooMany, Count, Model, NoCall}
-use Rattle.limits.specs.Limits.{countsAllowed}
 use Rattle.models.specs.declared.params.Params.{Params}
 use Rattle.picks.specs.Order.{Pick, IsMax, IsMin, larger, smaller}
 use Rattle.lists.specs.Every.{Each}
@@ -34,13 +31,12 @@ use Rattle.hypotheses.specs.Edition.{first}
 use Rattle.hypotheses.specs.Hypotheses.{hypotheses}
 use Rattle.hypotheses.specs.Choice.{posteriors}
 use Rattle.hypotheses.proofs.Scanned.{at-most-36}
-use Rattle.mosaic.specs.Allowed.{paramsAllowed}
-use Rattle.mosaic.specs.Genotype.{blank, calledOf, genotypeBy, genotypeOf}
-use Rattle.mosaic.specs.declared.genotype.MosaicResult.{MosaicResult}
+use Rattle.mosaic.specs.Genotype.{calledOf, genotypeBy, genotypeOf}
 use Rattle.mosaic_laws.specs.Accepted.{Accepted}
 use Rattle.mosaic_laws.proofs.OneLess.{one-less}
 use Rattle.mosaic_laws.proofs.Chances.{DecimalPosterior, log-within, whole-within}
 use Rattle.mosaic_laws.proofs.Qualities.{rawOf, raw-within}
+use Rattle.mosaic_laws.proofs.Cases.{passed-accepted, by-refusals}
 use Rattle.mosaic_laws.proofs.Answers.{some-hypothesis, tens-some, tens-few, tens-posteriors, wrong, wrong-within, wrong-number}
 
 -- ---- the probabilities and the quality
@@ -177,25 +173,8 @@ module _ (max min : Pick) (is-max : IsMax max) (is-min : IsMin min) where
       → genotypeBy max min first p counts ≡ genotypeOf p counts
   unfolding genotypeBy
   mosaic-any p counts f h =
-      go (leb (length counts) 8) (paramsAllowed p) (countsAllowed counts) (ltb (totalOf counts) (p .depth))
-      (eqb (totalOf counts) 0) refl refl refl refl
-    where
-      answer : Pick → Pick → Bool → Bool → Bool → Bool → MosaicResult
-      answer max min a b c d =
-          cond a (cond b (cond c (cond d (blank NoCall) (calledOf max min first p counts)) (blank Count)) (blank Model)) (blank TooMany)
-
-      go : (a b c d e : Bool) → leb (length counts) 8 ≡ a → paramsAllowed p ≡ b → countsAllowed counts ≡ c → eqb (totalOf counts) 0 ≡ e
-          → answer max min a b c (d || e) ≡ answer larger smaller a b c (d || e)
-      go false b c d e q r s t = refl
-      go true false c d e q r s t = refl
-      go true true false d e q r s t = refl
-      go true true true true e q r s t = refl
-      go true true true false true q r s t = refl
-      go true true true false false q r s t =
-          let some = eqb-false (totalOf counts) 0 t in
-          let few = leb-true (length counts) 8 q in
-          let ok : Accepted p counts = record { params-are = r; alpha-is-f64 = f; beta-is-f64 = h; counts-are = s; few = few } in
-          called-any p counts ok (omega arith)
+      by-refusals (λ a b. a ≡ b) (λ _. refl) p counts (calledOf max min first p counts) (calledOf larger smaller first p counts)
+      (λ ok. called-any p counts (passed-accepted ok f h) (ok .read))
 
 -- ---- M3: what the somatic VAFs leave, for any mass that is a number
 

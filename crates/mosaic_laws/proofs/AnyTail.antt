@@ -2,12 +2,10 @@
 -- it is proved, nothing else: `mosaic-tail`, at every input. While exp was 0 there, the answers were these but for that:
 -- `mosaic-unchanged`. Assumes nothing.
 use mathlib.Core.Path.{_≡_, refl, subst}
-use mathlib.Core.Bool.{Bool, true, false, _||_, cond}
 use mathlib.Core.List.{List, [], _∷_, _++_, map}
 use Prim.Native.Nat.{ℕ, zero, suc, _+_, _-_, _*_, _/_, _≤_}
 use native.Mathlib.Nat.{mul-le-mul}
 use native.Mathlib.Omega.{arith}
-use lib.Dec.{leb, ltb, eqb}
 use lib.ListN.{length, getD, take, replicate, length-map}
 use lib.Ieee.{Float, nan, binary64, lt}
 use lib.Ieee.Fits.{nan-fits}
@@ -22,19 +20,15 @@ use Rattle.bounds.proofs.ExpTail.{exp-is-tail, flushed-is-tail, tail-summand, t
 use Rattle.diploid_laws.specs.Tails.{wholeBy}
 use Rattle.diploid_laws.proofs.AnyTail.{whole-by-exp, whole-tail}
 use Rattle.refusals.specs.declared.Refusal.{Refusal}
-use Rattle.refusals.specs.declared.Refusal.the-variants.{TooMany, Count, Model, NoCall}
-use Rattle.limits.specs.Limits.{countsAllowed}
 use Rattle.models.specs.declared.params.Params.{Params}
 use Rattle.picks.specs.Order.{larger, smaller}
 use Rattle.lists.specs.Lists.{padded}
 use Rattle.probabilities.specs.Quality.{inUse, tensOf, probabilities, qualityOf}
 use Rattle.probabilities.proofs.InUse.{in-use-all}
-use Rattle.alleles.specs.Alleles.{totalOf}
 use Rattle.hypotheses.specs.Edition.{first}
 use Rattle.hypotheses.specs.Hypotheses.{seenAlleles, hypotheses}
 use Rattle.hypotheses.specs.Choice.{posteriors}
 use Rattle.probabilities.specs.Winner.{winner}
-use Rattle.mosaic.specs.Allowed.{paramsAllowed}
 use Rattle.mosaic.specs.Genotype.{blank, calledOf, genotypeBy, genotypeOf}
 use Rattle.mosaic.specs.declared.genotype.MosaicResult.{MosaicResult}
 use Rattle.mosaic_laws.specs.Tails.{probabilitiesWith, calledWith, genotypeWith, SameButTiny}
@@ -146,23 +140,8 @@ module _ (e : Float → Float) (tail : Tail e) (p : Params) (counts : List ℕ) 
   blank-tail : (r : Refusal) → SameButTiny (blank r) (blank r)
   blank-tail r = record { same-call = refl; same-quality = λ _. refl; same-or-tiny = λ _ i _. same refl }
 
-  by-exp-tail : SameButTiny (genotypeWith e p counts) (genotypeWith expOf p counts)
-  by-exp-tail =
-      go (leb (length counts) 8) (paramsAllowed p) (countsAllowed counts) (ltb (totalOf counts) (p .depth) || eqb (totalOf counts) 0)
-    where
-      answer : (Float → Float) → Bool → Bool → Bool → Bool → MosaicResult
-      answer e a b c d =
-          cond a (cond b (cond c (cond d (blank NoCall) (calledWith e p counts)) (blank Count)) (blank Model)) (blank TooMany)
-
-      go : (a b c d : Bool) → SameButTiny (answer e a b c d) (answer expOf a b c d)
-      go false b c d = blank-tail TooMany
-      go true false c d = blank-tail Model
-      go true true false d = blank-tail Count
-      go true true true true = blank-tail NoCall
-      go true true true false = called-tail
-
   pub mosaic-tail : SameButTiny (genotypeWith e p counts) (genotypeOf p counts)
-  mosaic-tail = subst (SameButTiny (genotypeWith e p counts)) (mosaic-by-exp p counts) by-exp-tail
+  mosaic-tail = beside-own SameButTiny blank-tail e p counts (λ _. called-tail)
 
 -- ---- while exp was 0 below −708
 

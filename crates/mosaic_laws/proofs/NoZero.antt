@@ -2,21 +2,18 @@
 -- what K4 says: `no-zero-same`, for any number of seen alleles. Where exp is 0 below −708 and no probability is 0, it was taken nowhere
 -- below −708: not at the normalised posteriors, and so not in the sum that they are normalised by, since that is not below its largest
 -- summand. Over any exponential: `no-tail-same`. Assumes nothing.
-use mathlib.Core.Path.{_≡_, refl, ap, _∙_, subst}
-use mathlib.Core.Bool.{Bool, true, false, _||_, cond}
+use mathlib.Core.Path.{_≡_, refl, _∙_, subst}
+use mathlib.Core.Bool.{Bool, true, false, cond}
 use mathlib.Core.List.{List, [], _∷_, map}
 use Prim.Native.Nat.{ℕ, _+_, _-_, _*_, _^_, _≤_, _<_}
 use native.Mathlib.Omega.{arith}
-use borrow.Author.Tests.{leb-true}
 use lib.IntN.{pos, negℤ}
-use lib.Dec.{T, leb, ltb, eqb, lit≤}
-use lib.ListN.{length, getD, take, replicate, length-map, List·getD-append}
-use lib.Seq.{length-take-le}
+use lib.Dec.{T, lit≤}
+use lib.ListN.{length, getD}
 use lib.Ieee.{Float, nan, binary64, lt, le, fits}
 use lib.Ieee.Fits.{cond-fits, ofInt-fits, sub-fits, mul-fits}
 use lib.Ieee.Positive.{positive, above-of-le}
 use Rattle.lists.specs.Every.{Each}
-use Rattle.lists.proofs.PlaceLaws.{map-at}
 use Rattle.floats.specs.F64.{_⊖_, _⊗_, whole, nat, sumFrom}
 use Rattle.floats.specs.Within.{Within, UpTo}
 use Rattle.floats.specs.Tiny.{Summand}
@@ -31,7 +28,7 @@ use Rattle.floats.proofs.Zeros.{Number}
 use Rattle.kernels.specs.Ln.{lnOf}
 use Rattle.kernels.specs.Exp.{expOf}
 use Rattle.tens.specs.Log10.{log10Of, pow10Of}
-use Rattle.tens.specs.Normalised.{inTens, largestFrom, lessWhole}
+use Rattle.tens.specs.Normalised.{largestFrom, lessWhole}
 use Rattle.bounds.specs.Tail.{Tail, expFlushed, tenBy}
 use Rattle.bounds.proofs.ExpBounds.{deep, lt-number}
 use Rattle.bounds.proofs.ExpTail.{flushed-is-tail, tail-summand}
@@ -42,29 +39,23 @@ use Rattle.diploid_laws.specs.Tails.{wholeBy}
 use Rattle.diploid_laws.proofs.AnyTail.{largest-among, ten-from-one}
 use Rattle.diploid_laws.proofs.QualityBounds.{ten-above, ten-within, smaller-zero}
 use Rattle.diploid_laws.proofs.Signs.{NotAbove, lt-itself, lt-not-back, no-trans, difference-not-above}
-use Rattle.refusals.specs.declared.Refusal.the-variants.{TooMany, Count, Model, NoCall}
-use Rattle.limits.specs.Limits.{countsAllowed}
 use Rattle.models.specs.declared.params.Params.{Params}
 use Rattle.probabilities.specs.Quality.{tensOf}
 use Rattle.probabilities.proofs.InUse.{in-use-all}
-use Rattle.alleles.specs.Alleles.{totalOf}
 use Rattle.hypotheses.specs.Edition.{first}
 use Rattle.hypotheses.specs.Hypotheses.{hypotheses}
 use Rattle.hypotheses.specs.Choice.{posteriors}
 use Rattle.hypotheses.proofs.Scanned.{at-most-36}
-use Rattle.mosaic.specs.Allowed.{paramsAllowed}
-use Rattle.mosaic.specs.Genotype.{blank, genotypeOf}
-use Rattle.mosaic.specs.declared.genotype.MosaicResult.{MosaicResult}
+use Rattle.mosaic.specs.Genotype.{genotypeOf}
 use Rattle.mosaic_laws.specs.Accepted.{Accepted}
 use Rattle.mosaic_laws.specs.Tails.{probabilitiesWith, calledWith, genotypeWith, NoneZero}
 use Rattle.mosaic_laws.proofs.Chances.{chance-add, chance-more, pow10-chance, each-place, DecimalPosterior, LargestOf, largest-is}
-use Rattle.mosaic_laws.proofs.Answers.{posts-length, tens-few, tens-posteriors}
-use Rattle.mosaic_laws.proofs.AnyTail.{mosaic-by-exp}
+use Rattle.mosaic_laws.proofs.Answers.{tens-length, tens-few, tens-posteriors}
+use Rattle.mosaic_laws.proofs.Cases.{passed-accepted}
+use Rattle.mosaic_laws.proofs.AnyTail.{beside-own}
+use Rattle.mosaic_laws.proofs.Vanish.{chance-at}
 
 -- ---- order
-
-decimal-number : {x : Float} → DecimalPosterior x → Number x
-decimal-number X = record { is-finite = X .within .is-finite; is-f64 = X .is-f64 }
 
 deep-number : Number deep
 deep-number = record {
@@ -237,48 +228,7 @@ module _ (e : Float → Float) (p : Params) (counts : List ℕ) (ok : Accepted p
   called-same : Tail e → Each (NotDeep (wholeBy e tens)) tens → calledWith e p counts ≡ calledWith expOf p counts
   called-same tail h = rw (chances-same tail h)
 
-  tens-length : length tens ≡ n
-  tens-length =
-      length-map (take n posts) inTens ∙ length-take-le n posts (rw (posts-length p counts ok) (at-most-36 counts))
-
-  -- the probability in place i
-  chance-at : (i : ℕ) → i < length tens
-      → getD (probabilitiesWith e posts n) i nan ≡ tenBy e (lessWhole smaller (wholeBy e tens) (getD tens i nan))
-  unfolding probabilitiesWith
-  chance-at i h =
-      let less = lessWhole smaller (wholeBy e tens) in
-      let m : i < length normal = rw (length-map tens less) h in
-      let q : i < length (map (tenBy e) normal) = rw (length-map normal (tenBy e)) m in
-      rw (in-use-all n (at-most-36 counts))
-      (List·getD-append (map (tenBy e) normal) (replicate (36 - length (map (tenBy e) normal)) (nat 0)) nan i q
-      ∙ map-at (tenBy e) normal nan nan i m ∙ ap (tenBy e) (map-at less tens nan nan i h))
-
--- ---- the answer, by its refusals
-
--- a condition under which a call is the same is one under which every answer is: a refusal takes no exponential
-by-refusals : (e : Float → Float) (p : Params) (counts : List ℕ) → T (fits binary64 (p .alpha)) → T (fits binary64 (p .beta))
-    → (H : MosaicResult → Type 0)
-    → (Accepted p counts → H (calledWith e p counts) → calledWith e p counts ≡ calledWith expOf p counts)
-    → H (genotypeWith e p counts)
-    → genotypeWith e p counts ≡ genotypeOf p counts
-by-refusals e p counts alpha beta H called h =
-    go (leb (length counts) 8) (paramsAllowed p) (countsAllowed counts) (ltb (totalOf counts) (p .depth) || eqb (totalOf counts) 0)
-    refl refl refl h
-    ∙ mosaic-by-exp p counts
-  where
-    answer : (Float → Float) → Bool → Bool → Bool → Bool → MosaicResult
-    answer e a b c d =
-        cond a (cond b (cond c (cond d (blank NoCall) (calledWith e p counts)) (blank Count)) (blank Model)) (blank TooMany)
-
-    go : (a b c d : Bool) → leb (length counts) 8 ≡ a → paramsAllowed p ≡ b → countsAllowed counts ≡ c → H (answer e a b c d)
-        → answer e a b c d ≡ answer expOf a b c d
-    go false b c d q r s h = refl
-    go true false c d q r s h = refl
-    go true true false d q r s h = refl
-    go true true true true q r s h = refl
-    go true true true false q r s h =
-        let few = leb-true (length counts) 8 q in
-        called (record { params-are = r; alpha-is-f64 = alpha; beta-is-f64 = beta; counts-are = s; few = few }) h
+-- ---- the answer; a refusal takes no exponential
 
 -- where no probability is ten to less than −708 / ln 10, an answer owes nothing to the exponential below −708
 pub no-tail-same : (e : Float → Float) → Tail e → (p : Params) (counts : List ℕ)
@@ -287,7 +237,7 @@ pub no-tail-same : (e : Float → Float) → Tail e → (p : Params) (counts : L
     Each (λ y. lt (lessWhole smaller (wholeBy e tens) y ⊗ lnOf (nat 10)) (whole (negℤ (pos 708))) ≡ false) tens)
     → genotypeWith e p counts ≡ genotypeOf p counts
 no-tail-same e tail p counts alpha beta h =
-    by-refusals e p counts alpha beta (λ _. Unit) (λ ok _. called-same e p counts ok tail h) tt
+    beside-own (λ a b. a ≡ b) (λ _. refl) e p counts (λ ok. called-same e p counts (passed-accepted ok alpha beta) tail h)
 
 -- ---- while exp was 0 below −708
 
@@ -306,11 +256,13 @@ none-deep p counts ok some =
     let w = wholeBy expFlushed tens in
     each-place (NotDeep w) tens (λ i m.
     flushed-not-deep (lessWhole smaller w (getD tens i nan) ⊗ lnOf (nat 10)) (λ z.
-    some i (subst (λ (k : ℕ). i < k) (tens-length expFlushed p counts ok) m) (chance-at expFlushed p counts ok i m ∙ z)))
+    let there = subst (λ (k : ℕ). i < k) (tens-length p counts ok) m in
+    some i there (chance-at p counts ok i there expFlushed ∙ z)))
 
 -- what was recorded then with no probability of 0 is what is answered now, in every bit
 pub no-zero-same : (p : Params) (counts : List ℕ) → T (fits binary64 (p .alpha)) → T (fits binary64 (p .beta))
     → NoneZero (genotypeWith expFlushed p counts) → genotypeWith expFlushed p counts ≡ genotypeOf p counts
-no-zero-same p counts alpha beta h =
-    by-refusals expFlushed p counts alpha beta NoneZero
-    (λ ok some. called-same expFlushed p counts ok flushed-is-tail (none-deep p counts ok some)) h
+no-zero-same p counts alpha beta =
+    beside-own (λ a b. NoneZero a → a ≡ b) (λ _ _. refl) expFlushed p counts (λ ok some.
+    let k = passed-accepted ok alpha beta in
+    called-same expFlushed p counts k flushed-is-tail (none-deep p counts k some))

@@ -87,10 +87,10 @@ module _ (p : Params) (counts : List ℕ) (alpha : T (fits binary64 (p .alpha)))
   abbrev y : Float
   y = normalisedAt p counts i
 
-  abbrev chance : Float
-  chance = getD (genotypeOf p counts .probabilities) i nan
+  abbrev probability : Float
+  probability = getD (genotypeOf p counts .probabilities) i nan
 
-  pub chance-is : chance ≡ pow10Of y
+  pub chance-is : probability ≡ pow10Of y
   chance-is =
       beside-own (λ _ a. i < a .hypotheses → getD (a .probabilities) i nan ≡ pow10Of y) (λ _ h. absurd (not-suc-le-zero h))
       expOf p counts (λ ok h. own-chance p counts (passed-accepted ok alpha beta) i h) there
@@ -101,10 +101,10 @@ module _ (p : Params) (counts : List ℕ) (alpha : T (fits binary64 (p .alpha)))
       expOf p counts (λ ok h.
       normalised p counts (passed-accepted ok alpha beta) i h (some-hypothesis counts (ok .few) (ok .read))) there
 
-  pub chance-zero : lt (y ⊗ lnOf (nat 10)) (whole (negℤ (pos 745))) ≡ true → chance ≡ nat 0
+  pub chance-zero : lt (y ⊗ lnOf (nat 10)) (whole (negℤ (pos 745))) ≡ true → probability ≡ nat 0
   chance-zero h = chance-is ∙ (unfold pow10Of in exp-below (y ⊗ lnOf (nat 10)) h)
 
-  pub chance-positive : lt (y ⊗ lnOf (nat 10)) (whole (negℤ (pos 745))) ≡ false → T (positive chance)
+  pub chance-positive : lt (y ⊗ lnOf (nat 10)) (whole (negℤ (pos 745))) ≡ false → T (positive probability)
   chance-positive h =
       let ten = lnOf (nat 10) in
       let z = y ⊗ ten in
@@ -115,5 +115,5 @@ module _ (p : Params) (counts : List ℕ) (alpha : T (fits binary64 (p .alpha)))
       by-tests (λ (v : Float). T (positive v)) z number (λ t. absurd (not-both t h))
       (λ t. absurd (not-both t (not-most 0 zero-le z low))) (parts-positive z number))
 
-  pub chance-from-323 : T (le (whole (negℤ (pos 323))) y) → T (positive chance)
+  pub chance-from-323 : T (le (whole (negℤ (pos 323))) y) → T (positive probability)
   chance-from-323 h = rw chance-is (pow10-chance-positive y h (not-above-le y (bounds .1)))
