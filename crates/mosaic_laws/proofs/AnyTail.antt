@@ -1,9 +1,10 @@
--- What an answer of mosaic owes to the exponential below −708, where it is any number from 0 to 2^−1000: tiny probabilities and, as far as
--- it is proved, nothing else: `mosaic-tail`, at every input. While exp was 0 there, the answers were these but for that:
--- `mosaic-unchanged`. Assumes nothing.
+-- What an answer of mosaic owes to the exponential below −708, where it is any f64 from 0 to 2^−1000. Every field but the quality and the
+-- probabilities owes nothing to the exponential, at any input: `call-tail`. With up to five seen alleles each probability is the same, or
+-- from 0 to 2^−1000: `chances-tail`. With up to four such probabilities are all that differs: `mosaic-tail`. The same of an exp that is 0
+-- below −708, as it once was: `call-unchanged`, `chances-unchanged`, `mosaic-unchanged`. Assumes nothing.
 use mathlib.Core.Path.{_≡_, refl, subst}
 use mathlib.Core.List.{List, [], _∷_, _++_, map}
-use Prim.Native.Nat.{ℕ, zero, suc, _+_, _-_, _*_, _/_, _≤_}
+use Prim.Native.Nat.{ℕ, zero, suc, _+_, _-_, _*_, _/_, _≤_, _<_}
 use native.Mathlib.Nat.{mul-le-mul}
 use native.Mathlib.Omega.{arith}
 use lib.ListN.{length, getD, take, replicate, length-map}
@@ -23,7 +24,7 @@ use Rattle.refusals.specs.declared.Refusal.{Refusal}
 use Rattle.models.specs.declared.params.Params.{Params}
 use Rattle.picks.specs.Order.{larger, smaller}
 use Rattle.lists.specs.Lists.{padded}
-use Rattle.probabilities.specs.Quality.{inUse, tensOf, probabilities, qualityOf}
+use Rattle.probabilities.specs.Quality.{inUse, tensOf, probabilities}
 use Rattle.probabilities.proofs.InUse.{in-use-all}
 use Rattle.hypotheses.specs.Edition.{first}
 use Rattle.hypotheses.specs.Hypotheses.{seenAlleles, hypotheses}
@@ -31,7 +32,7 @@ use Rattle.hypotheses.specs.Choice.{posteriors}
 use Rattle.probabilities.specs.Winner.{winner}
 use Rattle.mosaic.specs.Genotype.{blank, calledOf, genotypeBy, genotypeOf}
 use Rattle.mosaic.specs.declared.genotype.MosaicResult.{MosaicResult}
-use Rattle.mosaic_laws.specs.Tails.{probabilitiesWith, calledWith, genotypeWith, SameButTiny}
+use Rattle.mosaic_laws.specs.Tails.{probabilitiesWith, calledWith, genotypeWith, withoutChances, SameButTiny}
 use Rattle.mosaic_laws.proofs.Count.{hypothesis-count}
 use Rattle.mosaic_laws.proofs.TinyWrong.{nothing-summand, quality-same}
 use Rattle.mosaic_laws.proofs.Cases.{Passed, by-refusals}
@@ -76,22 +77,22 @@ take-few zero l = omega arith
 take-few (suc n) [] = omega arith
 take-few (suc n) (x ∷ l) = omega (arith, take-few n l)
 
-tens-few : (n : ℕ) (l : List Float) → n ≤ 18 → length (tensOf l (inUse n)) ≤ 18
-tens-few n l h =
+tens-at-most : (n : ℕ) (l : List Float) → n ≤ 18 → length (tensOf l (inUse n)) ≤ 18
+tens-at-most n l h =
     let few : length (take n l) ≤ n = take-few n l in
     rw (in-use-all n (omega arith)) (rw (length-map (take n l) inTens) (omega arith))
 
-no-number : Summand nan
-no-number = record { is-f64 = nan-fits binary64; not-below = unfold lt in refl }
+nan-summand : Summand nan
+nan-summand = record { is-f64 = nan-fits binary64; not-below = unfold lt in refl }
 
 module _ (e : Float → Float) (tail : Tail e) where
-  pub chance-summand : (l : List Float) (n i : ℕ) → Summand (getD (probabilitiesWith e l n) i nan)
+  chance-summand : (l : List Float) (n i : ℕ) → Summand (getD (probabilitiesWith e l n) i nan)
   unfolding probabilitiesWith
   chance-summand l n i =
       let tens = tensOf l (inUse n) in
       let normal = map (lessWhole smaller (wholeBy e tens)) tens in
       let each : (x : Float) → Summand (tenBy e x) = λ x. tail-summand e tail (x ⊗ lnOf (nat 10)) in
-      padded-of (λ x y. Summand x) no-number (nat 0) nothing-summand (tenBy e) (tenBy e) each 36 normal i
+      padded-of (λ x y. Summand x) nan-summand (nat 0) nothing-summand (tenBy e) (tenBy e) each 36 normal i
 
   pub chance-either : (l : List Float) (n i : ℕ) → n ≤ 18
       → SameOrTiny 1000 (getD (probabilitiesWith e l n) i nan) (getD (probabilitiesWith expOf l n) i nan)
@@ -100,7 +101,7 @@ module _ (e : Float → Float) (tail : Tail e) where
       let tens = tensOf l (inUse n) in
       let normal = map (lessWhole smaller (wholeBy expOf tens)) tens in
       let each : (x : Float) → SameOrTiny 1000 (tenBy e x) (tenBy expOf x) = λ x. tail-same e tail (x ⊗ lnOf (nat 10)) in
-      rw (whole-tail e tail tens (tens-few n l h))
+      rw (whole-tail e tail tens (tens-at-most n l h))
       (padded-of (SameOrTiny 1000) (same refl) (nat 0) (same refl) (tenBy e) (tenBy expOf) each 36 normal i)
 
 -- ---- fewer seen alleles, no more hypotheses
@@ -109,6 +110,11 @@ count-few : (k s n : ℕ) → s ≤ k → n ≡ s + s * (s - 1) / 2 → n ≤ k 
 count-few k s n h e = let less : s - 1 ≤ k - 1 = omega arith in omega (arith, mul-le-mul h less)
 
 -- ---- the answer
+
+-- whatever the exponential is, all over
+pub call-tail : (e : Float → Float) (p : Params) (counts : List ℕ)
+    → withoutChances (genotypeWith e p counts) ≡ withoutChances (genotypeOf p counts)
+call-tail e p counts = beside-own (λ a b. withoutChances a ≡ withoutChances b) (λ _. refl) e p counts (λ _. refl)
 
 module _ (e : Float → Float) (tail : Tail e) (p : Params) (counts : List ℕ) where
   abbrev n : ℕ
@@ -120,30 +126,41 @@ module _ (e : Float → Float) (tail : Tail e) (p : Params) (counts : List ℕ) 
   abbrev s : ℕ
   s = length (seenAlleles counts)
 
-  quality-tail : s ≤ 4 → qualityOf smaller (probabilitiesWith e posts n) n (winner posts n)
-      ≡ qualityOf smaller (probabilitiesWith expOf posts n) n (winner posts n)
-  quality-tail h =
+  called-quality : s ≤ 4 → calledWith e p counts .quality ≡ calledWith expOf p counts .quality
+  called-quality h =
       let few : n ≤ 10 = count-few 4 s n h (hypothesis-count counts) in
       quality-same (probabilitiesWith e posts n) (probabilitiesWith expOf posts n) n (winner posts n) (omega arith)
       (λ i _. chance-summand e tail posts n i) (λ i _. chance-summand expOf exp-is-tail posts n i)
       (λ i _. chance-either e tail posts n i (omega arith))
 
-  chances-tail : s ≤ 5 → (i : ℕ)
+  called-chances : s ≤ 5 → (i : ℕ)
       → SameOrTiny 1000 (getD (probabilitiesWith e posts n) i nan) (getD (probabilitiesWith expOf posts n) i nan)
-  chances-tail h i =
+  called-chances h i =
       let few : n ≤ 15 = count-few 5 s n h (hypothesis-count counts) in
       chance-either e tail posts n i (omega arith)
 
-  called-tail : SameButTiny (calledWith e p counts) (calledWith expOf p counts)
-  called-tail = record { same-call = refl; same-quality = quality-tail; same-or-tiny = λ h i _. chances-tail h i }
+  pub chances-tail : genotypeOf p counts .seen ≤ 5 → (i : ℕ) → i < 36
+      → SameOrTiny 1000 (getD (genotypeWith e p counts .probabilities) i nan) (getD (genotypeOf p counts .probabilities) i nan)
+  chances-tail h i l =
+      beside-own (λ a b. b .seen ≤ 5 → SameOrTiny 1000 (getD (a .probabilities) i nan) (getD (b .probabilities) i nan))
+      (λ _ _. same refl) e p counts (λ _ k. called-chances k i) h
 
-  blank-tail : (r : Refusal) → SameButTiny (blank r) (blank r)
-  blank-tail r = record { same-call = refl; same-quality = λ _. refl; same-or-tiny = λ _ i _. same refl }
-
-  pub mosaic-tail : SameButTiny (genotypeWith e p counts) (genotypeOf p counts)
-  mosaic-tail = beside-own SameButTiny blank-tail e p counts (λ _. called-tail)
+  pub mosaic-tail : genotypeOf p counts .seen ≤ 4 → SameButTiny (genotypeWith e p counts) (genotypeOf p counts)
+  mosaic-tail h = record {
+    same-call = call-tail e p counts;
+    same-quality = beside-own (λ a b. b .seen ≤ 4 → a .quality ≡ b .quality) (λ _ _. refl) e p counts (λ _. called-quality) h;
+    same-or-tiny = chances-tail (omega arith);
+  }
 
 -- ---- while exp was 0 below −708
 
-pub mosaic-unchanged : (p : Params) (counts : List ℕ) → SameButTiny (genotypeWith expFlushed p counts) (genotypeOf p counts)
-mosaic-unchanged = mosaic-tail expFlushed flushed-is-tail
+module _ (p : Params) (counts : List ℕ) where
+  pub call-unchanged : withoutChances (genotypeWith expFlushed p counts) ≡ withoutChances (genotypeOf p counts)
+  call-unchanged = call-tail expFlushed p counts
+
+  pub chances-unchanged : genotypeOf p counts .seen ≤ 5 → (i : ℕ) → i < 36
+      → SameOrTiny 1000 (getD (genotypeWith expFlushed p counts .probabilities) i nan) (getD (genotypeOf p counts .probabilities) i nan)
+  chances-unchanged = chances-tail expFlushed flushed-is-tail p counts
+
+  pub mosaic-unchanged : genotypeOf p counts .seen ≤ 4 → SameButTiny (genotypeWith expFlushed p counts) (genotypeOf p counts)
+  mosaic-unchanged = mosaic-tail expFlushed flushed-is-tail p counts

@@ -1,11 +1,12 @@
--- The answer of mosaic with the exponential as an argument, for the law on what K4 says below −708: which fields it changes and which not.
--- At `expOf` these are the rules' own definitions: `mosaic-by-exp` (proofs/AnyTail.antt). Definitions only (RULES.md, M7, M8, O1, R11).
-use Prim.Native.Nat.{ℕ, _≤_, _<_}
+-- The answer of mosaic with the exponential as an argument, for the laws on what K4 says below −708: on which fields of an answer it bears
+-- and on which not. At `expOf` these are the rules' own definitions: `mosaic-by-exp` (proofs/AnyTail.antt). Definitions only (RULES.md,
+-- M7, M8, O1, R11).
+use Prim.Native.Nat.{ℕ, _<_}
 use mathlib.Core.Path.{_≡_}
 use mathlib.Core.Bool.{cond, _||_}
 use mathlib.Core.List.{List, map}
 use lib.Dec.{leb, ltb, eqb}
-use lib.ListN.{length, getD}
+use lib.ListN.{length, getD, replicate}
 use lib.Ieee.{Float, nan}
 use Rattle.floats.specs.F64.{nat}
 use Rattle.floats.specs.Tiny.{SameOrTiny}
@@ -55,7 +56,7 @@ normalisedAt p counts i =
     let tens = tensOf (posteriors first p counts) (length (hypotheses counts)) in
     lessWhole smaller (wholeOver larger tens) (getD tens i nan)
 
--- M8: an answer with its quality and its probabilities left out
+-- M8: an answer with zeros for its quality and its probabilities
 abbrev pub withoutChances : MosaicResult → MosaicResult
 withoutChances a = record {
   refusal = a .refusal;
@@ -66,19 +67,17 @@ withoutChances a = record {
   seen = a .seen;
   observed = a .observed;
   posterior = a .posterior;
-  quality = blank (a .refusal) .quality;
+  quality = nat 0;
   hypotheses = a .hypotheses;
-  probabilities = blank (a .refusal) .probabilities;
+  probabilities = replicate 36 (nat 0);
 }
 
--- M7, M8: two answers that differ in tiny probabilities alone, as far as it is proved
+-- M7, M8: two answers that differ in tiny probabilities alone
 pub record SameButTiny (a b : MosaicResult) : Type 0 where
-  -- every other field is the same, whatever was read
   pub same-call : withoutChances a ≡ withoutChances b
-  -- so is the quality, with up to four seen alleles
-  pub same-quality : b .seen ≤ 4 → a .quality ≡ b .quality
-  -- and with up to five each probability is the same, or both are from 0 to 2^−1000
-  pub same-or-tiny : b .seen ≤ 5 → (i : ℕ) → i < 36 → SameOrTiny 1000 (getD (a .probabilities) i nan) (getD (b .probabilities) i nan)
+  pub same-quality : a .quality ≡ b .quality
+  -- each probability is the same, or both are from 0 to 2^−1000
+  pub same-or-tiny : (i : ℕ) → i < 36 → SameOrTiny 1000 (getD (a .probabilities) i nan) (getD (b .probabilities) i nan)
 
 -- M7: no hypothesis of an answer has the probability 0
 abbrev pub NoneZero : MosaicResult → Type 0
