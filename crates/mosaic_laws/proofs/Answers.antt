@@ -155,7 +155,7 @@ module _ (p : Params) (counts : List ℕ) (ok : Accepted p counts) where
       ∙ map-at posterior (hypotheses counts) (pair 0 0) nan i h))
       (each-within i h)
 
-  pub posts-length : length posts ≡ 36
+  posts-length : length posts ≡ 36
   unfolding posteriors
   posts-length =
       let few = subst (λ (k : ℕ). k ≤ 36) (sym (length-map (hypotheses counts) posterior)) (at-most-36 counts) in
@@ -187,7 +187,7 @@ module _ (p : Params) (counts : List ℕ) (ok : Accepted p counts) where
   abbrev probs : List Float
   probs = probabilities larger smaller posts n
 
-  pub chance-there : 0 < n → (i : ℕ) → i < n → UpTo 1 (getD probs i nan)
+  chance-there : 0 < n → (i : ℕ) → i < n → UpTo 1 (getD probs i nan)
   unfolding probabilityOf
   chance-there some i h =
       let e = in-use-all n (at-most-36 counts) in
@@ -209,7 +209,7 @@ module _ (p : Params) (counts : List ℕ) (ok : Accepted p counts) where
       go false e = subst (UpTo 1) (sym (chance-beyond i (ltb-false i n e) m)) (chance-more nothing (lit≤ tt))
 
   -- the probabilities of all but the winner, and the quality that they make
-  pub best-there : 0 < n → winner posts n < n
+  best-there : 0 < n → winner posts n < n
   best-there some = low n (winner posts n) some (winner-low posts n (pred n) (omega arith))
     where
       low : (n b : ℕ) → 0 < n → b ≤ pred n → b < n

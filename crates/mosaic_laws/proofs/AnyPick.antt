@@ -121,7 +121,7 @@ module _ (max min : Pick) (is-max : IsMax max) (is-min : IsMin min) where
         let capped = min-alike min is-min (y ⊖ wholeOver max l) (nat 0) (alike-number (alike-sym d) k) zero-number in
         pow10-alike (alike-trans capped (smaller-alike d same))
 
-    pub normalised-any : map pow10Of (normalisedOver max min l) ≡ map pow10Of (normalisedOver larger smaller l)
+    normalised-any : map pow10Of (normalisedOver max min l) ≡ map pow10Of (normalisedOver larger smaller l)
     normalised-any = go l each
       where
         go : (k : List Float) → Each DecimalPosterior k
@@ -130,7 +130,7 @@ module _ (max min : Pick) (is-max : IsMax max) (is-min : IsMin min) where
         go (y ∷ k) e = ap₂ _∷_ (probability-same y (e .0)) (go k (e .1))
 
   module _ (w : Float) (f : T (fits binary64 w)) (c : UpTo 35 w) where
-    pub quality-any : qualityBy min w ≡ qualityBy smaller w
+    quality-any : qualityBy min w ≡ qualityBy smaller w
     unfolding qualityBy
     quality-any = go (lt (nat 0) w) refl
       where

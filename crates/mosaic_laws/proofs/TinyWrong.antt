@@ -26,7 +26,7 @@ use Rattle.mosaic_laws.proofs.Qualities.{rawOf, hundred}
 
 -- ---- the quality of a sum of at most 2^−340
 
-pub quality-tiny : (w : Float) → T (fits binary64 w) → Tiny 340 w → qualityBy smaller w ≡ nat 100
+quality-tiny : (w : Float) → T (fits binary64 w) → Tiny 340 w → qualityBy smaller w ≡ nat 100
 unfolding qualityBy
 quality-tiny w f t = go (lt (nat 0) w) refl
   where
@@ -49,13 +49,13 @@ SameOrTinyEach ps qs n = (i : ℕ) → i < n → SameOrTiny 1000 (getD ps i nan)
 pub nothing-summand : Summand (nat 0)
 nothing-summand = record { is-f64 = ofInt-fits binary64 (pos 0); not-below = unfold lt ofInt round in refl }
 
-pub wrong-summand : (ps : List Float) (n best : ℕ) → Summands ps n → Summand (wrongOf ps best n)
+wrong-summand : (ps : List Float) (n best : ℕ) → Summands ps n → Summand (wrongOf ps best n)
 wrong-summand ps n best each =
     over-keeps Summand (λ i s. cond (not (eqb i best)) (s ⊕ getD ps i nan) s) (nat 0) n
     (λ i l s h. either Summand (not (eqb i best)) (s ⊕ getD ps i nan) s (λ e. summand-add h (each i l)) (λ e. h))
     nothing-summand
 
-pub wrong-either : (ps qs : List Float) (n best : ℕ) → n ≤ 12 → Summands ps n → Summands qs n → SameOrTinyEach ps qs n
+wrong-either : (ps qs : List Float) (n best : ℕ) → n ≤ 12 → Summands ps n → Summands qs n → SameOrTinyEach ps qs n
     → SameOrTiny (1000 - 55 * n) (wrongOf ps best n) (wrongOf qs best n)
 wrong-either ps qs zero best few P Q h = same refl
 wrong-either ps qs (suc n) best few P Q h =
