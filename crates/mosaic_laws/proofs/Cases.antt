@@ -36,16 +36,14 @@ passed-accepted h alpha beta = record {
   few = h .few;
 }
 
--- O1, R11: the refusals in their order, and where there is none the call
-abbrev unlessRefused : Params → List ℕ → MosaicResult → MosaicResult
-unlessRefused p counts call =
-    cond (leb (length counts) 8)
-    (cond (paramsAllowed p)
-    (cond (countsAllowed counts)
-    (cond (ltb (totalOf counts) (p .depth) || eqb (totalOf counts) 0) (blank NoCall) call)
-    (blank Count))
-    (blank Model))
-    (blank TooMany)
+-- O1, R11: the answer by what the four tests say, in their order
+abbrev pub afterTests : Bool → Bool → Bool → Bool → MosaicResult → MosaicResult
+afterTests few params allowed none call =
+    cond few (cond params (cond allowed (cond none (blank NoCall) call) (blank Count)) (blank Model)) (blank TooMany)
+
+abbrev pub unlessRefused : Params → List ℕ → MosaicResult → MosaicResult
+unlessRefused p counts =
+    afterTests (leb (length counts) 8) (paramsAllowed p) (countsAllowed counts) (ltb (totalOf counts) (p .depth) || eqb (totalOf counts) 0)
 
 pub by-refusals : (R : MosaicResult → MosaicResult → Type 0) → ((r : Refusal) → R (blank r) (blank r))
     → (p : Params) (counts : List ℕ) (a b : MosaicResult)
@@ -55,11 +53,8 @@ by-refusals R refused p counts a b called =
     go (leb (length counts) 8) (paramsAllowed p) (countsAllowed counts) (ltb (totalOf counts) (p .depth)) (eqb (totalOf counts) 0)
     refl refl refl refl
   where
-    answer : MosaicResult → Bool → Bool → Bool → Bool → MosaicResult
-    answer call q r s t = cond q (cond r (cond s (cond t (blank NoCall) call) (blank Count)) (blank Model)) (blank TooMany)
-
     go : (q r s t u : Bool) → leb (length counts) 8 ≡ q → paramsAllowed p ≡ r → countsAllowed counts ≡ s → eqb (totalOf counts) 0 ≡ u
-        → R (answer a q r s (t || u)) (answer b q r s (t || u))
+        → R (afterTests q r s (t || u) a) (afterTests q r s (t || u) b)
     go false r s t u Q P C N = refused TooMany
     go true false s t u Q P C N = refused Model
     go true true false t u Q P C N = refused Count

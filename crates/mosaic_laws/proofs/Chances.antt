@@ -1,33 +1,44 @@
--- From finite log posteriors every step to the probabilities is a finite number, and each probability lies from 0 to 1: `chance`.
--- Assumes nothing.
-use mathlib.Core.Path.{_≡_, refl, sym, ap, _∙_, subst}
-use mathlib.Core.Logic.{inl, inr}
-use mathlib.Core.Bool.{Bool, true, false, cond}
+-- From finite log posteriors every step to the probabilities is a finite number, and each probability lies from 0 to 1: `chance`. The sum
+-- that they are normalised by is not below the largest of them, whatever the exponential is below −708, so long as it is tiny there:
+-- `whole-by-not-below`. Assumes nothing.
+use mathlib.Core.Path.{_≡_, refl, subst}
+use mathlib.Core.Bool.{Bool, true, false}
 use mathlib.Core.List.{List, [], _∷_, map}
-use Prim.Native.Nat.{ℕ, zero, suc, _+_, _*_, _^_, _≤_, _<_, zero-le}
+use Prim.Native.Nat.{ℕ, zero, suc, _+_, _*_, _^_, _≤_, _<_}
 use native.Mathlib.Nat.{not-suc-le-zero}
 use native.Mathlib.Omega.{arith}
 use lib.IntN.{pos}
 use lib.Dec.{T, lit≤}
-use lib.ListN.{length, getD, length-map}
-use lib.Ieee.{Float, nan, binary64, lt, fits}
-use lib.Ieee.Fits.{add-fits, div-fits}
-use Rattle.lists.specs.Every.{Each, Among}
+use lib.ListN.{length, getD}
+use lib.Ieee.{Float, nan, binary64, lt, le, fits}
+use lib.Ieee.Fits.{div-fits}
+use lib.Ieee.Positive.{above-of-le}
+use Rattle.lists.specs.Every.{Each}
 use Rattle.floats.specs.F64.{_⊕_, _⊖_, _⊗_, nat, sumFrom}
-use Rattle.floats.specs.Within.{Within, Above, UpTo}
-use Rattle.floats.proofs.Bounds.{within-number, within-more, within-whole, within-add, within-sub, within-div, above-add, zero-not-below}
-use Rattle.floats.proofs.Differences.{less-itself}
-use Rattle.floats.proofs.Sums.{above-left}
+use Rattle.floats.specs.Within.{Within, UpTo}
+use Rattle.floats.specs.Tiny.{Summand}
+use Rattle.floats.proofs.Bounds.{within-number, within-more, within-whole, within-add, within-sub, within-div, zero-not-below}
+use Rattle.floats.proofs.Clear.{clear-not-below, clear-div}
+use Rattle.floats.proofs.Differences.{not-below}
+use Rattle.floats.proofs.Monotone.{add-not-below}
+use Rattle.floats.proofs.Ranges.{above-finite}
+use Rattle.floats.proofs.Sizes.{under-within}
+use Rattle.floats.proofs.TinySums.{summand-sum, from-one-among}
 use Rattle.kernels.specs.Ln.{lnOf}
+use Rattle.kernels.specs.Exp.{expOf}
 use Rattle.tens.specs.Log10.{log10Of, pow10Of}
 use Rattle.tens.specs.Normalised.{inTens, largestFrom, wholeOver, lessWhole}
+use Rattle.bounds.specs.Tail.{Tail, tenBy}
+use Rattle.bounds.proofs.ExpBounds.{deep}
+use Rattle.bounds.proofs.ExpTail.{exp-is-tail, tail-summand}
+use Rattle.bounds.proofs.LnSigns.{one-positive, ln-clear}
 use Rattle.bounds.proofs.Log10Bounds.{within-log10}
-use Rattle.bounds.proofs.ExpBounds.{exp-fits}
 use Rattle.picks.specs.Order.{larger, smaller}
-use Rattle.diploid_laws.proofs.Signs.{NotAbove, lt-itself, not-below-trans, difference-not-above}
-use Rattle.diploid_laws.proofs.Signs.{not-below-add}
+use Rattle.diploid_laws.specs.Tails.{wholeBy}
+use Rattle.diploid_laws.proofs.AnyTail.{whole-by-exp, largest-among, ten-from-one}
+use Rattle.diploid_laws.proofs.Signs.{NotAbove, lt-itself, not-below-trans, difference-not-above, not-below-add}
 use Rattle.diploid_laws.proofs.Largest.{either-of, larger-left, larger-right}
-use Rattle.diploid_laws.proofs.QualityBounds.{one, one-above, pow10-zero, pow10-within, ten-above, smaller-zero}
+use Rattle.diploid_laws.proofs.QualityBounds.{pow10-within, ten-above, smaller-zero}
 
 -- ---- from 0 to n
 
@@ -43,12 +54,11 @@ pub chance-more : {a b : ℕ} {x : Float} → UpTo a x → a ≤ b → UpTo b x
 chance-more h l = record { within = within-more (h .within) l; not-negative = h .not-negative }
 
 -- ten to a y of at most 0
-pub pow10-chance : {n : ℕ} (y : Float) → Within n y → NotAbove y → n * 3 ≤ 2 ^ 53 → UpTo 1 (pow10Of y)
+pow10-chance : {n : ℕ} (y : Float) → Within n y → NotAbove y → n * 3 ≤ 2 ^ 53 → UpTo 1 (pow10Of y)
 pow10-chance y w h l = let r = pow10-within y w h l in record { within = r .0; not-negative = r .1 }
 
--- ---- lists: each member, and some member
+-- ---- each member of a list, by its places
 
--- by places
 pub each-place : (P : Float → Type 0) (l : List Float) → ((i : ℕ) → i < length l → P (getD l i nan)) → Each P l
 each-place P [] h = tt
 each-place P (x ∷ l) h = (h 0 (some (length l)), each-place P l (λ i m. h (suc i) (next i (length l) m)))
@@ -68,13 +78,6 @@ pub each-map : (P Q : Float → Type 0) (f : Float → Float) → ((x : Float) �
 each-map P Q f h [] e = tt
 each-map P Q f h (x ∷ l) e = (h x (e .0), each-map P Q f h l (e .1))
 
-each-both : (P Q R : Float → Type 0) → ((x : Float) → P x → Q x → R x) → (l : List Float) → Each P l → Each Q l → Each R l
-each-both P Q R h [] e g = tt
-each-both P Q R h (x ∷ l) e g = (h x (e .0) (g .0), each-both P Q R h l (e .1) (g .1))
-
-some-map : (P Q : Float → Type 0) (f : Float → Float) → ((x : Float) → P x → Q (f x)) → (l : List Float) → Among P l → Among Q (map f l)
-some-map P Q f h (x ∷ l) s = elim s [ inl p ↦ inl (h x p) | inr r ↦ inr (some-map P Q f h l r) ]
-
 -- ---- the largest
 
 -- the decimal logarithm of a posterior: an f64, at most 2 ^ 47 in size
@@ -85,12 +88,11 @@ pub record DecimalPosterior (x : Float) : Type 0 where
 pub in-tens-posterior : (x : Float) → Within (2 ^ 47) x → DecimalPosterior (inTens x)
 in-tens-posterior x w = record { within = within-div w ten-above (lit≤ tt); is-f64 = div-fits binary64 x (lnOf (nat 10)) }
 
--- t is one of x and l, and none of them is above it
+-- none of x and l is above t
 pub record LargestOf (x : Float) (l : List Float) (t : Float) : Type 0 where
   pub posterior : DecimalPosterior t
   pub first-below : lt t x ≡ false
   pub rest-below : Each (λ y. lt t y ≡ false) l
-  pub is-one : Among (λ y. t ≡ y) (x ∷ l)
 
 top-through : (x y t : Float) → DecimalPosterior x → DecimalPosterior y → DecimalPosterior t → lt y x ≡ false
     → lt t y ≡ false → lt t x ≡ false
@@ -99,7 +101,7 @@ top-through x y t X Y H h k =
     (within-number (H .within)) h k
 
 pub largest-is : (x : Float) (l : List Float) → DecimalPosterior x → Each DecimalPosterior l → LargestOf x l (largestFrom larger x l)
-largest-is x [] X L = record { posterior = X; first-below = lt-itself x; rest-below = tt; is-one = inl refl }
+largest-is x [] X L = record { posterior = X; first-below = lt-itself x; rest-below = tt }
 largest-is x (y ∷ l) X L =
     let z = larger x y in
     let Z = either-of DecimalPosterior (lt x y) x y X (L .0) in
@@ -109,88 +111,96 @@ largest-is x (y ∷ l) X L =
       posterior = h .posterior;
       first-below = top-through x z t X Z (h .posterior) (larger-left x y) (h .first-below);
       rest-below = (top-through y z t (L .0) Z (h .posterior) (larger-right x y) (h .first-below), h .rest-below);
-      is-one = elim (h .is-one) [ inl e ↦ one-of (lt x y) t e | inr r ↦ inr (inr r) ];
     }
-  where
-    one-of : (b : Bool) (t : Float) → t ≡ cond b y x → Among (λ v. t ≡ v) (x ∷ y ∷ l)
-    one-of true t e = inr (inl e)
-    one-of false t e = inl e
 
--- ---- a sum of chances of which one is at least 1
+-- ---- the whole, by any exponential that is K4's from −708 on and tiny below
 
-sum-above : (n : ℕ) (s : Float) (l : List Float) → UpTo n s → Each (UpTo 1) l → n + length l ≤ 2 ^ 53 → Among (Above 0) (s ∷ l)
-    → Above 0 (sumFrom s l)
-sum-above n s [] h e m some = elim some [ inl a ↦ a | inr r ↦ absurd r ]
-sum-above n s (x ∷ l) h e m some =
-    let both = chance-add h (e .0) (omega arith) in
-    sum-above (n + 1) (s ⊕ x) l both (e .1) (omega arith) (elim some [
-      | inl a ↦ inl (above-left s x a (e .0 .not-negative) (h .within) (e .0 .within) zero-le (omega arith))
-      | inr r ↦ elim r [ inl a ↦ inl (above-add (h .not-negative) a zero-le (both .within)) | inr q ↦ inr q ]
-    ])
+module _ (e : Float → Float) (tail : Tail e) where
+  -- ten to a y of at most 0
+  ten-chance : {n : ℕ} (y : Float) → Within n y → NotAbove y → n * 3 ≤ 2 ^ 53 → UpTo 1 (tenBy e y)
+  ten-chance y w h l = go (lt (y ⊗ lnOf (nat 10)) deep) refl
+    where
+      go : (t : Bool) → lt (y ⊗ lnOf (nat 10)) deep ≡ t → UpTo 1 (tenBy e y)
+      go true k =
+          let s = tail .below-708 (y ⊗ lnOf (nat 10)) k in
+          record { within = under-within (s .small) 1 (lit≤ tt); not-negative = s .not-negative }
+      go false k =
+          let c : UpTo 1 (tenBy expOf y) = unfold pow10Of in pow10-chance y w h l in
+          rw (tail .from-708 (y ⊗ lnOf (nat 10)) k) c
 
--- ---- the whole, and the probabilities
+  module _ (x : Float) (l : List Float) (X : DecimalPosterior x) (L : Each DecimalPosterior l) (few : length l ≤ 36) where
+    abbrev top : Float
+    top = largestFrom larger x l
 
-module _ (x : Float) (l : List Float) (X : DecimalPosterior x) (L : Each DecimalPosterior l) (few : length l ≤ 36) where
-  abbrev top : Float
-  top = largestFrom larger x l
+    the-top : LargestOf x l top
+    the-top = largest-is x l X L
 
-  the-top : LargestOf x l top
-  the-top = largest-is x l X L
+    abbrev powerOf : Float → Float
+    powerOf y = tenBy e (y ⊖ top)
 
-  abbrev powerOf : Float → Float
-  powerOf y = pow10Of (y ⊖ top)
+    power : (y : Float) → DecimalPosterior y → lt top y ≡ false → UpTo 1 (powerOf y)
+    power y Y h =
+        let t = the-top .posterior .within in
+        let w = within-sub (Y .within) t (lit≤ tt) in
+        ten-chance (y ⊖ top) w (difference-not-above y top (Y .within .is-finite) (t .is-finite) w h) (lit≤ tt)
 
-  power : (y : Float) → DecimalPosterior y → lt top y ≡ false → UpTo 1 (powerOf y)
-  power y Y h =
-      let t = the-top .posterior .within in
-      let w = within-sub (Y .within) t (lit≤ tt) in
-      pow10-chance (y ⊖ top) w (difference-not-above y top (Y .within .is-finite) (t .is-finite) w h) (lit≤ tt)
+    sums : (k : List Float) {n : ℕ} {s : Float} → Each DecimalPosterior k → Each (λ y. lt top y ≡ false) k → UpTo n s
+        → n + length k ≤ 2 ^ 53 → UpTo (n + length k) (sumFrom s (map powerOf k))
+    sums [] K H S m = chance-more S (omega arith)
+    sums (y ∷ k) K H S m =
+        chance-more (sums k (K .1) (H .1) (chance-add S (power y (K .0) (H .0)) (omega arith)) (omega arith)) (omega arith)
 
-  power-at-top : (y : Float) → top ≡ y → Above 0 (powerOf y)
-  power-at-top y e =
-      let one-is : powerOf top ≡ one = ap pow10Of (less-itself top (the-top .posterior .within .is-finite)) ∙ pow10-zero false in
-      subst (λ (z : Float). Above 0 (pow10Of (z ⊖ top))) e (subst (λ (z : Float). Above 0 z) (sym one-is) one-above)
+    abbrev sum : Float
+    sum = sumFrom (powerOf x) (map powerOf l)
 
-  abbrev powers : List Float
-  powers = map powerOf l
+    sum-up-to : UpTo (1 + length l) sum
+    sum-up-to = sums l L (the-top .rest-below) (power x X (the-top .first-below)) (omega arith)
 
-  each-power : Each (UpTo 1) powers
-  each-power =
-      each-map (λ y. UpTo 1 (powerOf y)) (UpTo 1) powerOf (λ y c. c) l
-      (each-both DecimalPosterior (λ y. lt top y ≡ false) (λ y. UpTo 1 (powerOf y)) power l L (the-top .rest-below))
+    summand : (y : Float) → Summand (powerOf y)
+    summand y = tail-summand e tail ((y ⊖ top) ⊗ lnOf (nat 10))
 
-  abbrev sum : Float
-  sum = sumFrom (powerOf x) powers
+    sum-fits : T (fits binary64 sum)
+    sum-fits = summand-sum powerOf summand l (summand x) .is-f64
 
-  room : 1 + length powers ≤ 2 ^ 53
-  room = let e = length-map l powerOf in omega arith
+    -- the largest is among them, and its power is 1
+    sum-from-one : T (le (nat 1) sum)
+    sum-from-one =
+        let some = largest-among (λ y. lt (powerOf y) (nat 1) ≡ false) x l (ten-from-one e tail top) in
+        not-below sum (nat 1) (sum-up-to .within .is-finite) (within-whole (pos 1) 1 (lit≤ tt) (lit≤ tt) .is-finite)
+        (from-one-among powerOf summand x l some)
 
-  sum-positive : Above 0 sum
-  sum-positive =
-      sum-above 1 (powerOf x) powers (power x X (the-top .first-below)) each-power room
-      (some-map (λ y. top ≡ y) (Above 0) powerOf power-at-top (x ∷ l) (the-top .is-one))
+    log-up-to : UpTo (2 ^ 12) (log10Of sum)
+    unfolding log10Of
+    log-up-to =
+        let finite = sum-up-to .within .is-finite in
+        let w = within-log10 sum sum-fits (above-finite sum (above-of-le (nat 1) sum one-positive sum-from-one) finite) in
+        let c = ln-clear sum sum-fits finite sum-from-one in
+        record {
+          within = w;
+          not-negative = clear-not-below (log10Of sum) (clear-div (lnOf sum) (lnOf (nat 10)) c (ten-above .is-positive) (w .is-finite));
+        }
 
-  sums-fit : (s : Float) (l : List Float) → T (fits binary64 s) → T (fits binary64 (sumFrom s l))
-  sums-fit s [] f = f
-  sums-fit s (y ∷ l) f = sums-fit (s ⊕ y) l (add-fits binary64 s y)
+    pub whole-by-within : Within (2 ^ 48) (wholeBy e (x ∷ l))
+    whole-by-within = within-more (within-add (the-top .posterior .within) (log-up-to .within) (lit≤ tt)) (lit≤ tt)
 
-  pub sum-fits : T (fits binary64 sum)
-  sum-fits = sums-fit (powerOf x) powers (unfold pow10Of in exp-fits ((x ⊖ top) ⊗ lnOf (nat 10)))
+    -- it is not below the largest
+    pub whole-by-not-below : lt (wholeBy e (x ∷ l)) top ≡ false
+    whole-by-not-below = add-not-below top (log10Of sum) (the-top .posterior .within) (the-top .posterior .is-f64) log-up-to (lit≤ tt)
 
-  pub log-within : Within (2 ^ 12) (log10Of sum)
-  log-within = within-log10 sum sum-fits (sum-positive .is-positive)
+-- ---- the rules' own, and the probabilities
 
-  whole-from : Within (2 ^ 48) (wholeOver larger (x ∷ l))
-  unfolding wholeOver
-  whole-from = within-more (within-add (the-top .posterior .within) log-within (lit≤ tt)) (lit≤ tt)
+pub log-within : (x : Float) (l : List Float) → DecimalPosterior x → Each DecimalPosterior l → length l ≤ 36
+    → (let top = largestFrom larger x l in Within (2 ^ 12) (log10Of (sumFrom (pow10Of (x ⊖ top)) (map (λ y. pow10Of (y ⊖ top)) l))))
+unfolding pow10Of
+log-within x l X L few = log-up-to expOf exp-is-tail x l X L few .within
 
 module _ (l : List Float) (some : 0 < length l) (few : length l ≤ 36) (posteriors : Each DecimalPosterior l) where
   pub whole-within : Within (2 ^ 48) (wholeOver larger l)
-  whole-within = go l some few posteriors
+  whole-within = subst (Within (2 ^ 48)) (whole-by-exp l) (go l some few posteriors)
     where
-      go : (l : List Float) → 0 < length l → length l ≤ 36 → Each DecimalPosterior l → Within (2 ^ 48) (wholeOver larger l)
+      go : (l : List Float) → 0 < length l → length l ≤ 36 → Each DecimalPosterior l → Within (2 ^ 48) (wholeBy expOf l)
       go [] h k t = absurd (not-suc-le-zero h)
-      go (x ∷ l) h k t = whole-from x l (t .0) (t .1) (omega arith)
+      go (x ∷ l) h k t = whole-by-within expOf exp-is-tail x l (t .0) (t .1) (omega arith)
 
   -- the probability of any number beside them
   pub chance : (y : Float) → DecimalPosterior y → UpTo 1 (pow10Of (lessWhole smaller (wholeOver larger l) y))

@@ -5,40 +5,29 @@
 use mathlib.Core.Path.{_≡_, refl, _∙_, subst}
 use mathlib.Core.Bool.{Bool, true, false, cond}
 use mathlib.Core.List.{List, [], _∷_, map}
-use Prim.Native.Nat.{ℕ, _+_, _-_, _*_, _^_, _≤_, _<_}
+use Prim.Native.Nat.{ℕ, _+_, _-_, _^_, _≤_, _<_}
 use native.Mathlib.Omega.{arith}
 use lib.IntN.{pos, negℤ}
 use lib.Dec.{T, lit≤}
 use lib.ListN.{length, getD}
-use lib.Ieee.{Float, nan, binary64, lt, le, fits}
+use lib.Ieee.{Float, nan, binary64, lt, fits}
 use lib.Ieee.Fits.{cond-fits, ofInt-fits, sub-fits, mul-fits}
-use lib.Ieee.Positive.{positive, above-of-le}
 use Rattle.lists.specs.Every.{Each}
-use Rattle.floats.specs.F64.{_⊖_, _⊗_, whole, nat, sumFrom}
-use Rattle.floats.specs.Within.{Within, UpTo}
-use Rattle.floats.specs.Tiny.{Summand}
-use Rattle.floats.proofs.Bounds.{within-more, within-whole, within-add, within-sub, within-mul}
-use Rattle.floats.proofs.Clear.{clear-not-below, clear-div}
-use Rattle.floats.proofs.Differences.{not-below}
-use Rattle.floats.proofs.Monotone.{sub-from-order, mul-order, add-not-below}
-use Rattle.floats.proofs.Ranges.{above-finite}
-use Rattle.floats.proofs.Sizes.{under-within}
-use Rattle.floats.proofs.TinySums.{summand-sum, from-one-among}
+use Rattle.floats.specs.F64.{_⊖_, _⊗_, whole, nat}
+use Rattle.floats.specs.Within.{Within}
+use Rattle.floats.proofs.Bounds.{within-more, within-whole, within-sub, within-mul}
+use Rattle.floats.proofs.Monotone.{sub-from-order, mul-order}
 use Rattle.floats.proofs.Zeros.{Number}
 use Rattle.kernels.specs.Ln.{lnOf}
 use Rattle.kernels.specs.Exp.{expOf}
-use Rattle.tens.specs.Log10.{log10Of, pow10Of}
 use Rattle.tens.specs.Normalised.{largestFrom, lessWhole}
 use Rattle.bounds.specs.Tail.{Tail, expFlushed, tenBy}
 use Rattle.bounds.proofs.ExpBounds.{deep, lt-number}
-use Rattle.bounds.proofs.ExpTail.{flushed-is-tail, tail-summand}
-use Rattle.bounds.proofs.LnSigns.{one-positive, ln-clear}
-use Rattle.bounds.proofs.Log10Bounds.{within-log10}
+use Rattle.bounds.proofs.ExpTail.{flushed-is-tail}
 use Rattle.picks.specs.Order.{larger, smaller}
 use Rattle.diploid_laws.specs.Tails.{wholeBy}
-use Rattle.diploid_laws.proofs.AnyTail.{largest-among, ten-from-one}
 use Rattle.diploid_laws.proofs.QualityBounds.{ten-above, ten-within, smaller-zero}
-use Rattle.diploid_laws.proofs.Signs.{NotAbove, lt-itself, lt-not-back, no-trans, difference-not-above}
+use Rattle.diploid_laws.proofs.Signs.{lt-itself, lt-not-back, no-trans}
 use Rattle.models.specs.declared.params.Params.{Params}
 use Rattle.probabilities.specs.Quality.{tensOf}
 use Rattle.probabilities.proofs.InUse.{in-use-all}
@@ -49,7 +38,7 @@ use Rattle.hypotheses.proofs.Scanned.{at-most-36}
 use Rattle.mosaic.specs.Genotype.{genotypeOf}
 use Rattle.mosaic_laws.specs.Accepted.{Accepted}
 use Rattle.mosaic_laws.specs.Tails.{probabilitiesWith, calledWith, genotypeWith, NoneZero}
-use Rattle.mosaic_laws.proofs.Chances.{chance-add, chance-more, pow10-chance, each-place, DecimalPosterior, LargestOf, largest-is}
+use Rattle.mosaic_laws.proofs.Chances.{each-place, DecimalPosterior, largest-is, whole-by-within, whole-by-not-below}
 use Rattle.mosaic_laws.proofs.Answers.{tens-length, tens-few, tens-posteriors}
 use Rattle.mosaic_laws.proofs.Cases.{passed-accepted}
 use Rattle.mosaic_laws.proofs.AnyTail.{beside-own}
@@ -84,94 +73,27 @@ abbrev NotDeep : Float → Float → Type 0
 NotDeep w y = lt (lessWhole smaller w y ⊗ lnOf (nat 10)) deep ≡ false
 
 module _ (e : Float → Float) (tail : Tail e) where
-  -- ten to a y of at most 0
-  ten-chance : {n : ℕ} (y : Float) → Within n y → NotAbove y → n * 3 ≤ 2 ^ 53 → UpTo 1 (tenBy e y)
-  ten-chance y w h l = go (lt (y ⊗ lnOf (nat 10)) deep) refl
-    where
-      go : (t : Bool) → lt (y ⊗ lnOf (nat 10)) deep ≡ t → UpTo 1 (tenBy e y)
-      go true k =
-          let s = tail .below-708 (y ⊗ lnOf (nat 10)) k in
-          record { within = under-within (s .small) 1 (lit≤ tt); not-negative = s .not-negative }
-      go false k =
-          let c : UpTo 1 (tenBy expOf y) = unfold pow10Of in pow10-chance y w h l in
-          rw (tail .from-708 (y ⊗ lnOf (nat 10)) k) c
-
-  -- ---- the whole of x and a list is not below the largest
-
   module _ (x : Float) (l : List Float) (X : DecimalPosterior x) (L : Each DecimalPosterior l) (few : length l ≤ 36) where
     abbrev top : Float
     top = largestFrom larger x l
 
-    the-top : LargestOf x l top
-    the-top = largest-is x l X L
-
     abbrev power : Float → Float
     power y = tenBy e (y ⊖ top)
-
-    power-chance : (y : Float) → DecimalPosterior y → lt top y ≡ false → UpTo 1 (power y)
-    power-chance y Y h =
-        let t = the-top .posterior .within in
-        let w = within-sub (Y .within) t (lit≤ tt) in
-        ten-chance (y ⊖ top) w (difference-not-above y top (Y .within .is-finite) (t .is-finite) w h) (lit≤ tt)
-
-    sum-chance : (k : List Float) {n : ℕ} {s : Float} → Each DecimalPosterior k → Each (λ y. lt top y ≡ false) k → UpTo n s
-        → n + length k ≤ 2 ^ 53 → UpTo (n + length k) (sumFrom s (map power k))
-    sum-chance [] K H S m = chance-more S (omega arith)
-    sum-chance (y ∷ k) K H S m =
-        chance-more
-        (sum-chance k (K .1) (H .1) (chance-add S (power-chance y (K .0) (H .0)) (omega arith)) (omega arith)) (omega arith)
-
-    abbrev sum : Float
-    sum = sumFrom (power x) (map power l)
-
-    sum-within : UpTo (1 + length l) sum
-    sum-within = sum-chance l L (the-top .rest-below) (power-chance x X (the-top .first-below)) (omega arith)
-
-    summand : (y : Float) → Summand (power y)
-    summand y = tail-summand e tail ((y ⊖ top) ⊗ lnOf (nat 10))
-
-    sum-fits : T (fits binary64 sum)
-    sum-fits = summand-sum power summand l (summand x) .is-f64
-
-    -- the largest is among them, and its power is 1
-    sum-from-one : T (le (nat 1) sum)
-    sum-from-one =
-        let some = largest-among (λ y. lt (power y) (nat 1) ≡ false) x l (ten-from-one e tail top) in
-        not-below sum (nat 1) (sum-within .within .is-finite) (within-whole (pos 1) 1 (lit≤ tt) (lit≤ tt) .is-finite)
-        (from-one-among power summand x l some)
-
-    sum-positive : T (positive sum)
-    sum-positive = above-finite sum (above-of-le (nat 1) sum one-positive sum-from-one) (sum-within .within .is-finite)
-
-    log-chance : UpTo (2 ^ 12) (log10Of sum)
-    unfolding log10Of
-    log-chance =
-        let w = within-log10 sum sum-fits sum-positive in
-        let c = ln-clear sum sum-fits (sum-within .within .is-finite) sum-from-one in
-        record {
-          within = w;
-          not-negative = clear-not-below (log10Of sum) (clear-div (lnOf sum) (lnOf (nat 10)) c (ten-above .is-positive) (w .is-finite));
-        }
 
     abbrev w : Float
     w = wholeBy e (x ∷ l)
 
-    whole-within : Within (2 ^ 48) w
-    whole-within = within-more (within-add (the-top .posterior .within) (log-chance .within) (lit≤ tt)) (lit≤ tt)
-
-    whole-not-below : lt w top ≡ false
-    whole-not-below = add-not-below top (log10Of sum) (the-top .posterior .within) (the-top .posterior .is-f64) log-chance (lit≤ tt)
-
-    -- so what is not deep less the whole is not deep less the largest
+    -- the whole is not below the largest, so what is not deep less the whole is not deep less the largest
     less-top : (y : Float) → DecimalPosterior y → NotDeep w y → lt ((y ⊖ top) ⊗ lnOf (nat 10)) deep ≡ false
     less-top y Y h =
         let ten = lnOf (nat 10) in
         let a = y ⊖ top in
         let b = y ⊖ w in
         let c = smaller b (nat 0) in
-        let t = within-more (the-top .posterior .within) (lit≤ tt) in
+        let t = within-more (largest-is x l X L .posterior .within) (lit≤ tt) in
+        let W = whole-by-within e tail x l X L few in
         let A : Within (2 ^ 47 + 2 ^ 48) a = within-sub (Y .within) t (lit≤ tt) in
-        let B : Within (2 ^ 47 + 2 ^ 48) b = within-sub (Y .within) whole-within (lit≤ tt) in
+        let B : Within (2 ^ 47 + 2 ^ 48) b = within-sub (Y .within) W (lit≤ tt) in
         let C : Within (2 ^ 47 + 2 ^ 48) c = smaller-zero b B .0 in
         let fit = sub-fits binary64 y w in
         let order : lt a c ≡ false =
@@ -179,7 +101,7 @@ module _ (e : Float → Float) (tail : Tail e) where
         (record { is-finite = C .is-finite; is-f64 = cond-fits binary64 (lt (nat 0) b) (nat 0) b (ofInt-fits binary64 (pos 0)) fit })
         (record { is-finite = B .is-finite; is-f64 = fit })
         (record { is-finite = A .is-finite; is-f64 = sub-fits binary64 y top })
-        (smaller-left b (nat 0)) (sub-from-order y top w (Y .within) t whole-within (lit≤ tt) whole-not-below) in
+        (smaller-left b (nat 0)) (sub-from-order y top w (Y .within) t W (lit≤ tt) (whole-by-not-below e tail x l X L few)) in
         no-trans deep (c ⊗ ten) (a ⊗ ten) deep-number
         (record { is-finite = within-mul C ten-within (lit≤ tt) .is-finite; is-f64 = mul-fits binary64 c ten })
         (record { is-finite = within-mul A ten-within (lit≤ tt) .is-finite; is-f64 = mul-fits binary64 a ten })
