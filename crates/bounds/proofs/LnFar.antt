@@ -4,18 +4,17 @@
 use mathlib.Core.Path.{_≡_, refl, sym, ap, subst}
 use mathlib.Core.Bool.{Bool, true, false, cond}
 use Prim.Native.Nat.{ℕ, zero, suc, _*_, _^_, _≤_, _<_}
-use native.Mathlib.Nat.{mul-pos, mul-le-mul-right, le-of-mul-le-mul-right, lt-of-lt-of-le, lt-irrefl}
+use native.Mathlib.Nat.{mul-pos, mul-le-mul-right, le-of-mul-le-mul-right}
 use native.Mathlib.Omega.{arith}
-use borrow.Author.Tests.{leb-true, leb-false}
 use lib.IntN.{ℤ, pos, negsuc, natAbs, _+ℤ_}
-use lib.Dec.{T, leb, lit≤, lit<}
-use lib.Pow.{pow-pos, pow-lt}
+use lib.Dec.{T, lit≤, lit<}
+use lib.Pow.{pow-pos}
 use lib.Ieee.{Float, binary64, up, down, neg, le, ofInt, ofBits, fits}
 use lib.Ieee.Positive.{num, den, den-pos, positive}
 use Rattle.floats.specs.F64.{_⊕_, _⊗_, nat, ratio}
 use Rattle.floats.specs.Apart.{exponent, significand}
 use Rattle.floats.specs.Under.{Under, Over}
-use Rattle.floats.proofs.Fitting.{exponent-small}
+use Rattle.floats.proofs.Fitting.{pow-le-back, exponent-small}
 use Rattle.floats.proofs.Lows.{negative-times}
 use Rattle.floats.proofs.Bounds.{within-whole}
 use Rattle.floats.proofs.Sizes.{round-over, under-more, under-neg, under-mul, under-add, over-mul, within-under}
@@ -60,13 +59,6 @@ power-below a b n d u v z A D e l h =
 no-power : (u z : ℕ) → 0 < u → 1 < z → u * z ≤ 1 → ⊥
 no-power u z U Z h = omega (arith, mul-le-mul-right z U)
 
-power-back : (i j : ℕ) → 2 ^ i ≤ 2 ^ j → i ≤ j
-power-back i j h = go (leb i j) refl
-  where
-    go : (t : Bool) → leb i j ≡ t → i ≤ j
-    go true e = leb-true i j e
-    go false e = absurd (lt-irrefl (2 ^ j) (lt-of-lt-of-le (pow-lt (leb-false i j e)) h))
-
 module _ (x : Float) (f : T (fits binary64 x)) (p : T (positive x)) where
   abbrev m : Float
   m = significand x
@@ -80,7 +72,7 @@ module _ (x : Float) (f : T (fits binary64 x)) (p : T (positive x)) where
   reduced-far : (k : ℤ) → natAbs k ≤ 1074 → up k * 2 ^ 340 ≤ down k → Over 7440 5 (neg (lnReduced k m))
   unfolding lnReduced
   reduced-far (pos a) l h = absurd (no-power (2 ^ a) (2 ^ 340) (pow-pos a) (lit< tt) h)
-  reduced-far (negsuc a) l h = go (le turn m) refl a (omega arith) (power-back 340 (suc a) h)
+  reduced-far (negsuc a) l h = go (le turn m) refl a (omega arith) (pow-le-back 340 (suc a) h)
     where
       go : (t : Bool) → le turn m ≡ t → (a : ℕ) → suc a ≤ 1074 → 340 ≤ suc a
           → Over 7440 5 (neg (cond t (lnParts (negsuc a +ℤ pos 1) (m ⊗ ratio 1 2)) (lnParts (negsuc a) m)))

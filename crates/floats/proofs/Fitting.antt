@@ -53,12 +53,12 @@ fitting-fits s (suc m) e h f =
 
 -- ---- the size in units of 2 ^ -1074 is m * 2 ^ j, for j = e + 1074
 
+pub pow-le-back : (i p : ℕ) → 2 ^ i ≤ 2 ^ p → i ≤ p
+pow-le-back i p h = le-of-suc-le-suc (lt-of-not-le (λ (g : suc p ≤ i). lt-irrefl (2 ^ p) (lt-of-lt-of-le (pow-lt g) h)))
+
 pub place : (e : ℤ) → down e ≤ 2 ^ 1074 → (j : ℕ) × (e +ℤ pos 1074 ≡ pos j)
 place (pos a) h = (a + 1074, refl)
 place (negsuc a) h = (1074 - suc a, rw (le-ltb 1074 (suc a) (pow-le-back (suc a) 1074 h)))
-  where
-    pow-le-back : (i p : ℕ) → 2 ^ i ≤ 2 ^ p → i ≤ p
-    pow-le-back i p h = le-of-suc-le-suc (lt-of-not-le (λ (g : suc p ≤ i). lt-irrefl (2 ^ p) (lt-of-lt-of-le (pow-lt g) h)))
 
 module _ (e : ℤ) (j : ℕ) (at : e +ℤ pos 1074 ≡ pos j) where
   powers : 2 ^ j * down e ≡ up e * 2 ^ 1074

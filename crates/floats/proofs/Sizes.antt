@@ -14,12 +14,13 @@ use lib.Ieee.Fits.{down-pos}
 use lib.Ieee.Exact.{HasValue}
 use lib.Ieee.Order.{round-mono}
 use lib.Ieee.Scale.{finite, grid, round-val, round-under}
-use lib.Ieee.Positive.{num, den, den-pos, positive, above, above-of-le, first-pos}
+use lib.Ieee.Positive.{num, den, den-pos, positive, above-of-le, first-pos}
 use Rattle.floats.specs.F64.{_⊕_, _⊖_, _⊗_}
 use Rattle.floats.specs.Within.{Within}
 use Rattle.floats.specs.Under.{Under, Over}
 use Rattle.floats.proofs.Rounded.{fraction-val, grid-le, signed-val, le-values, clear, round-clear}
 use Rattle.floats.proofs.Bounds.{common}
+use Rattle.floats.proofs.Ranges.{above-finite}
 
 -- ---- what is rounded
 
@@ -230,12 +231,6 @@ over-add {a} {b} {j} {x = fin s m e} {y = fin false q d} h k n g N l J t =
 
 -- ---- the product of two that are above zero is so, where the product of their lower ends rounds to more than zero
 
-above-positive : (x : Float) → T (above x) → T (finite x) → T (positive x)
-above-positive nan a f = absurd f
-above-positive (inf s) a f = absurd f
-above-positive (fin true m e) a f = absurd a
-above-positive (fin false m e) a f = a
-
 pub mul-positive : {a i b j : ℕ} {x y : Float} → Over a i x → Over b j y → T (positive (round binary64 false (a * b) (2 ^ (i + j))))
     → T (finite (x ⊗ y)) → T (positive (x ⊗ y))
 unfolding mul
@@ -253,7 +248,7 @@ mul-positive {a} {i} {b} {j} {x = fin false m e} {y = fin false n d} h k p t =
     le-trans (le-of-eq (mul-mul-mul-comm a b (down e) (down d)))
     (le-trans (mul-le-mul (h .large) (k .large)) (le-of-eq (sym (powers (m * up e) (n * up d))))) in
     let g = round-mono binary64 (a * b) (2 ^ (i + j)) u c (pow-pos (i + j)) (mul-pos (down-pos e) (down-pos d)) l in
-    above-positive (round binary64 false u c) (above-of-le low (round binary64 false u c) p g) t
+    above-finite (round binary64 false u c) (above-of-le low (round binary64 false u c) p g) t
   where
     powers : (p q : ℕ) → p * q * 2 ^ (i + j) ≡ p * 2 ^ i * (q * 2 ^ j)
     powers p q = rw (pow-add 2 i j) (mul-mul-mul-comm p q (2 ^ i) (2 ^ j))

@@ -105,7 +105,7 @@ either-way (number X) no-number = refl
 either-way (number X) infinite = refl
 either-way (number {s} {m} {e} X) (number {s = t} {m = n} {e = d} Y) = add-either (fin s m e) (fin t n d) tt tt
 
-pub summands-either : {x y : Float} → Summand x → Summand y → x ⊕ y ≡ y ⊕ x
+summands-either : {x y : Float} → Summand x → Summand y → x ⊕ y ≡ y ⊕ x
 summands-either X Y = either-way (kind X) (kind Y)
 
 -- ---- what is tiny
@@ -117,7 +117,7 @@ pub same-or-tiny-more : {i k : ℕ} {x y : Float} → SameOrTiny i x y → k ≤
 same-or-tiny-more (same e) l = same e
 same-or-tiny-more (tiny h g) l = tiny (tiny-more h l) (tiny-more g l)
 
-pub tiny-add : {i : ℕ} {x y : Float} → suc i ≤ 1074 → Tiny (suc i) x → Tiny (suc i) y → Tiny i (x ⊕ y)
+tiny-add : {i : ℕ} {x y : Float} → suc i ≤ 1074 → Tiny (suc i) x → Tiny (suc i) y → Tiny i (x ⊕ y)
 tiny-add {i} {x} {y} l X Y =
     let both = under-add (X .small) (Y .small) (lit< tt) l in
     record {
@@ -245,10 +245,10 @@ from-one-kind (number X) no-number h = refl
 from-one-kind (number X) infinite h = refl
 from-one-kind (number {s} {m} {e} X) (number {s = t} {m = n} {e = d} Y) h = from-one-number (fin s m e) (fin t n d) X Y h
 
-pub from-one-right : {x y : Float} → Summand x → Summand y → lt y (nat 1) ≡ false → lt (x ⊕ y) (nat 1) ≡ false
+from-one-right : {x y : Float} → Summand x → Summand y → lt y (nat 1) ≡ false → lt (x ⊕ y) (nat 1) ≡ false
 from-one-right X Y h = from-one-kind (kind Y) (kind X) h
 
-pub from-one-left : {x y : Float} → Summand x → Summand y → lt x (nat 1) ≡ false → lt (x ⊕ y) (nat 1) ≡ false
+from-one-left : {x y : Float} → Summand x → Summand y → lt x (nat 1) ≡ false → lt (x ⊕ y) (nat 1) ≡ false
 from-one-left {x} {y} X Y h = ap (λ (z : Float). lt z (nat 1)) (summands-either X Y) ∙ from-one-right Y X h
 
 module _ (f : Float → Float) (F : (x : Float) → Summand (f x)) where
