@@ -1,7 +1,7 @@
 -- The series of `expOf` at an r of at most 3/8 in size: above 1/2 and at most 3/2, and above 1 where r is above 1/8. Assumes nothing.
 use mathlib.Core.Path.{sym}
 use mathlib.Core.Bool.{false}
-use Prim.Native.Nat.{ℕ, zero, suc, _+_, _*_, _^_, _≤_, _<_}
+use Prim.Native.Nat.{ℕ, zero, suc, _*_, _^_, _≤_, _<_}
 use native.Mathlib.Nat.{le-trans, le-of-eq, mul-one, mul-pos, mul-le-mul, zero-lt-suc}
 use native.Mathlib.Omega.{arith}
 use lib.Dec.{T, lit≤, lit<}

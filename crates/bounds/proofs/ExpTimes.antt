@@ -13,7 +13,7 @@ use lib.Ieee.{Float, nan, inf, fin, binary64, unlike, up, down, round, mul, fits
 use lib.Ieee.Fits.{down-pos}
 use lib.Ieee.Exact.{HasValue}
 use lib.Ieee.Scale.{finite}
-use lib.Ieee.Positive.{positive, above, mul-at, positive-of-value}
+use lib.Ieee.Positive.{positive, mul-at, positive-of-value}
 use Rattle.floats.specs.F64.{_⊗_}
 use Rattle.floats.specs.Within.{Within}
 use Rattle.floats.specs.Under.{Under, Over}

@@ -106,7 +106,7 @@ module _ (e : Float → Float) (tail : Tail e) where
 
   -- ---- the sums
 
-  pub either-way-tail : (a b : Float) → eitherWayBy e a b ≡ eitherWayBy expOf a b
+  either-way-tail : (a b : Float) → eitherWayBy e a b ≡ eitherWayBy expOf a b
   either-way-tail a b =
       let top = larger a b in
       let f : Float → Float = λ y. e (y ⊖ top) in

@@ -64,6 +64,9 @@ finite-test (fin s m e) (fin t n d) X Y =
     sizes-test s (m * up e * down d) t (n * up d * down e) (down e * down d) (mul-pos (down-pos e) (down-pos d))
     (zero-size s m (up e) (down d) (X .not-below)) (zero-size t n (up d) (down e) (Y .not-below))
 
+pub not-below-add : (x y : Float) → NotBelow x → NotBelow y → T (finite (x ⊕ y)) → NotBelow (x ⊕ y)
+not-below-add x y X Y f = test-not-below (x ⊕ y) f (rw zero-is at (finite-test x y X Y))
+
 -- a summand is a NaN, plus infinity, or a number that is not below zero
 data Kind : Float → Type 0 where
   no-number : Kind nan
@@ -121,9 +124,7 @@ tiny-add : {i : ℕ} {x y : Float} → suc i ≤ 1074 → Tiny (suc i) x → Tin
 tiny-add {i} {x} {y} l X Y =
     let both = under-add (X .small) (Y .small) (lit< tt) l in
     record {
-      not-negative =
-          test-not-below (x ⊕ y) (both .is-finite)
-          (sym (ap (lt (x ⊕ y)) zero-is) ∙ finite-test x y (X .not-negative) (Y .not-negative));
+      not-negative = not-below-add x y (X .not-negative) (Y .not-negative) (both .is-finite);
       small = under-more both 1 i (le-of-eq (sym (pow-succ' 2 i) ∙ sym (one-mul (2 ^ suc i))));
     }
 
