@@ -24,10 +24,11 @@ use Rattle.floats.proofs.Bounds.{within-whole, within-mul}
 use Rattle.floats.proofs.Sizes.{under-more, under-within, under-mul}
 use Rattle.kernels.specs.Exp.{expSeries, expReduced, expParts, expOf}
 use Rattle.kernels.specs.Ln.{hi, lo}
+use Rattle.kernels.proofs.ExpSteps.{kOf}
 use Rattle.bounds.proofs.LnSigns.{nothing-hi, nothing-lo}
 use Rattle.bounds.proofs.ExpSeries.{last, nextToLast, next-under, next-over, series-by, series-under}
 use Rattle.bounds.proofs.ExpTimes.{AtMost}
-use Rattle.bounds.proofs.ExpBounds.{kOf, argument-under, least, most, by-tests, k-at-most, not-most, not-both, exp-end}
+use Rattle.bounds.proofs.ExpBounds.{argument-under, least, most, by-tests, k-at-most, not-most, not-both, exp-end}
 
 -- ---- 1 and what is not above 0
 

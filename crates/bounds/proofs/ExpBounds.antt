@@ -23,16 +23,13 @@ use Rattle.floats.proofs.Bounds.{within-whole, positive-not-below, zero-not-bel
 use Rattle.floats.proofs.Zeros.{zeroOf, zero-plus}
 use Rattle.kernels.specs.Exp.{nearestWhole, expSeries, expReduced, expParts, expDeep, expBetween, expOf}
 use Rattle.kernels.specs.Ln.{hi, lo}
-use Rattle.kernels.proofs.ExpSteps.{log2e, digits, steps, product-is, steps-at-most, size-by-tests, few-steps, scaled-within, nearest-is}
+use Rattle.kernels.proofs.ExpSteps.{digits, kOf, steps, product-is, steps-at-most, size-by-tests, few-steps, scaled-within, nearest-is}
 use Rattle.kernels.proofs.ExpSteps.{exponent-in-reach, exponent-deep}
 use Rattle.bounds.proofs.ExpReduced.{reduced-under, reduced-over}
 use Rattle.bounds.proofs.ExpSeries.{series-under, series-over, series-more, series-fits}
 use Rattle.bounds.proofs.ExpTimes.{AtMost, times-positive, times-within, twice-once}
 
 -- ---- the definition between its tests
-
-abbrev pub kOf : Float → ℤ
-kOf x = nearestWhole (x ⊗ log2e)
 
 abbrev pub argument : Float → Float
 argument x = x ⊖ whole (kOf x) ⊗ hi ⊖ whole (kOf x) ⊗ lo
@@ -182,22 +179,25 @@ exp-positive x h k =
 
 -- the same by the size of a finite x
 
-size-passes : (s : Bool) (m : ℕ) (e : ℤ) → m * up e ≤ cond s 745 709 * down e
-    → (lt (fin s m e) least ≡ false) × (lt most (fin s m e) ≡ false)
+record Passes (x : Float) : Type 0 where
+  from-least : lt x least ≡ false
+  to-most : lt most x ≡ false
+
+size-passes : (s : Bool) (m : ℕ) (e : ℤ) → m * up e ≤ cond s 745 709 * down e → Passes (fin s m e)
 unfolding lt ofInt
-size-passes true m e h = (le-ltb (745 * down e) (m * up e * 1) (omega arith), refl)
-size-passes false m e h = (refl, le-ltb (709 * down e) (m * up e * 1) (omega arith))
+size-passes true m e h = record { from-least = le-ltb (745 * down e) (m * up e * 1) (omega arith); to-most = refl }
+size-passes false m e h = record { from-least = refl; to-most = le-ltb (709 * down e) (m * up e * 1) (omega arith) }
 
 pub exp-positive-by-size : (s : Bool) (m : ℕ) (e : ℤ) → m * up e ≤ cond s 745 709 * down e → T (positive (expOf (fin s m e)))
 unfolding isNan
 exp-positive-by-size s m e h =
     let t = size-passes s m e h in
     by-tests (λ (v : Float). T (positive v)) (fin s m e) refl
-    (λ u. absurd (not-both u (t .0))) (λ u. absurd (not-both u (t .1))) (parts-positive (fin s m e) refl)
+    (λ u. absurd (not-both u (t .from-least))) (λ u. absurd (not-both u (t .to-most))) (parts-positive (fin s m e) refl)
 
 -- below it is 0, and above plus infinity
 
-pub lt-number : (x y : Float) → lt x y ≡ true → (isNan x ≡ false) × (isNan y ≡ false)
+lt-number : (x y : Float) → lt x y ≡ true → (isNan x ≡ false) × (isNan y ≡ false)
 unfolding lt isNan
 lt-number nan y h = absurd (true≢false (sym h))
 lt-number (inf s) nan h = absurd (true≢false (sym h))

@@ -1,14 +1,13 @@
 -- The lower end of `expOf`: from −708 on it is what it was while that end was −708, below it is from 0 to 2^−1020, and both are a `Tail`.
 -- Assumes nothing.
 use mathlib.Core.Path.{_≡_, refl, sym, _∙_}
-use mathlib.Core.Bool.{Bool, true, false, true≢false}
+use mathlib.Core.Bool.{Bool, true, false}
 use Prim.Native.Nat.{ℕ, suc, _*_, _^_, _≤_}
 use native.Mathlib.Omega.{arith}
-use borrow.Author.Tests.{ltb-false, le-ltb}
 use lib.IntN.{ℤ, pos, negsuc, negℤ}
 use lib.Dec.{T, lit≤, lit<}
 use lib.Pow.{pow-mono}
-use lib.Ieee.{Float, nan, inf, fin, binary64, up, down, size, round, neg, add, sub, mul, lt, isNan, ofInt, ofBits, fits}
+use lib.Ieee.{Float, nan, inf, fin, binary64, size, round, neg, add, sub, mul, lt, isNan, ofInt, ofBits, fits}
 use lib.Ieee.Fits.{cond-fits, nan-fits, inf-fits, ofInt-fits, mul-fits}
 use Rattle.floats.specs.F64.{whole, nat}
 use Rattle.floats.specs.Under.{Under}
@@ -21,24 +20,15 @@ use Rattle.floats.proofs.Zeros.{zeroOf}
 use Rattle.floats.proofs.TinySums.{tiny-more}
 use Rattle.kernels.specs.Exp.{expSeries, expReduced, expParts, expDeep, expBetween, expOf}
 use Rattle.kernels.specs.Inner.{Deep}
-use Rattle.kernels.proofs.ExpSteps.{exponent-deep}
+use Rattle.kernels.proofs.ExpSteps.{kOf, tail-number, tail-not-above, past-both, exponent-deep}
 use Rattle.bounds.specs.Tail.{Tail, expFlushed}
-use Rattle.bounds.proofs.ExpBounds.{kOf, least, deep, most, y-under, parts-positive, by-tests, not-both, exp-fits, lt-number}
-use Rattle.bounds.proofs.ExpBounds.{exp-of-zero}
+use Rattle.bounds.proofs.ExpBounds.{least, deep, most, y-under, parts-positive, by-tests, not-both, exp-fits, exp-of-zero}
 
 -- ---- from −708 on, a NaN and plus infinity among it, nothing changed
 
-not-least : (x : Float) → lt x deep ≡ false → lt x least ≡ false
-unfolding lt ofInt
-not-least nan h = refl
-not-least (inf true) h = absurd (true≢false h)
-not-least (inf false) h = refl
-not-least (fin false m e) h = refl
-not-least (fin true m e) h = le-ltb (745 * down e) (m * up e * 1) (omega (arith, ltb-false (708 * down e) (m * up e * 1) h))
-
 pub exp-unchanged : (x : Float) → lt x (whole (negℤ (pos 708))) ≡ false → expOf x ≡ expFlushed x
 unfolding expOf expBetween expFlushed
-exp-unchanged x h = rw (not-least x h, h)
+exp-unchanged x h = rw (past-both x h, h)
 
 -- ---- at −745, its lower end, it is the smallest f64
 
@@ -57,22 +47,14 @@ deep-power (negsuc a) d =
     ones : (y z : ℕ) → y ≤ z → 1 * 1 * y ≤ 1 * z
     ones y z h = omega arith
 
-not-above : (x : Float) → lt x deep ≡ true → lt most x ≡ false
-unfolding lt ofInt
-not-above nan h = refl
-not-above (inf true) h = refl
-not-above (inf false) h = absurd (true≢false (sym h))
-not-above (fin true m e) h = refl
-not-above (fin false m e) h = absurd (true≢false (sym h))
-
 zero-tiny : (j : ℕ) → Tiny j (nat 0)
 unfolding ofInt
 zero-tiny j = record { not-negative = zero-not-below; small = record { is-finite = tt; small = omega arith } }
 
 pub exp-tiny : (x : Float) → lt x (whole (negℤ (pos 708))) ≡ true → Tiny 1020 (expOf x)
 exp-tiny x d =
-    let n = lt-number x deep d .0 in
-    by-tests (Tiny 1020) x n (λ _. zero-tiny 1020) (λ t. absurd (not-both t (not-above x d))) (tail n)
+    let n = tail-number x d in
+    by-tests (Tiny 1020) x n (λ _. zero-tiny 1020) (λ t. absurd (not-both t (tail-not-above x d))) (tail n)
   where
     tail : isNan x ≡ false → lt x least ≡ false → lt most x ≡ false → Tiny 1020 (expParts (kOf x) x)
     tail n h k = record {
@@ -95,7 +77,7 @@ flushed-fits x =
 
 flushed-below : (x : Float) → lt x deep ≡ true → expFlushed x ≡ nat 0
 unfolding expFlushed
-flushed-below x h = rw (lt-number x deep h .0, h)
+flushed-below x h = rw (tail-number x h, h)
 
 pub flushed-is-tail : Tail expFlushed
 flushed-is-tail = record {
@@ -106,8 +88,8 @@ flushed-is-tail = record {
 
 -- ---- whichever the tail is: never negative, and beside `expOf` the same or tiny
 
-not-below-zero : (x : Float) → NotBelow x → lt x (nat 0) ≡ false
-not-below-zero x h = rw zero-is (not-below-test x h)
+not-negative-test : (x : Float) → NotBelow x → lt x (nat 0) ≡ false
+not-negative-test x h = rw zero-is (not-below-test x h)
 
 exp-not-negative : (x : Float) → lt (expOf x) (nat 0) ≡ false
 exp-not-negative x = go (isNan x) refl
@@ -115,15 +97,15 @@ exp-not-negative x = go (isNan x) refl
     go : (t : Bool) → isNan x ≡ t → lt (expOf x) (nat 0) ≡ false
     go true n = unfold expOf lt in rw n refl
     go false n =
-        by-tests (λ (y : Float). lt y (nat 0) ≡ false) x n (λ _. not-below-zero (nat 0) zero-not-below) (λ _. unfold lt ofInt in refl)
-        (λ h k. not-below-zero (expParts (kOf x) x) (positive-not-below (expParts (kOf x) x) (parts-positive x n h k)))
+        by-tests (λ (y : Float). lt y (nat 0) ≡ false) x n (λ _. not-negative-test (nat 0) zero-not-below) (λ _. unfold lt ofInt in refl)
+        (λ h k. not-negative-test (expParts (kOf x) x) (positive-not-below (expParts (kOf x) x) (parts-positive x n h k)))
 
 module _ (e : Float → Float) (t : Tail e) where
   pub tail-summand : (x : Float) → Summand (e x)
   tail-summand x = record { is-f64 = t .is-f64 x; not-below = go (lt x deep) refl }
     where
       go : (b : Bool) → lt x deep ≡ b → lt (e x) (nat 0) ≡ false
-      go true h = not-below-zero (e x) (t .below-708 x h .not-negative)
+      go true h = not-negative-test (e x) (t .below-708 x h .not-negative)
       go false h = rw (t .from-708 x h) (exp-not-negative x)
 
   pub tail-same : (x : Float) → SameOrTiny 1000 (e x) (expOf x)

@@ -85,7 +85,7 @@ times-positive y (negsuc b) h l more n =
       | inr e ↦ mul-positive (more (ap negsuc e)) (down-over b 1075 (omega (arith, e))) tt f
     ]
 
--- ---- by way of 2^(k + 54): the first product is exact, so that the second rounds y·2^k
+-- ---- by way of 2^(k + 54): the first product is exact (`first-exact`), so that the second rounds y·2^k
 
 module _ (y : Float) (n i a : ℕ) (N : 0 < n) (v : HasValue y false n (2 ^ i)) (l : n < 2 ^ 53) (h : i + suc a ≤ 1074) where
   y-positive : T (positive y)
@@ -96,7 +96,8 @@ module _ (y : Float) (n i a : ℕ) (N : 0 < n) (v : HasValue y false n (2 ^ i)) 
       mul-at binary64 y (fin false 1 (negsuc b)) n (2 ^ i) 1 (2 ^ suc b) y-positive tt (pow-pos i) (pow-pos (suc b)) v (refl, refl)
       ∙ rw (mul-one n, pow-add 2 i (suc b))
 
-  first-exact : HasValue (y ⊗ fin false 1 (negsuc a)) false n (2 ^ (i + suc a))
+  -- the first of the two products is exact: n / 2^i times 2^-(a + 1)
+  pub first-exact : HasValue (y ⊗ fin false 1 (negsuc a)) false n (2 ^ (i + suc a))
   first-exact = rw (times-is a) (fraction-val false n (i + suc a) l h)
 
   both-steps : y ⊗ fin false 1 (negsuc a) ⊗ fin false 1 (negsuc 53) ≡ y ⊗ fin false 1 (negsuc (a + 54))
@@ -138,6 +139,5 @@ twice-once (inf s) (negsuc b) t h l d = absurd (l .is-positive)
 twice-once (fin true m e) (negsuc b) t h l d = absurd (l .is-positive)
 twice-once (fin false m e) (negsuc b) t h l d =
     let s = deep-sum b (d .0) in
-    let a = s .0 in
-    let steps = exact-steps m (ltb→lt 0 m (l .is-positive)) a (omega (arith, s .2, d .1)) e t h l in
-    rw (s .1) (steps ∙ ap (λ (c : ℕ). fin false m e ⊗ fin false 1 (negsuc c)) (s .2))
+    let steps = exact-steps m (ltb→lt 0 m (l .is-positive)) (s .less) (omega (arith, s .apart, d .1)) e t h l in
+    rw (s .is) (steps ∙ ap (λ (c : ℕ). fin false m e ⊗ fin false 1 (negsuc c)) (s .apart))

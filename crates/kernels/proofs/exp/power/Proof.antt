@@ -16,13 +16,13 @@ use Rattle.kernels.proofs.exp.power.Tie as tie
 
 -- the exponent's field
 abbrev field : tie.Start → ℕ
-field c = power-field (c .args .k) (c .pre) .0
+field c = power-field (c .args .k) (c .pre) .field
 
 at-most : (c : tie.Start) → field c ≤ 2046
-at-most c = power-field (c .args .k) (c .pre) .2
+at-most c = power-field (c .args .k) (c .pre) .at-most
 
 sum-is : (c : tie.Start) → toZ w32 (ofZ w32 (c .args .k)) +ℤ pos 1023 ≡ pos (field c)
-sum-is c = ap (λ (z : ℤ). z +ℤ pos 1023) (toZ-ofZ w32 (c .args .k) (c .fits .k)) ∙ power-field (c .args .k) (c .pre) .1
+sum-is c = ap (λ (z : ℤ). z +ℤ pos 1023) (toZ-ofZ w32 (c .args .k) (c .fits .k)) ∙ power-field (c .args .k) (c .pre) .sum
 
 field-fits : (c : tie.Start) → SFits w32 (pos (field c))
 field-fits c = record { sfits = omega (arith, at-most c) }
@@ -47,7 +47,7 @@ float-from-bits-result : tie.Need-float-from-bits-result
 float-from-bits-result c = rw (bits-are c, no-nan (field c) (at-most c)) tt
 
 returns : tie.Need-returns
-returns c = rw (bits-are c) (power-field (c .args .k) (c .pre) .3)
+returns c = rw (bits-are c) (power-field (c .args .k) (c .pre) .is-power)
 
 pub power-spec : {M : Type 1} → statement M
 power-spec = tie.close (tie.spec add-result cast-result float-from-bits-result returns)

@@ -9,16 +9,14 @@ use mathlib.Core.Bool.{false}
 use lib.Ieee.{Float, fin, binary64, ofBits, div, neg, fits}
 use lib.Ieee.Fits.{mul-fits}
 use lib.Ieee.Positive.{positive}
-use mir.Syntax.{w32}
-use mir.Val.{SFits, toZ, ofZ}
-use mir.ValLaws.{toZ-ofZ}
 use Rattle.floats.specs.F64.{_⊗_}
 use Rattle.floats.specs.Apart.{exponent}
 use Rattle.floats.specs.Within.{Above}
-use Rattle.floats.proofs.Signed.{small-fits, sum-small}
+use Rattle.floats.proofs.Signed.{sum-small}
 use Rattle.floats.proofs.Fitting.{fits-above, exponent-small}
 use Rattle.floats.proofs.Subnormal.{scaled-up, normal-by-test}
 use Rattle.kernels.specs.Ln.{lnOf, lnPositive}
+use Rattle.kernels.proofs.ExpPower.{whole-fits, whole-read}
 use Rattle.kernels.proofs.LnLaws.{ln-by-tests, positive-by-tests}
 use Rattle.kernels.proofs.ln.ln.Statement.{statement}
 use Rattle.kernels.proofs.ln.ln.Tie as tie
@@ -54,13 +52,7 @@ goes-on : (c : tie.Else4) → lnOf (arg c) ≡ lnPositive (arg c)
 unfolding ofBits div
 goes-on c = rw (ln-by-tests, c .before .before .before .if1 .left, c .before .before .if2 .left, c .before .if3 .left, c .if4 .left)
 
--- ---- an exponent fits an i32, and less 54 too
-
-k-fits : (k : ℤ) → natAbs k ≤ 2000 → SFits w32 k
-k-fits k h = small-fits w32 k 2000 h (omega arith)
-
-read-back : (k : ℤ) → natAbs k ≤ 2000 → toZ w32 (ofZ w32 k) ≡ k
-read-back k h = toZ-ofZ w32 k (k-fits k h)
+-- ---- an exponent fits an i32 (`whole-fits`), and less 54 too
 
 less-small : (k : ℤ) → natAbs k ≤ 1074 → natAbs (k -ℤ pos 54) ≤ 2000
 less-small k h = omega (arith, sum-small k (negsuc 53))
@@ -86,7 +78,7 @@ unfolding ofBits
 sub-ln-reduced c =
     let h = scaled-small (c .before) in
     let k = exponent (scaled (c .before)) in
-    rw (c .exponent-of .ensures, read-back k (omega (arith, h))) (k-fits (k -ℤ pos 54) (less-small k h))
+    rw (c .exponent-of .ensures, whole-read k (omega (arith, h))) (whole-fits (k -ℤ pos 54) (less-small k h))
 
 significand-of-requires : tie.Need-significand-of-requires
 unfolding ofBits
@@ -97,7 +89,7 @@ unfolding ofBits
 ln-reduced-requires c κs =
     let h = scaled-small (c .before .before) in
     let k = exponent (scaled (c .before .before)) in
-    rw (c .before .exponent-of .ensures, read-back k (omega (arith, h)), read-back (k -ℤ pos 54) (less-small k h)) (less-small k h)
+    rw (c .before .exponent-of .ensures, whole-read k (omega (arith, h)), whole-read (k -ℤ pos 54) (less-small k h)) (less-small k h)
 
 -- ---- any other x
 
@@ -117,7 +109,7 @@ significand-of-requires-2 c κs = arg-normal (c .before)
 ln-reduced-requires-2 : tie.Need-ln-reduced-requires-2
 ln-reduced-requires-2 c κs =
     let h = arg-small (c .before .before) in
-    rw (c .before .exponent-of2 .ensures, read-back (exponent (arg (c .before .before .before))) h) h
+    rw (c .before .exponent-of2 .ensures, whole-read (exponent (arg (c .before .before .before))) h) h
 
 returns-5 : tie.Need-returns-5
 unfolding lnPositive ofBits
@@ -125,13 +117,13 @@ returns-5 c =
     let t = c .before .before .before in
     let h = scaled-small t in
     let k = exponent (scaled t) in
-    rw (goes-on (t .before), t .if5 .taken, c .ln-reduced .ensures, c .before .significand-of .ensures, c .before .before .exponent-of .ensures, read-back k (omega (arith, h)), read-back (k -ℤ pos 54) (less-small k h))
+    rw (goes-on (t .before), t .if5 .taken, c .ln-reduced .ensures, c .before .significand-of .ensures, c .before .before .exponent-of .ensures, whole-read k (omega (arith, h)), whole-read (k -ℤ pos 54) (less-small k h))
 
 returns-6 : tie.Need-returns-6
 unfolding lnPositive ofBits
 returns-6 c =
     let t = c .before .before .before in
-    rw (goes-on (t .before), t .if5 .left, c .ln-reduced2 .ensures, c .before .significand-of2 .ensures, c .before .before .exponent-of2 .ensures, read-back (exponent (arg (t .before))) (arg-small t))
+    rw (goes-on (t .before), t .if5 .left, c .ln-reduced2 .ensures, c .before .significand-of2 .ensures, c .before .before .exponent-of2 .ensures, whole-read (exponent (arg (t .before))) (arg-small t))
 
 pub ln-spec : {M : Type 1} → statement M
 ln-spec =
