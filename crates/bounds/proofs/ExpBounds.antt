@@ -197,7 +197,7 @@ exp-positive-by-size s m e h =
 
 -- below it is 0, and above plus infinity
 
-lt-number : (x y : Float) → lt x y ≡ true → (isNan x ≡ false) × (isNan y ≡ false)
+pub lt-number : (x y : Float) → lt x y ≡ true → (isNan x ≡ false) × (isNan y ≡ false)
 unfolding lt isNan
 lt-number nan y h = absurd (true≢false (sym h))
 lt-number (inf s) nan h = absurd (true≢false (sym h))

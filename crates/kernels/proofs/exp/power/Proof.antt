@@ -22,7 +22,7 @@ at-most : (c : tie.Start) → field c ≤ 2046
 at-most c = power-field (c .args .k) (c .pre) .at-most
 
 sum-is : (c : tie.Start) → toZ w32 (ofZ w32 (c .args .k)) +ℤ pos 1023 ≡ pos (field c)
-sum-is c = ap (λ (z : ℤ). z +ℤ pos 1023) (toZ-ofZ w32 (c .args .k) (c .fits .k)) ∙ power-field (c .args .k) (c .pre) .sum
+sum-is c = ap (λ (z : ℤ). z +ℤ pos 1023) (toZ-ofZ w32 (c .args .k) (c .fits .k)) ∙ power-field (c .args .k) (c .pre) .lifted
 
 field-fits : (c : tie.Start) → SFits w32 (pos (field c))
 field-fits c = record { sfits = omega (arith, at-most c) }

@@ -117,13 +117,18 @@ returns-5 c =
     let t = c .before .before .before in
     let h = scaled-small t in
     let k = exponent (scaled t) in
-    rw (goes-on (t .before), t .if5 .taken, c .ln-reduced .ensures, c .before .significand-of .ensures, c .before .before .exponent-of .ensures, whole-read k (omega (arith, h)), whole-read (k -ℤ pos 54) (less-small k h))
+    let e = c .before .before .exponent-of .ensures in
+    let before = whole-read k (omega (arith, h)) in
+    let after = whole-read (k -ℤ pos 54) (less-small k h) in
+    rw (goes-on (t .before), t .if5 .taken, c .ln-reduced .ensures, c .before .significand-of .ensures, e, before, after)
 
 returns-6 : tie.Need-returns-6
 unfolding lnPositive ofBits
 returns-6 c =
     let t = c .before .before .before in
-    rw (goes-on (t .before), t .if5 .left, c .ln-reduced2 .ensures, c .before .significand-of2 .ensures, c .before .before .exponent-of2 .ensures, whole-read (exponent (arg (t .before))) (arg-small t))
+    let e = c .before .before .exponent-of2 .ensures in
+    let read = whole-read (exponent (arg (t .before))) (arg-small t) in
+    rw (goes-on (t .before), t .if5 .left, c .ln-reduced2 .ensures, c .before .significand-of2 .ensures, e, read)
 
 pub ln-spec : {M : Type 1} → statement M
 ln-spec =
