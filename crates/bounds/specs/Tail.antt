@@ -25,5 +25,5 @@ expFlushed x =
     (expParts (nearestWhole (x ⊗ decimal 14426950408889634 16)) x)))
 
 -- K5: ten to the y, by such an exponential
-abbrev pub tenBy : (Float → Float) → Float → Float
-tenBy e y = e (y ⊗ lnOf (nat 10))
+abbrev pub tenWith : (Float → Float) → Float → Float
+tenWith e y = e (y ⊗ lnOf (nat 10))

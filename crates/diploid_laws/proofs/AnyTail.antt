@@ -20,7 +20,7 @@ use Rattle.kernels.specs.Ln.{lnOf}
 use Rattle.kernels.specs.Exp.{expOf}
 use Rattle.tens.specs.Log10.{log10Of, pow10Of}
 use Rattle.tens.specs.Normalised.{largestFrom, wholeOver}
-use Rattle.bounds.specs.Tail.{Tail, expFlushed, tenBy}
+use Rattle.bounds.specs.Tail.{Tail, expFlushed, tenWith}
 use Rattle.bounds.proofs.ExpTail.{exp-is-tail, flushed-is-tail, tail-summand, tail-same, tail-nan, tail-zero}
 use Rattle.refusals.specs.declared.Refusal.the-variants.{Done}
 use Rattle.models.specs.declared.model.Mode.{Mode}
@@ -35,12 +35,12 @@ use Rattle.scores.specs.declared.scores.Scored.the-variants.{Beyond, Unread, Ar
 use Rattle.scores.specs.Scores.{oneWay, eitherWay, phasedScores, scoresBy, scoredBy}
 use Rattle.tables.specs.Calibration.{calibrated}
 use Rattle.diploid.specs.Genotype.{winner, called, answered, genotypeBy, genotypeOf}
-use Rattle.diploid_laws.specs.Tails.{eitherWayBy, wholeBy, scoresWith, scoredWith, qualsWith, calledWith, genotypeWith}
+use Rattle.diploid_laws.specs.Tails.{eitherWayWith, wholeWith, scoresWith, scoredWith, qualsWith, calledWith, genotypeWith}
 use Rattle.diploid_laws.proofs.QualityBounds.{zero-times-ten}
 
 -- ---- at `expOf` the definitions over an exponential are the rules' own
 
-pub whole-by-exp : (l : List Float) → wholeBy expOf l ≡ wholeOver larger l
+pub whole-by-exp : (l : List Float) → wholeWith expOf l ≡ wholeOver larger l
 unfolding wholeOver pow10Of
 whole-by-exp [] = refl
 whole-by-exp (x ∷ l) = refl
@@ -98,7 +98,7 @@ module _ (e : Float → Float) (tail : Tail e) where
     | inr h ↦ rw (h, tail-zero e tail false) one-not-below
   ]
 
-  pub ten-from-one : (z : Float) → lt (tenBy e (z ⊖ z)) (nat 1) ≡ false
+  pub ten-from-one : (z : Float) → lt (tenWith e (z ⊖ z)) (nat 1) ≡ false
   ten-from-one z = elim (itself z) [
     | inl h ↦ rw h (unfold mul in rw (tail-nan e tail) (unfold lt in refl))
     | inr h ↦ rw (h, zero-times-ten false, tail-zero e tail false) one-not-below
@@ -106,7 +106,7 @@ module _ (e : Float → Float) (tail : Tail e) where
 
   -- ---- the sums
 
-  either-way-tail : (a b : Float) → eitherWayBy e a b ≡ eitherWayBy expOf a b
+  either-way-tail : (a b : Float) → eitherWayWith e a b ≡ eitherWayWith expOf a b
   either-way-tail a b =
       let top = larger a b in
       let f : Float → Float = λ y. e (y ⊖ top) in
@@ -117,12 +117,12 @@ module _ (e : Float → Float) (tail : Tail e) where
       let one = from-one-among f F a (b ∷ []) (largest-among (λ z. lt (f z) (nat 1) ≡ false) a (b ∷ []) (itself-from-one top)) in
       ap (λ (s : Float). top ⊕ lnOf s) (same-sums f g F G H a (b ∷ []) (lit≤ tt) one)
 
-  pub whole-tail : (l : List Float) → length l ≤ 18 → wholeBy e l ≡ wholeBy expOf l
+  pub whole-tail : (l : List Float) → length l ≤ 18 → wholeWith e l ≡ wholeWith expOf l
   whole-tail [] few = refl
   whole-tail (x ∷ l) few =
       let top = largestFrom larger x l in
-      let f : Float → Float = λ y. tenBy e (y ⊖ top) in
-      let g : Float → Float = λ y. tenBy expOf (y ⊖ top) in
+      let f : Float → Float = λ y. tenWith e (y ⊖ top) in
+      let g : Float → Float = λ y. tenWith expOf (y ⊖ top) in
       let F : (y : Float) → Summand (f y) = λ y. tail-summand e tail ((y ⊖ top) ⊗ lnOf (nat 10)) in
       let G : (y : Float) → Summand (g y) = λ y. tail-summand expOf exp-is-tail ((y ⊖ top) ⊗ lnOf (nat 10)) in
       let H : (y : Float) → SameOrTiny 1000 (f y) (g y) = λ y. tail-same e tail ((y ⊖ top) ⊗ lnOf (nat 10)) in

@@ -7,7 +7,7 @@ use lib.Dec.{eqb}
 use lib.Ieee.{Float, inf}
 use Rattle.floats.specs.F64.{_⊕_, _⊖_, _⊗_, nat, sumFrom}
 use Rattle.kernels.specs.Ln.{lnOf}
-use Rattle.bounds.specs.Tail.{tenBy}
+use Rattle.bounds.specs.Tail.{tenWith}
 use Rattle.tens.specs.Log10.{log10Of}
 use Rattle.tens.specs.Normalised.{largestFrom, lessWhole}
 use Rattle.refusals.specs.declared.Refusal.the-variants.{Done, Model as BadModel, Table, Count}
@@ -29,8 +29,8 @@ use Rattle.diploid.specs.Genotype.{winner, blank}
 use Rattle.diploid.specs.declared.genotype.GenotypeResult.{GenotypeResult}
 
 -- G2: ln (exp a + exp b), by way of the larger
-abbrev pub eitherWayBy : (Float → Float) → Float → Float → Float
-eitherWayBy e a b = let top = larger a b in top ⊕ lnOf (e (a ⊖ top) ⊕ e (b ⊖ top))
+abbrev pub eitherWayWith : (Float → Float) → Float → Float → Float
+eitherWayWith e a b = let top = larger a b in top ⊕ lnOf (e (a ⊖ top) ⊕ e (b ⊖ top))
 
 -- G2: the three scores by mode; the phased Het alone takes an exponential
 abbrev pub scoresWith : (Float → Float) → Mode → Model → ℕ → ℕ → ℕ → Scores
@@ -41,7 +41,7 @@ scoresWith e Phased m ref alt1 alt2 =
     let s = phasedScores larger m ref alt1 alt2 in
     record {
       homref = s .homref;
-      het = lnOf (fraction m 1) ⊕ eitherWayBy e (oneWay m ref alt1 alt2 total) (oneWay m ref alt2 alt1 total);
+      het = lnOf (fraction m 1) ⊕ eitherWayWith e (oneWay m ref alt1 alt2 total) (oneWay m ref alt2 alt1 total);
       homalt = s .homalt;
     }
 
@@ -53,16 +53,16 @@ scoredWith e m ref alt1 alt2 =
     Beyond
 
 -- G4, M7: log10 of the sum of ten to each, by way of the largest
-abbrev pub wholeBy : (Float → Float) → List Float → Float
-wholeBy e [] = inf true
-wholeBy e (x ∷ l) =
+abbrev pub wholeWith : (Float → Float) → List Float → Float
+wholeWith e [] = inf true
+wholeWith e (x ∷ l) =
     let top = largestFrom larger x l in
-    top ⊕ log10Of (sumFrom (tenBy e (x ⊖ top)) (map (λ y. tenBy e (y ⊖ top)) l))
+    top ⊕ log10Of (sumFrom (tenWith e (x ⊖ top)) (map (λ y. tenWith e (y ⊖ top)) l))
 
 -- G4: the three less that, and at most 0
 abbrev pub normalisedWith : (Float → Float) → Scores → Scores
 normalisedWith e l =
-    let w = wholeBy e (listed l) in
+    let w = wholeWith e (listed l) in
     record { homref = lessWhole smaller w (l .homref); het = lessWhole smaller w (l .het); homalt = lessWhole smaller w (l .homalt) }
 
 -- G4: raw gq and sq

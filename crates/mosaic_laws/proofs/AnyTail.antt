@@ -16,9 +16,9 @@ use Rattle.kernels.specs.Ln.{lnOf}
 use Rattle.kernels.specs.Exp.{expOf}
 use Rattle.tens.specs.Log10.{pow10Of}
 use Rattle.tens.specs.Normalised.{inTens, lessWhole}
-use Rattle.bounds.specs.Tail.{Tail, expFlushed, tenBy}
+use Rattle.bounds.specs.Tail.{Tail, expFlushed, tenWith}
 use Rattle.bounds.proofs.ExpTail.{exp-is-tail, flushed-is-tail, tail-summand, tail-same}
-use Rattle.diploid_laws.specs.Tails.{wholeBy}
+use Rattle.diploid_laws.specs.Tails.{wholeWith}
 use Rattle.diploid_laws.proofs.AnyTail.{whole-by-exp, whole-tail}
 use Rattle.refusals.specs.declared.Refusal.{Refusal}
 use Rattle.models.specs.declared.params.Params.{Params}
@@ -90,19 +90,19 @@ module _ (e : Float → Float) (tail : Tail e) where
   unfolding probabilitiesWith
   chance-summand l n i =
       let tens = tensOf l (inUse n) in
-      let normal = map (lessWhole smaller (wholeBy e tens)) tens in
-      let each : (x : Float) → Summand (tenBy e x) = λ x. tail-summand e tail (x ⊗ lnOf (nat 10)) in
-      padded-of (λ x y. Summand x) nan-summand (nat 0) nothing-summand (tenBy e) (tenBy e) each 36 normal i
+      let normal = map (lessWhole smaller (wholeWith e tens)) tens in
+      let each : (x : Float) → Summand (tenWith e x) = λ x. tail-summand e tail (x ⊗ lnOf (nat 10)) in
+      padded-of (λ x y. Summand x) nan-summand (nat 0) nothing-summand (tenWith e) (tenWith e) each 36 normal i
 
   pub chance-either : (l : List Float) (n i : ℕ) → n ≤ 18
       → SameOrTiny 1000 (getD (probabilitiesWith e l n) i nan) (getD (probabilitiesWith expOf l n) i nan)
   unfolding probabilitiesWith
   chance-either l n i h =
       let tens = tensOf l (inUse n) in
-      let normal = map (lessWhole smaller (wholeBy expOf tens)) tens in
-      let each : (x : Float) → SameOrTiny 1000 (tenBy e x) (tenBy expOf x) = λ x. tail-same e tail (x ⊗ lnOf (nat 10)) in
+      let normal = map (lessWhole smaller (wholeWith expOf tens)) tens in
+      let each : (x : Float) → SameOrTiny 1000 (tenWith e x) (tenWith expOf x) = λ x. tail-same e tail (x ⊗ lnOf (nat 10)) in
       rw (whole-tail e tail tens (tens-at-most n l h))
-      (padded-of (SameOrTiny 1000) (same refl) (nat 0) (same refl) (tenBy e) (tenBy expOf) each 36 normal i)
+      (padded-of (SameOrTiny 1000) (same refl) (nat 0) (same refl) (tenWith e) (tenWith expOf) each 36 normal i)
 
 -- ---- fewer seen alleles, no more hypotheses
 

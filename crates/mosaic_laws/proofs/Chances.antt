@@ -28,13 +28,13 @@ use Rattle.kernels.specs.Ln.{lnOf}
 use Rattle.kernels.specs.Exp.{expOf}
 use Rattle.tens.specs.Log10.{log10Of, pow10Of}
 use Rattle.tens.specs.Normalised.{inTens, largestFrom, wholeOver, lessWhole}
-use Rattle.bounds.specs.Tail.{Tail, tenBy}
+use Rattle.bounds.specs.Tail.{Tail, tenWith}
 use Rattle.bounds.proofs.ExpBounds.{deep}
 use Rattle.bounds.proofs.ExpTail.{exp-is-tail, tail-summand}
 use Rattle.bounds.proofs.LnSigns.{one-positive, ln-clear}
 use Rattle.bounds.proofs.Log10Bounds.{within-log10}
 use Rattle.picks.specs.Order.{larger, smaller}
-use Rattle.diploid_laws.specs.Tails.{wholeBy}
+use Rattle.diploid_laws.specs.Tails.{wholeWith}
 use Rattle.diploid_laws.proofs.AnyTail.{whole-by-exp, largest-among, ten-from-one}
 use Rattle.diploid_laws.proofs.Signs.{NotAbove, lt-itself, not-below-trans, difference-not-above, not-below-add}
 use Rattle.diploid_laws.proofs.Largest.{either-of, larger-left, larger-right}
@@ -117,15 +117,15 @@ largest-is x (y ∷ l) X L =
 
 module _ (e : Float → Float) (tail : Tail e) where
   -- ten to a y of at most 0
-  ten-chance : {n : ℕ} (y : Float) → Within n y → NotAbove y → n * 3 ≤ 2 ^ 53 → UpTo 1 (tenBy e y)
+  ten-chance : {n : ℕ} (y : Float) → Within n y → NotAbove y → n * 3 ≤ 2 ^ 53 → UpTo 1 (tenWith e y)
   ten-chance y w h l = go (lt (y ⊗ lnOf (nat 10)) deep) refl
     where
-      go : (t : Bool) → lt (y ⊗ lnOf (nat 10)) deep ≡ t → UpTo 1 (tenBy e y)
+      go : (t : Bool) → lt (y ⊗ lnOf (nat 10)) deep ≡ t → UpTo 1 (tenWith e y)
       go true k =
           let s = tail .below-708 (y ⊗ lnOf (nat 10)) k in
           record { within = under-within (s .small) 1 (lit≤ tt); not-negative = s .not-negative }
       go false k =
-          let c : UpTo 1 (tenBy expOf y) = unfold pow10Of in pow10-chance y w h l in
+          let c : UpTo 1 (tenWith expOf y) = unfold pow10Of in pow10-chance y w h l in
           rw (tail .from-708 (y ⊗ lnOf (nat 10)) k) c
 
   module _ (x : Float) (l : List Float) (X : DecimalPosterior x) (L : Each DecimalPosterior l) (few : length l ≤ 36) where
@@ -136,7 +136,7 @@ module _ (e : Float → Float) (tail : Tail e) where
     the-top = largest-is x l X L
 
     abbrev powerOf : Float → Float
-    powerOf y = tenBy e (y ⊖ top)
+    powerOf y = tenWith e (y ⊖ top)
 
     power : (y : Float) → DecimalPosterior y → lt top y ≡ false → UpTo 1 (powerOf y)
     power y Y h =
@@ -180,11 +180,11 @@ module _ (e : Float → Float) (tail : Tail e) where
           not-negative = clear-not-below (log10Of sum) (clear-div (lnOf sum) (lnOf (nat 10)) c (ten-above .is-positive) (w .is-finite));
         }
 
-    pub whole-by-within : Within (2 ^ 48) (wholeBy e (x ∷ l))
+    pub whole-by-within : Within (2 ^ 48) (wholeWith e (x ∷ l))
     whole-by-within = within-more (within-add (the-top .posterior .within) (log-up-to .within) (lit≤ tt)) (lit≤ tt)
 
     -- it is not below the largest
-    pub whole-by-not-below : lt (wholeBy e (x ∷ l)) top ≡ false
+    pub whole-by-not-below : lt (wholeWith e (x ∷ l)) top ≡ false
     whole-by-not-below = add-not-below top (log10Of sum) (the-top .posterior .within) (the-top .posterior .is-f64) log-up-to (lit≤ tt)
 
 -- ---- the rules' own, and the probabilities
@@ -198,7 +198,7 @@ module _ (l : List Float) (some : 0 < length l) (few : length l ≤ 36) (posteri
   pub whole-within : Within (2 ^ 48) (wholeOver larger l)
   whole-within = subst (Within (2 ^ 48)) (whole-by-exp l) (go l some few posteriors)
     where
-      go : (l : List Float) → 0 < length l → length l ≤ 36 → Each DecimalPosterior l → Within (2 ^ 48) (wholeBy expOf l)
+      go : (l : List Float) → 0 < length l → length l ≤ 36 → Each DecimalPosterior l → Within (2 ^ 48) (wholeWith expOf l)
       go [] h k t = absurd (not-suc-le-zero h)
       go (x ∷ l) h k t = whole-by-within expOf exp-is-tail x l (t .0) (t .1) (omega arith)
 

@@ -21,11 +21,11 @@ use Rattle.floats.proofs.Zeros.{Number}
 use Rattle.kernels.specs.Ln.{lnOf}
 use Rattle.kernels.specs.Exp.{expOf}
 use Rattle.tens.specs.Normalised.{largestFrom, lessWhole}
-use Rattle.bounds.specs.Tail.{Tail, expFlushed, tenBy}
+use Rattle.bounds.specs.Tail.{Tail, expFlushed, tenWith}
 use Rattle.bounds.proofs.ExpBounds.{deep, lt-number}
 use Rattle.bounds.proofs.ExpTail.{flushed-is-tail}
 use Rattle.picks.specs.Order.{larger, smaller}
-use Rattle.diploid_laws.specs.Tails.{wholeBy}
+use Rattle.diploid_laws.specs.Tails.{wholeWith}
 use Rattle.diploid_laws.proofs.QualityBounds.{ten-above, ten-within, smaller-zero}
 use Rattle.diploid_laws.proofs.Signs.{lt-itself, lt-not-back, no-trans}
 use Rattle.models.specs.declared.params.Params.{Params}
@@ -78,10 +78,10 @@ module _ (e : Float → Float) (tail : Tail e) where
     top = largestFrom larger x l
 
     abbrev power : Float → Float
-    power y = tenBy e (y ⊖ top)
+    power y = tenWith e (y ⊖ top)
 
     abbrev w : Float
-    w = wholeBy e (x ∷ l)
+    w = wholeWith e (x ∷ l)
 
     -- the whole is not below the largest, so what is not deep less the whole is not deep less the largest
     less-top : (y : Float) → DecimalPosterior y → NotDeep w y → lt ((y ⊖ top) ⊗ lnOf (nat 10)) deep ≡ false
@@ -107,17 +107,18 @@ module _ (e : Float → Float) (tail : Tail e) where
         (record { is-finite = within-mul A ten-within (lit≤ tt) .is-finite; is-f64 = mul-fits binary64 a ten })
         h (mul-order a c ten A C ten-within (ten-above .is-positive) (lit≤ tt) order)
 
-    power-same : (y : Float) → DecimalPosterior y → NotDeep w y → power y ≡ tenBy expOf (y ⊖ top)
+    power-same : (y : Float) → DecimalPosterior y → NotDeep w y → power y ≡ tenWith expOf (y ⊖ top)
     power-same y Y h = tail .from-708 ((y ⊖ top) ⊗ lnOf (nat 10)) (less-top y Y h)
 
-    whole-from : Each (NotDeep w) (x ∷ l) → w ≡ wholeBy expOf (x ∷ l)
+    whole-from : Each (NotDeep w) (x ∷ l) → w ≡ wholeWith expOf (x ∷ l)
     whole-from h =
         rw (
           power-same x X (h .0),
-          map-agrees power (λ y. tenBy expOf (y ⊖ top)) DecimalPosterior (NotDeep w) power-same l L (h .1),
+          map-agrees power (λ y. tenWith expOf (y ⊖ top)) DecimalPosterior (NotDeep w) power-same l L (h .1),
         )
 
-  whole-same : (l : List Float) → length l ≤ 36 → Each DecimalPosterior l → Each (NotDeep (wholeBy e l)) l → wholeBy e l ≡ wholeBy expOf l
+  whole-same : (l : List Float) → length l ≤ 36 → Each DecimalPosterior l → Each (NotDeep (wholeWith e l)) l
+      → wholeWith e l ≡ wholeWith expOf l
   whole-same [] few L h = refl
   whole-same (x ∷ l) few L h = whole-from x l (L .0) (L .1) (omega arith) h
 
@@ -134,20 +135,20 @@ module _ (e : Float → Float) (p : Params) (counts : List ℕ) (ok : Accepted p
   tens = tensOf posts n
 
   abbrev normal : List Float
-  normal = map (lessWhole smaller (wholeBy e tens)) tens
+  normal = map (lessWhole smaller (wholeWith e tens)) tens
 
-  chances-same : Tail e → Each (NotDeep (wholeBy e tens)) tens → probabilitiesWith e posts n ≡ probabilitiesWith expOf posts n
+  chances-same : Tail e → Each (NotDeep (wholeWith e tens)) tens → probabilitiesWith e posts n ≡ probabilitiesWith expOf posts n
   unfolding probabilitiesWith
   chances-same tail h =
-      let same : map (tenBy e) normal ≡ map (tenBy expOf) normal = each-ten (wholeBy e tens) tens h in
+      let same : map (tenWith e) normal ≡ map (tenWith expOf) normal = each-ten (wholeWith e tens) tens h in
       rw (in-use-all n (at-most-36 counts), ← whole-same e tail tens (tens-few p counts ok) (tens-posteriors p counts ok) h, same)
     where
       each-ten : (w : Float) (l : List Float) → Each (NotDeep w) l
-          → map (tenBy e) (map (lessWhole smaller w) l) ≡ map (tenBy expOf) (map (lessWhole smaller w) l)
+          → map (tenWith e) (map (lessWhole smaller w) l) ≡ map (tenWith expOf) (map (lessWhole smaller w) l)
       each-ten w [] h = refl
       each-ten w (y ∷ l) h = rw (tail .from-708 (lessWhole smaller w y ⊗ lnOf (nat 10)) (h .0), each-ten w l (h .1))
 
-  called-same : Tail e → Each (NotDeep (wholeBy e tens)) tens → calledWith e p counts ≡ calledWith expOf p counts
+  called-same : Tail e → Each (NotDeep (wholeWith e tens)) tens → calledWith e p counts ≡ calledWith expOf p counts
   called-same tail h = rw (chances-same tail h)
 
 -- ---- the answer; a refusal takes no exponential
@@ -156,7 +157,7 @@ module _ (e : Float → Float) (p : Params) (counts : List ℕ) (ok : Accepted p
 pub no-tail-same : (e : Float → Float) → Tail e → (p : Params) (counts : List ℕ)
     → T (fits binary64 (p .alpha)) → T (fits binary64 (p .beta))
     → (let tens = tensOf (posteriors first p counts) (length (hypotheses counts)) in
-    Each (λ y. lt (lessWhole smaller (wholeBy e tens) y ⊗ lnOf (nat 10)) (whole (negℤ (pos 708))) ≡ false) tens)
+    Each (λ y. lt (lessWhole smaller (wholeWith e tens) y ⊗ lnOf (nat 10)) (whole (negℤ (pos 708))) ≡ false) tens)
     → genotypeWith e p counts ≡ genotypeOf p counts
 no-tail-same e tail p counts alpha beta h =
     beside-own (λ a b. a ≡ b) (λ _. refl) e p counts (λ ok. called-same e p counts (passed-accepted ok alpha beta) tail h)
@@ -172,10 +173,10 @@ flushed-not-deep x some = go (lt x deep) refl
     go false h = refl
 
 none-deep : (p : Params) (counts : List ℕ) → Accepted p counts → NoneZero (calledWith expFlushed p counts)
-    → let tens = tensOf (posteriors first p counts) (length (hypotheses counts)) in Each (NotDeep (wholeBy expFlushed tens)) tens
+    → let tens = tensOf (posteriors first p counts) (length (hypotheses counts)) in Each (NotDeep (wholeWith expFlushed tens)) tens
 none-deep p counts ok some =
     let tens = tensOf (posteriors first p counts) (length (hypotheses counts)) in
-    let w = wholeBy expFlushed tens in
+    let w = wholeWith expFlushed tens in
     each-place (NotDeep w) tens (λ i m.
     flushed-not-deep (lessWhole smaller w (getD tens i nan) ⊗ lnOf (nat 10)) (λ z.
     let there = subst (λ (k : ℕ). i < k) (tens-length p counts ok) m in

@@ -20,7 +20,7 @@ use Rattle.kernels.specs.Ln.{lnOf}
 use Rattle.kernels.specs.Exp.{expOf}
 use Rattle.tens.specs.Log10.{pow10Of}
 use Rattle.tens.specs.Normalised.{wholeOver, lessWhole}
-use Rattle.bounds.specs.Tail.{tenBy}
+use Rattle.bounds.specs.Tail.{tenWith}
 use Rattle.bounds.proofs.ExpBounds.{exp-below, by-tests, not-both, not-most, parts-positive}
 use Rattle.bounds.proofs.TenBounds.{pow10-chance-positive}
 use Rattle.models.specs.declared.params.Params.{Params}
@@ -33,7 +33,7 @@ use Rattle.hypotheses.specs.Hypotheses.{hypotheses}
 use Rattle.hypotheses.specs.Choice.{posteriors}
 use Rattle.hypotheses.proofs.Scanned.{at-most-36}
 use Rattle.mosaic.specs.Genotype.{genotypeOf}
-use Rattle.diploid_laws.specs.Tails.{wholeBy}
+use Rattle.diploid_laws.specs.Tails.{wholeWith}
 use Rattle.diploid_laws.proofs.AnyTail.{whole-by-exp}
 use Rattle.diploid_laws.proofs.Signs.{NotAbove, not-above-le, mul-not-above}
 use Rattle.diploid_laws.proofs.QualityBounds.{ten-above, ten-within, smaller-zero}
@@ -57,17 +57,17 @@ module _ (p : Params) (counts : List ℕ) (ok : Accepted p counts) (i : ℕ) (th
   tens = tensOf posts n
 
   pub chance-at : (e : Float → Float)
-      → getD (probabilitiesWith e posts n) i nan ≡ tenBy e (lessWhole smaller (wholeBy e tens) (getD tens i nan))
+      → getD (probabilitiesWith e posts n) i nan ≡ tenWith e (lessWhole smaller (wholeWith e tens) (getD tens i nan))
   unfolding probabilitiesWith
   chance-at e =
-      let less = lessWhole smaller (wholeBy e tens) in
+      let less = lessWhole smaller (wholeWith e tens) in
       let normal = map less tens in
       let h : i < length tens = rw (tens-length p counts ok) there in
       let m : i < length normal = rw (length-map tens less) h in
-      let q : i < length (map (tenBy e) normal) = rw (length-map normal (tenBy e)) m in
+      let q : i < length (map (tenWith e) normal) = rw (length-map normal (tenWith e)) m in
       rw (in-use-all n (at-most-36 counts))
-      (List·getD-append (map (tenBy e) normal) (replicate (36 - length (map (tenBy e) normal)) (nat 0)) nan i q
-      ∙ map-at (tenBy e) normal nan nan i m ∙ ap (tenBy e) (map-at less tens nan nan i h))
+      (List·getD-append (map (tenWith e) normal) (replicate (36 - length (map (tenWith e) normal)) (nat 0)) nan i q
+      ∙ map-at (tenWith e) normal nan nan i m ∙ ap (tenWith e) (map-at less tens nan nan i h))
 
   own-chance : getD (probabilitiesWith expOf posts n) i nan ≡ pow10Of (normalisedAt p counts i)
   unfolding pow10Of

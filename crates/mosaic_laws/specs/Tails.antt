@@ -10,9 +10,9 @@ use lib.ListN.{length, getD, replicate}
 use lib.Ieee.{Float, nan}
 use Rattle.floats.specs.F64.{nat}
 use Rattle.floats.specs.Tiny.{SameOrTiny}
-use Rattle.bounds.specs.Tail.{tenBy}
+use Rattle.bounds.specs.Tail.{tenWith}
 use Rattle.tens.specs.Normalised.{lessWhole, wholeOver}
-use Rattle.diploid_laws.specs.Tails.{wholeBy}
+use Rattle.diploid_laws.specs.Tails.{wholeWith}
 use Rattle.refusals.specs.declared.Refusal.the-variants.{TooMany, Count, Model, NoCall}
 use Rattle.limits.specs.Limits.{countsAllowed}
 use Rattle.models.specs.declared.params.Params.{Params}
@@ -31,7 +31,7 @@ use Rattle.mosaic.specs.declared.genotype.MosaicResult.{MosaicResult}
 unfoldable pub probabilitiesWith : (Float → Float) → List Float → ℕ → List Float
 probabilitiesWith e l n =
     let tens = tensOf l (inUse n) in
-    padded 36 (nat 0) (map (tenBy e) (map (lessWhole smaller (wholeBy e tens)) tens))
+    padded 36 (nat 0) (map (tenWith e) (map (lessWhole smaller (wholeWith e tens)) tens))
 
 -- M8: what is read off the hypothesis that wins
 abbrev pub calledWith : (Float → Float) → Params → List ℕ → MosaicResult
