@@ -23,7 +23,7 @@ use Rattle.floats.proofs.Differences.{not-below}
 use Rattle.floats.proofs.Monotone.{add-not-below}
 use Rattle.floats.proofs.Ranges.{above-finite}
 use Rattle.floats.proofs.Sizes.{under-within}
-use Rattle.floats.proofs.TinySums.{summand-sum, from-one-among}
+use Rattle.floats.proofs.TinySums.{summand-sum, from-one-among, not-below-add}
 use Rattle.kernels.specs.Ln.{lnOf}
 use Rattle.kernels.specs.Exp.{expOf}
 use Rattle.tens.specs.Log10.{log10Of, pow10Of}
@@ -36,7 +36,7 @@ use Rattle.bounds.proofs.Log10Bounds.{within-log10}
 use Rattle.picks.specs.Order.{larger, smaller}
 use Rattle.diploid_laws.specs.Tails.{wholeWith}
 use Rattle.diploid_laws.proofs.AnyTail.{whole-by-exp, largest-among, ten-from-one}
-use Rattle.diploid_laws.proofs.Signs.{NotAbove, lt-itself, not-below-trans, difference-not-above, not-below-add}
+use Rattle.diploid_laws.proofs.Signs.{NotAbove, lt-itself, not-below-trans, difference-not-above}
 use Rattle.diploid_laws.proofs.Largest.{either-of, larger-left, larger-right}
 use Rattle.diploid_laws.proofs.QualityBounds.{pow10-within, ten-above, smaller-zero}
 
