@@ -75,7 +75,7 @@ flushed-fits x =
     (cond-fits binary64 (lt x deep) (nat 0) _ (ofInt-fits binary64 (pos 0))
     (cond-fits binary64 (lt most x) (inf false) _ (inf-fits binary64 false) between))
 
-flushed-below : (x : Float) → lt x deep ≡ true → expFlushed x ≡ nat 0
+pub flushed-below : (x : Float) → lt x deep ≡ true → expFlushed x ≡ nat 0
 unfolding expFlushed
 flushed-below x h = rw (tail-number x h, h)
 

@@ -1,8 +1,10 @@
 -- What an answer of mosaic owes to the exponential below −708, where it is any f64 from 0 to 2^−1000. Every field but the quality and the
 -- probabilities owes nothing to the exponential, at any input: `call-tail`. With up to five seen alleles each probability is the same, or
--- from 0 to 2^−1000: `chances-tail`. With up to four such probabilities are all that differs: `mosaic-tail`. The same of an exp that is 0
--- below −708, as it once was: `call-unchanged`, `chances-unchanged`, `mosaic-unchanged`. Assumes nothing.
+-- from 0 to 2^−1000: `chances-tail`. With up to four such probabilities are all that differs: `mosaic-tail`. So it is of an exp that is 0
+-- below −708, as it once was, and there a probability that differs was 0: `call-unchanged`, `chances-unchanged`, `mosaic-unchanged`.
+-- Assumes nothing.
 use mathlib.Core.Path.{_≡_, refl, subst}
+use mathlib.Core.Bool.{Bool, true, false}
 use mathlib.Core.List.{List, [], _∷_, _++_, map}
 use Prim.Native.Nat.{ℕ, zero, suc, _+_, _-_, _*_, _/_, _≤_, _<_}
 use native.Mathlib.Nat.{mul-le-mul}
@@ -17,7 +19,8 @@ use Rattle.kernels.specs.Exp.{expOf}
 use Rattle.tens.specs.Log10.{pow10Of}
 use Rattle.tens.specs.Normalised.{inTens, lessWhole}
 use Rattle.bounds.specs.Tail.{Tail, expFlushed, tenWith}
-use Rattle.bounds.proofs.ExpTail.{exp-is-tail, flushed-is-tail, tail-summand, tail-same}
+use Rattle.bounds.proofs.ExpBounds.{deep}
+use Rattle.bounds.proofs.ExpTail.{exp-is-tail, exp-tiny, flushed-below, flushed-is-tail, tail-summand, tail-same}
 use Rattle.diploid_laws.specs.Tails.{wholeWith}
 use Rattle.diploid_laws.proofs.AnyTail.{whole-by-exp, whole-tail}
 use Rattle.refusals.specs.declared.Refusal.{Refusal}
@@ -33,6 +36,7 @@ use Rattle.probabilities.specs.Winner.{winner}
 use Rattle.mosaic.specs.Genotype.{blank, calledOf, genotypeBy, genotypeOf}
 use Rattle.mosaic.specs.declared.genotype.MosaicResult.{MosaicResult}
 use Rattle.mosaic_laws.specs.Tails.{probabilitiesWith, calledWith, genotypeWith, withoutChances, SameButTiny}
+use Rattle.mosaic_laws.specs.Tails.{KeptOrRisen, kept, risen}
 use Rattle.mosaic_laws.proofs.Count.{hypothesis-count}
 use Rattle.mosaic_laws.proofs.TinyWrong.{nothing-summand, quality-same}
 use Rattle.mosaic_laws.proofs.Cases.{Passed, by-refusals}
@@ -154,13 +158,44 @@ module _ (e : Float → Float) (tail : Tail e) (p : Params) (counts : List ℕ) 
 
 -- ---- while exp was 0 below −708
 
+kept-or-risen : (x : Float) → KeptOrRisen (expFlushed x) (expOf x)
+kept-or-risen x = go (lt x deep) refl
+  where
+    go : (t : Bool) → lt x deep ≡ t → KeptOrRisen (expFlushed x) (expOf x)
+    go true h = risen (flushed-below x h) (exp-tiny x h)
+    go false h = kept (flushed-is-tail .from-708 x h)
+
+chance-kept : (l : List Float) (n i : ℕ) → n ≤ 18
+    → KeptOrRisen (getD (probabilitiesWith expFlushed l n) i nan) (getD (probabilitiesWith expOf l n) i nan)
+unfolding probabilitiesWith
+chance-kept l n i h =
+    let tens = tensOf l (inUse n) in
+    let normal = map (lessWhole smaller (wholeWith expOf tens)) tens in
+    let each : (x : Float) → KeptOrRisen (tenWith expFlushed x) (tenWith expOf x) = λ x. kept-or-risen (x ⊗ lnOf (nat 10)) in
+    rw (whole-tail expFlushed flushed-is-tail tens (tens-at-most n l h))
+    (padded-of KeptOrRisen (kept refl) (nat 0) (kept refl) (tenWith expFlushed) (tenWith expOf) each 36 normal i)
+
 module _ (p : Params) (counts : List ℕ) where
   pub call-unchanged : withoutChances (genotypeWith expFlushed p counts) ≡ withoutChances (genotypeOf p counts)
   call-unchanged = call-tail expFlushed p counts
 
   pub chances-unchanged : genotypeOf p counts .seen ≤ 5 → (i : ℕ) → i < 36
-      → SameOrTiny 1000 (getD (genotypeWith expFlushed p counts .probabilities) i nan) (getD (genotypeOf p counts .probabilities) i nan)
-  chances-unchanged = chances-tail expFlushed flushed-is-tail p counts
+      → KeptOrRisen (getD (genotypeWith expFlushed p counts .probabilities) i nan) (getD (genotypeOf p counts .probabilities) i nan)
+  chances-unchanged h i l =
+      beside-own (λ a b. b .seen ≤ 5 → KeptOrRisen (getD (a .probabilities) i nan) (getD (b .probabilities) i nan))
+      (λ _ _. kept refl) expFlushed p counts (λ _ k. called-kept k) h
+    where
+      n : ℕ
+      n = length (hypotheses counts)
+
+      posts : List Float
+      posts = posteriors first p counts
+
+      called-kept : length (seenAlleles counts) ≤ 5
+          → KeptOrRisen (getD (probabilitiesWith expFlushed posts n) i nan) (getD (probabilitiesWith expOf posts n) i nan)
+      called-kept k =
+          let few : n ≤ 15 = count-few 5 (length (seenAlleles counts)) n k (hypothesis-count counts) in
+          chance-kept posts n i (omega arith)
 
   pub mosaic-unchanged : genotypeOf p counts .seen ≤ 4 → SameButTiny (genotypeWith expFlushed p counts) (genotypeOf p counts)
   mosaic-unchanged = mosaic-tail expFlushed flushed-is-tail p counts

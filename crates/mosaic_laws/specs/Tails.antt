@@ -9,7 +9,7 @@ use lib.Dec.{leb, ltb, eqb}
 use lib.ListN.{length, getD, replicate}
 use lib.Ieee.{Float, nan}
 use Rattle.floats.specs.F64.{nat}
-use Rattle.floats.specs.Tiny.{SameOrTiny}
+use Rattle.floats.specs.Tiny.{Tiny, SameOrTiny}
 use Rattle.bounds.specs.Tail.{tenWith}
 use Rattle.tens.specs.Normalised.{lessWhole, wholeOver}
 use Rattle.diploid_laws.specs.Tails.{wholeWith}
@@ -78,6 +78,11 @@ pub record SameButTiny (a b : MosaicResult) : Type 0 where
   pub same-quality : a .quality ≡ b .quality
   -- each probability is the same, or both are from 0 to 2^−1000
   pub same-or-tiny : (i : ℕ) → i < 36 → SameOrTiny 1000 (getD (a .probabilities) i nan) (getD (b .probabilities) i nan)
+
+-- M7: a probability is what it was, or it was 0 and is from 0 to 2^−1020
+pub data KeptOrRisen (was is : Float) : Type 0 where
+  kept : was ≡ is → KeptOrRisen was is
+  risen : was ≡ nat 0 → Tiny 1020 is → KeptOrRisen was is
 
 -- M7: no hypothesis of an answer has the probability 0
 abbrev pub NoneZero : MosaicResult → Type 0
