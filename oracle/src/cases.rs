@@ -64,7 +64,8 @@ fn exact_ties() -> Vec<f64> {
     inputs::ties().into_iter().filter(|&x| half(x)).step_by(12).collect()
 }
 
-/// The ends of the exponential's tail with their neighbours, below it and inside it, as the function takes them: what is not asked anyway.
+/// The ends of the exponential's tail with their neighbours, and floats below it and inside it, as the function takes them: what is not
+/// asked anyway.
 fn tail(asked: &[f64], taken: fn(f64) -> f64) -> Vec<f64> {
     let random = &mut Random::new(7);
     let ends = tail_inputs::ENDS.map(taken).into_iter();

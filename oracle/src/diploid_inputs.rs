@@ -97,9 +97,9 @@ pub fn allowed(random: &mut Random, mode: u32) -> Input {
     input
 }
 
-/// An input whose scores lie so far apart that the exponential is asked in its tail, or near it: with all counts so many times as large,
-/// the distances of scores are nearly as many times as large, in Beta where precisions are high. gq and sq are ten for each power of ten,
-/// and are capped at 1000.
+/// An input made so that scores lie far apart and the exponential is asked in its tail, or near it: with all counts so many times as
+/// large, the distances of scores are nearly as many times as large, in Beta where precisions are high. gq and sq are ten for each power
+/// of ten, and are capped at 1000.
 pub fn far_apart(random: &mut Random, mode: u32) -> Input {
     let highest = pick(random, &[20, 60, 200, 1000]);
     let mut input = Input { counts: [0; 3].map(|_| random.below(highest + 1) as u32), ..model(random, mode) };

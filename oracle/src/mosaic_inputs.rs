@@ -73,8 +73,8 @@ fn unlike_counts(random: &mut Random, seen: usize) -> Vec<u32> {
     counts
 }
 
-/// An input of so many seen alleles with a hypothesis whose probability lies in the exponential's tail, or near it: with all counts so many
-/// times as large, the logarithms of probabilities are nearly as many times as large.
+/// An input of so many seen alleles, made so that the probability of some hypothesis lies in the exponential's tail, or near it: with all
+/// counts so many times as large, the logarithms of probabilities are nearly as many times as large.
 pub fn far_apart(random: &mut Random, seen: usize) -> Input {
     let counts = unlike_counts(random, seen);
     let mut input = with_parameters(random, counts);

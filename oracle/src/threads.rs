@@ -1,4 +1,4 @@
-//! Counting over many random inputs with all processors at once, the same in every run and on every machine.
+//! Counting over many random inputs with all processors at once, the same in every run, however many processors there are.
 use crate::inputs::Random;
 use std::sync::atomic::{AtomicU64, Ordering};
 use std::thread;

@@ -36,7 +36,7 @@ expReduced n x = expSeries (x ⊖ n ⊗ hi ⊖ n ⊗ lo)
 unfoldable pub expParts : ℤ → Float → Float
 expParts k x = expReduced (whole k) x ⊗ fin false 1 k
 
--- under −708: that times 2^(k + 54), and this times 2^−54, which rounds: under −708.396 into the subnormal numbers
+-- under −708: that times 2^(k + 54), and this times 2^−54, which rounds: under −708.3965 into the subnormal numbers
 unfoldable pub expDeep : ℤ → Float → Float
 expDeep k x = expReduced (whole k) x ⊗ fin false 1 (k +ℤ pos 54) ⊗ fin false 1 (negℤ (pos 54))
 
