@@ -48,7 +48,7 @@ const MOSAIC: [&str; 9] = [
     "answers with such a one",
     "other probabilities that differ",
     "qualities that differ",
-    "answers that differ in another field",
+    "answers that differ in a field other than the probabilities",
 ];
 
 fn without_probabilities(answer: &mosaic::Answer) -> mosaic::Answer {
