@@ -1,11 +1,11 @@
 // Answers as text.
 use crate::sites::TAB;
-use family::pair::Pair;
-use family::pair::Triple;
-use reading::fields::field;
+use trio_family::pair::Pair;
+use trio_family::pair::Triple;
+use text_reading::fields::field;
 use refusals::Refusal;
-use writing::laying::lay;
-use writing::laying::lay_whole;
+use text_writing::laying::lay;
+use text_writing::laying::lay_whole;
 
 pub fn unreadable(text: &mut [u8], at: usize, number: u64) -> usize {
     let numbered = lay(text, at, b"?\tline ");
@@ -15,7 +15,7 @@ pub fn unreadable(text: &mut [u8], at: usize, number: u64) -> usize {
 
 // The number and the name of a refusal.
 fn refused(text: &mut [u8], at: usize, refusal: Refusal) -> usize {
-    let name = refusal_names::name(refusal);
+    let name = refusals::names::name(refusal);
     let numbered = lay_whole(text, at, refusals::number(refusal) as u64);
     let to_name = lay(text, numbered, b"\t");
     lay(text, to_name, field(&name, 0, 0))

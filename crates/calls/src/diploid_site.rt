@@ -8,11 +8,11 @@ use crate::sites::End;
 use crate::sites::TAB;
 use diploid::genotype::GenotypeResult;
 use diploid::genotype::genotype;
-use figures::figures::lay_figure;
-use models::model::Model;
-use models::state::State;
-use reading::fields::next_field;
-use writing::laying::lay;
+use text_writing::figures::lay_figure;
+use diploid_models::model::Model;
+use diploid_models::state::State;
+use text_reading::fields::next_field;
+use text_writing::laying::lay;
 
 // The name of a state between tabs.
 fn state(s: State) -> [u8; 5] {

@@ -3,10 +3,10 @@ use crate::answers;
 use crate::sites;
 use crate::sites::End;
 use libc::STDOUT_FILENO;
-use reading::fields::field;
-use reading::fields::field_end;
-use writing::laying::first_bytes;
-use writing::laying::lay;
+use text_reading::fields::field;
+use text_reading::fields::field_end;
+use text_writing::laying::first_bytes;
+use text_writing::laying::lay;
 
 // What is kept between two pieces: how many bytes of an unended line have come, past its buffer's end where it is too long; how many lines have
 // ended; where the answers that wait end; and whether every write so far went well, since after one that failed nothing more is written.

@@ -2,12 +2,12 @@
 ghost use Prim.Native.Nat.{_≤_};
 ghost use lib.ListN.{length};
 use crate::sites::TAB;
-use decimals::decimals::Decimal;
-use decimals::decimals::read_decimal;
-use numerals::wholes::Whole;
-use numerals::wholes::read_whole;
-use reading::fields::field;
-use reading::fields::next_field;
+use text_reading::decimals::Decimal;
+use text_reading::decimals::read_decimal;
+use text_reading::wholes::Whole;
+use text_reading::wholes::read_whole;
+use text_reading::fields::field;
+use text_reading::fields::next_field;
 
 pub enum Count {
     Is(u32),

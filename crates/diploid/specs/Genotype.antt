@@ -8,19 +8,19 @@ use Rattle.floats.specs.F64.{nat}
 use Rattle.floats.specs.Key.{keyOf}
 use Rattle.refusals.specs.declared.Refusal.{Refusal}
 use Rattle.refusals.specs.declared.Refusal.the-variants.{Done, Count, Model as BadModel, Table}
-use Rattle.models.specs.declared.model.Model.{Model}
-use Rattle.qualities.specs.declared.scores.Scores.{Scores}
-use Rattle.models.specs.declared.state.State.{State}
-use Rattle.models.specs.declared.state.State.the-variants.{Ref, Het, Hom, Non}
+use Rattle.diploid_models.specs.declared.model.Model.{Model}
+use Rattle.diploid_qualities.specs.declared.scores.Scores.{Scores}
+use Rattle.diploid_models.specs.declared.state.State.{State}
+use Rattle.diploid_models.specs.declared.state.State.the-variants.{Ref, Het, Hom, Non}
 use Rattle.diploid.specs.declared.genotype.GenotypeResult.{GenotypeResult}
-use Rattle.tables.specs.Tables.{tableAllowed}
-use Rattle.diploid.specs.Allowed.{modelAllowed}
-use Rattle.picks.specs.Order.{Pick, larger, smaller}
-use Rattle.scores.specs.declared.scores.Scored.{Scored}
-use Rattle.scores.specs.declared.scores.Scored.the-variants.{Beyond, Unread, Are}
-use Rattle.scores.specs.Scores.{scoredBy}
-use Rattle.qualities.specs.Quality.{qualsOf}
-use Rattle.tables.specs.Calibration.{calibrated}
+use Rattle.diploid_tables.specs.Tables.{tableAllowed}
+use Rattle.diploid_models.specs.Allowed.{modelAllowed}
+use Rattle.floats.specs.MaxMin.{Pick, larger, smaller}
+use Rattle.diploid_scores.specs.declared.scores.Scored.{Scored}
+use Rattle.diploid_scores.specs.declared.scores.Scored.the-variants.{Beyond, Unread, Are}
+use Rattle.diploid_scores.specs.Scores.{scoredBy}
+use Rattle.diploid_qualities.specs.Quality.{qualsOf}
+use Rattle.diploid_tables.specs.Calibration.{calibrated}
 
 -- what it means to win: a key that is at least each earlier one's, and above each later one's
 pub data Wins (s : Scores) : State → Type 0 where

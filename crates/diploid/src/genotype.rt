@@ -1,18 +1,18 @@
 // The diploid genotype at every input.
 ghost use mathlib.Core.Path.{_≡_};
-ghost use Rattle.picks.specs.Order.{larger, smaller};
+ghost use Rattle.floats.specs.MaxMin.{larger, smaller};
 ghost use Rattle.diploid.specs.Genotype.{winner, blank, called, answered, genotypeOf};
-use crate::allowed::model_allowed;
+use diploid_models::allowed::model_allowed;
 use floats::key::at_most;
-use models::model::Model;
-use models::state::State;
-use qualities::quality::genotype_quals;
-use qualities::scores::Scores;
+use diploid_models::model::Model;
+use diploid_models::state::State;
+use diploid_qualities::quality::genotype_quals;
+use diploid_qualities::scores::Scores;
 use refusals::Refusal;
-use scores::scores::Scored;
-use scores::scores::genotype_scores;
-use tables::allowed::table_allowed;
-use tables::calibration::calibrate_gq;
+use diploid_scores::scores::Scored;
+use diploid_scores::scores::genotype_scores;
+use diploid_tables::allowed::table_allowed;
+use diploid_tables::calibration::calibrate_gq;
 
 // The state, its quality gq and the sample quality sq, or a refusal with zeros.
 pub struct GenotypeResult {

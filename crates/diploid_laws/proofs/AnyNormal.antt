@@ -6,17 +6,18 @@ use lib.Ieee.{Float, binary64}
 use lib.Ieee.Fits.{add-fits, sub-fits, div-fits}
 use Rattle.floats.specs.F64.{_⊕_, _⊖_, nat}
 use Rattle.floats.specs.Within.{Within}
-use Rattle.floats.proofs.Zeros.{Number, Alike, same, alike-sym, alike-trans, alike-number, add-alike, sub-alike}
+use Rattle.floats.proofs.Zeros.{alike-sym, alike-trans, alike-number, add-alike, sub-alike}
+use Rattle.floats.specs.Zeros.{same, Number, Alike}
 use Rattle.kernels.specs.Ln.{lnOf}
-use Rattle.tens.specs.Log10.{log10Of, pow10Of}
-use Rattle.tens.specs.Normalised.{wholeOver}
-use Rattle.picks.specs.Order.{Pick, IsMax, IsMin, larger, smaller}
-use Rattle.qualities.specs.declared.scores.Scores.{Scores}
-use Rattle.scores.specs.Scores.{EachScore}
-use Rattle.qualities.specs.Quality.{eachInTens, wholeOf, normalised}
+use Rattle.kernels_tens.specs.Log10.{log10Of, pow10Of}
+use Rattle.kernels_tens.specs.Normalised.{wholeOver}
+use Rattle.floats.specs.MaxMin.{Pick, IsMax, IsMin, larger, smaller}
+use Rattle.diploid_qualities.specs.declared.scores.Scores.{Scores}
+use Rattle.diploid_scores.specs.Scores.{EachScore}
+use Rattle.diploid_qualities.specs.Quality.{eachInTens, wholeOf, normalised}
 use Rattle.diploid_laws.proofs.QualityBounds.{in-tens-within, in-tens-fit, whole-steps, whole-within, less-whole}
-use Rattle.diploid_laws.proofs.Picks.{zero-number, max-alike, min-alike, larger-alike, smaller-alike, larger-number, smaller-number}
-use Rattle.diploid_laws.proofs.Picks.{pow10-alike}
+use Rattle.floats.proofs.MaxMinLaws.{zero-number, max-alike, min-alike, larger-alike, smaller-alike, larger-number, smaller-number}
+use Rattle.kernels_laws.proofs.TenAtMost.{pow10-alike}
 use Rattle.diploid_laws.proofs.SortedThree.{AlikeScores}
 
 module _ (max min : Pick) (is-max : IsMax max) (is-min : IsMin min) where

@@ -7,13 +7,13 @@ use Prim.Native.Nat.{_^_}
 use lib.Ieee.{Float, lt}
 use Rattle.floats.specs.F64.{_⊖_}
 use Rattle.floats.specs.Within.{Within}
-use Rattle.floats.proofs.Zeros.{Number}
-use Rattle.qualities.specs.declared.scores.Scores.{Scores}
-use Rattle.picks.specs.Order.{Pick, IsMax, IsMin}
-use Rattle.scores.specs.Scores.{EachScore}
-use Rattle.qualities.specs.Quality.{eachInTens, normalised, gapOf}
+use Rattle.floats.specs.Zeros.{Number}
+use Rattle.diploid_qualities.specs.declared.scores.Scores.{Scores}
+use Rattle.floats.specs.MaxMin.{Pick, IsMax, IsMin}
+use Rattle.diploid_scores.specs.Scores.{EachScore}
+use Rattle.diploid_qualities.specs.Quality.{eachInTens, normalised, gapOf}
 use Rattle.diploid_laws.specs.Sorted.{Order, abc, acb, bac, bca, cab, cba, FromLarge, Told, EachTold}
-use Rattle.diploid_laws.proofs.Signs.{lt-itself, no-trans}
+use Rattle.floats.proofs.Signs.{lt-itself, no-trans}
 use Rattle.diploid_laws.proofs.SortedThree.{order-first, order-second, order-last}
 use Rattle.diploid_laws.proofs.SortedThree.{first, order, order-descends, first-is, second-is, TwoOf}
 use Rattle.diploid_laws.proofs.Told.{told-normal, normal-numbers-any}

@@ -9,21 +9,21 @@ use lib.Signed.{_<ℤ_, <ℤ-irrefl, clashℤ}
 use lib.Ieee.{size, round, neg, sum, add, sub, mul, div, lt, le, isNan, ofInt, ofBits, toBits}
 use Rattle.floats.specs.Apart.{exponent, significand}
 use Rattle.floats.specs.Key.{keyOf}
-use Rattle.floats.proofs.Zeros.{zeroOf}
+use Rattle.floats.specs.Zeros.{zeroOf}
 use Rattle.kernels.specs.Ln.{lnNearOne, lnParts, lnReduced, lnPositive, lnOf}
 use Rattle.kernels.specs.Exp.{expOf, expBetween, expParts, expReduced, expSeries}
-use Rattle.gammas.specs.Gamma.{raised, gammaSeries, lnGammaAt, lnGammaOf}
-use Rattle.binomials.specs.Binomial.{lnChoose, lnPmfBy}
-use Rattle.tens.specs.Log10.{log10Of, pow10Of}
-use Rattle.tens.specs.Normalised.{wholeOver}
-use Rattle.picks.specs.Order.{larger, smaller}
-use Rattle.models.specs.declared.state.State.the-variants.{Ref}
-use Rattle.qualities.specs.declared.scores.Scores.{Scores}
-use Rattle.qualities.specs.Quality.{qualsOf, gapOf, normalised, wholeOf, eachInTens}
-use Rattle.scores.specs.Scores.{scoresOf, scoresBy, scoredBy, binoScore}
-use Rattle.diploid.specs.Allowed.{modelAllowed}
-use Rattle.tables.specs.Tables.{entries, neverFalling, tableAllowed}
-use Rattle.tables.specs.Calibration.{calibratedBy}
+use Rattle.kernels_gamma.specs.Gamma.{raised, gammaSeries, lnGammaAt, lnGammaOf}
+use Rattle.kernels_gamma.specs.Binomial.{lnChoose, lnPmfBy}
+use Rattle.kernels_tens.specs.Log10.{log10Of, pow10Of}
+use Rattle.kernels_tens.specs.Normalised.{wholeOver}
+use Rattle.floats.specs.MaxMin.{larger, smaller}
+use Rattle.diploid_models.specs.declared.state.State.the-variants.{Ref}
+use Rattle.diploid_qualities.specs.declared.scores.Scores.{Scores}
+use Rattle.diploid_qualities.specs.Quality.{qualsOf, gapOf, normalised, wholeOf, eachInTens}
+use Rattle.diploid_scores.specs.Scores.{scoresOf, scoresBy, scoredBy, binoScore}
+use Rattle.diploid_models.specs.Allowed.{modelAllowed}
+use Rattle.diploid_tables.specs.Tables.{entries, neverFalling, tableAllowed}
+use Rattle.diploid_tables.specs.Calibration.{calibratedBy}
 use Rattle.diploid.specs.Genotype.{Wins, ref-wins, called, answered, genotypeBy, genotypeOf}
 use Rattle.diploid_laws.specs.Tied.{TiedBest, ref-and-het, ref-and-hom, het-and-hom, nearTie}
 use Rattle.diploid_laws.proofs.WinnerLaws.{winner-only}

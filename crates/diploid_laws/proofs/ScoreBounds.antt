@@ -1,7 +1,7 @@
 -- Each score of an allowed model, at counts of at most 1,000,000, is an f64 that is finite, at most 2 ^ 41 in size: also where no reads remain for
 -- the second factor of a phased Het. Assumes nothing.
-use mathlib.Core.Path.{_≡_, refl, sym, subst}
-use mathlib.Core.Logic.{_⊎_, inl, inr, ⊎-elim}
+use mathlib.Core.Path.{_≡_, sym, subst}
+use mathlib.Core.Logic.{_⊎_, ⊎-elim}
 use mathlib.Core.Bool.{Bool, true, false, _&&_, cond}
 use mathlib.Core.List.{List}
 use Prim.Native.Nat.{ℕ, zero, suc, _+_, _-_, _^_, _≤_, _<_, zero-le}
@@ -19,24 +19,25 @@ use Rattle.floats.specs.F64.{_⊕_, _⊖_, _⊗_, nat, decimal}
 use Rattle.floats.specs.Within.{Within, Above, NotBelow}
 use Rattle.floats.proofs.Bounds.{within-more, within-whole, within-fraction, within-add, within-sub, within-mul, above-whole, above-mul, above-add, above-not-below}
 use Rattle.floats.proofs.Ranges.{within-range, above-range, one-minus}
-use Rattle.floats.proofs.Whole.{sub-whole, below-is-most}
+use Rattle.floats.proofs.Whole.{sub-whole}
 use Rattle.kernels.specs.Ln.{lnOf}
 use Rattle.kernels.specs.Exp.{expOf}
-use Rattle.gammas.specs.Gamma.{lnGammaOf}
-use Rattle.binomials.specs.Binomial.{lnPmf, lnPmfBy}
-use Rattle.bounds.proofs.LnBounds.{within-ln, within-ln-between}
-use Rattle.bounds.proofs.ExpBounds.{exp-of-zero}
-use Rattle.bounds.proofs.ExpAtMost.{exp-at-most-one}
-use Rattle.bounds.proofs.GammaBounds.{within-ln-gamma}
-use Rattle.bounds.proofs.BinomialBounds.{within-ln-choose}
-use Rattle.models.specs.declared.model.Mode.{Mode}
-use Rattle.models.specs.declared.model.Mode.the-variants.{Beta, Bino, Phased}
-use Rattle.models.specs.declared.model.Model.{Model}
+use Rattle.kernels_gamma.specs.Gamma.{lnGammaOf}
+use Rattle.kernels_gamma.specs.Binomial.{lnPmf, lnPmfBy}
+use Rattle.kernels_laws.proofs.LnBounds.{within-ln, within-ln-between}
+use Rattle.kernels_laws.proofs.ExpBounds.{exp-of-zero}
+use Rattle.kernels_laws.proofs.ExpAtMost.{exp-at-most-one}
+use Rattle.kernels_laws.proofs.GammaBounds.{within-ln-gamma}
+use Rattle.kernels_laws.proofs.BinomialBounds.{within-ln-choose}
+use Rattle.diploid_models.specs.declared.model.Mode.{Mode}
+use Rattle.diploid_models.specs.declared.model.Mode.the-variants.{Beta, Bino, Phased}
+use Rattle.diploid_models.specs.declared.model.Model.{Model}
 use Rattle.limits.specs.Limits.{inRange, allIn}
-use Rattle.diploid.specs.Allowed.{modelAllowed}
-use Rattle.picks.specs.Order.{Pick, IsMax, larger, IsMin, smaller}
-use Rattle.scores.specs.Scores.{fraction, mean, precision, betaLnPmf, betaScore, binoScore, oneWay, eitherWay, phasedScores, scoresBy, scoresOf, ThreeEach, EachScore}
-use Rattle.floats.proofs.Differences.{nought, less-itself, less-larger, add-either, not-below}
+use Rattle.diploid_models.specs.Allowed.{modelAllowed}
+use Rattle.floats.specs.MaxMin.{Pick, IsMax}
+use Rattle.diploid_scores.specs.Scores.{fraction, mean, precision, betaLnPmf, betaScore, binoScore, oneWay, eitherWay, phasedScores, scoresBy, scoresOf, ThreeEach, EachScore}
+use Rattle.floats.proofs.Differences.{less-itself, less-larger, add-either, not-below}
+use Rattle.floats.specs.Zeros.{nought}
 
 -- ---- the parameters of a model that is allowed
 
@@ -253,21 +254,6 @@ either-way-within {n} max a b is-max A B l = ⊎-elim by-first by-second (is-max
     by-second : (max a b ≡ b) × T (le a b) → Within (n + 2 ^ 12) (eitherWay max a b)
     by-second h =
         let x = less-larger a b (A .is-finite) (B .is-finite) (h .1) in unfold eitherWay in rw (h .0, less-itself b (B .is-finite)) (within-add B (joined-within (a ⊖ b) x) l)
-
--- `larger` is a max, and `smaller` a min
-pub larger-is-max : IsMax larger
-larger-is-max a b f g = go (lt a b) refl
-  where
-    go : (t : Bool) → lt a b ≡ t → ((cond t b a ≡ a) × T (le b a)) ⊎ ((cond t b a ≡ b) × T (le a b))
-    go true h = inr (refl, below-is-most a b h)
-    go false h = inl (refl, not-below a b f g h)
-
-pub smaller-is-min : IsMin smaller
-smaller-is-min a b f g = go (lt b a) refl
-  where
-    go : (t : Bool) → lt b a ≡ t → ((cond t b a ≡ a) × T (le a b)) ⊎ ((cond t b a ≡ b) × T (le b a))
-    go true h = inr (refl, below-is-most b a h)
-    go false h = inl (refl, not-below b a g f h)
 
 -- where no reads remain the second factor is 0
 one-way-within : (m : Model) (ref this other total : ℕ) → Share (mean m 0) → Share (mean m 1) → ref + this < 2 ^ 22 → other ≤ total → total < 2 ^ 22 → Within (2 ^ 40) (oneWay m ref this other total)

@@ -1,34 +1,22 @@
 -- The winner is the state of the largest key, the later one where two are equal, and no other state is. Assumes nothing.
 use mathlib.Core.Path.{_≡_, refl, sym, subst}
 use mathlib.Core.Bool.{Bool, true, false, not, _&&_, cond, and-false}
-use native.Mathlib.Nat.{le-of-lt}
 use borrow.Author.Tests.{lt-leb}
 use lib.IntN.{ℤ, pos, negsuc}
-use lib.Dec.{T, ltb→lt, le→leb, nleb→lt, lt→ltb}
+use lib.Dec.{T, ltb→lt}
 use lib.Ieee.Bits.{is-true}
 use lib.Signed.{leZ, _≤ℤ_, _<ℤ_, ≤ℤ-refl, <ℤ-≤ℤ-trans, clashℤ}
 use Rattle.floats.specs.Key.{keyOf}
-use Rattle.qualities.specs.declared.scores.Scores.{Scores}
-use Rattle.models.specs.declared.state.State.{State}
-use Rattle.models.specs.declared.state.State.the-variants.{Ref, Het, Hom}
+use Rattle.diploid_qualities.specs.declared.scores.Scores.{Scores}
+use Rattle.diploid_models.specs.declared.state.State.{State}
+use Rattle.diploid_models.specs.declared.state.State.the-variants.{Ref, Het, Hom}
 use Rattle.diploid.specs.Genotype.{winner, Wins, ref-wins, het-wins, hom-wins}
+use Rattle.floats.proofs.Signed.{above, below-at-most}
 
 -- ---- the tests of whole numbers
 
 at-most : (a b : ℤ) → T (leZ a b) → a ≤ℤ b
 at-most a b t = record { le = t }
-
-pub above : (a b : ℤ) → T (not (leZ a b)) → b <ℤ a
-above (pos a) (pos b) t = record { lt = lt→ltb b a (nleb→lt a b t) }
-above (pos a) (negsuc b) t = record { lt = tt }
-above (negsuc a) (pos b) t = absurd t
-above (negsuc a) (negsuc b) t = record { lt = lt→ltb a b (nleb→lt b a t) }
-
-pub below-at-most : (a b : ℤ) → a <ℤ b → a ≤ℤ b
-below-at-most (pos a) (pos b) h = record { le = le→leb a b (le-of-lt (ltb→lt a b (h .lt))) }
-below-at-most (pos a) (negsuc b) h = absurd (h .lt)
-below-at-most (negsuc a) (pos b) h = record { le = tt }
-below-at-most (negsuc a) (negsuc b) h = record { le = le→leb b a (le-of-lt (ltb→lt b a (h .lt))) }
 
 test-holds : (a b : ℤ) → a ≤ℤ b → leZ a b ≡ true
 test-holds a b h = is-true (leZ a b) (h .le)

@@ -1,30 +1,29 @@
 -- The diploid answer with the exponential as an argument, for the law that what K4 says below −708 changes no answer. At `expOf` these are
 -- the rules' own definitions: `genotype-by-exp` (proofs/AnyTail.antt). Definitions only (RULES.md, G1 to G4, M7, O1, R4).
 use Prim.Native.Nat.{ℕ, _+_}
-use mathlib.Core.Bool.{true, cond, _&&_}
-use mathlib.Core.List.{List, [], _∷_, map}
+use mathlib.Core.Bool.{cond, _&&_}
+use mathlib.Core.List.{List}
 use lib.Dec.{eqb}
-use lib.Ieee.{Float, inf}
-use Rattle.floats.specs.F64.{_⊕_, _⊖_, _⊗_, nat, sumFrom}
+use lib.Ieee.{Float}
+use Rattle.floats.specs.F64.{_⊕_, _⊖_, _⊗_, nat}
 use Rattle.kernels.specs.Ln.{lnOf}
-use Rattle.bounds.specs.Tail.{tenWith}
-use Rattle.tens.specs.Log10.{log10Of}
-use Rattle.tens.specs.Normalised.{largestFrom, lessWhole}
+use Rattle.kernels_laws.specs.Tail.{wholeWith}
+use Rattle.kernels_tens.specs.Normalised.{lessWhole}
 use Rattle.refusals.specs.declared.Refusal.the-variants.{Done, Model as BadModel, Table, Count}
-use Rattle.models.specs.declared.model.Mode.{Mode}
-use Rattle.models.specs.declared.model.Mode.the-variants.{Beta, Bino, Phased}
-use Rattle.models.specs.declared.model.Model.{Model}
+use Rattle.diploid_models.specs.declared.model.Mode.{Mode}
+use Rattle.diploid_models.specs.declared.model.Mode.the-variants.{Beta, Bino, Phased}
+use Rattle.diploid_models.specs.declared.model.Model.{Model}
 use Rattle.limits.specs.Limits.{countAllowed}
-use Rattle.picks.specs.Order.{larger, smaller}
-use Rattle.qualities.specs.declared.scores.Scores.{Scores}
-use Rattle.qualities.specs.declared.quality.Quals.{Quals}
-use Rattle.qualities.specs.Quality.{absolute, listed, eachInTens, minusTen, gapOf}
-use Rattle.scores.specs.declared.scores.Scored.{Scored}
-use Rattle.scores.specs.declared.scores.Scored.the-variants.{Beyond, Unread, Are}
-use Rattle.scores.specs.Scores.{fraction, oneWay, phasedScores, scoresBy}
-use Rattle.tables.specs.Tables.{tableAllowed}
-use Rattle.tables.specs.Calibration.{calibrated}
-use Rattle.diploid.specs.Allowed.{modelAllowed}
+use Rattle.floats.specs.MaxMin.{larger, smaller}
+use Rattle.diploid_qualities.specs.declared.scores.Scores.{Scores}
+use Rattle.diploid_qualities.specs.declared.quality.Quals.{Quals}
+use Rattle.diploid_qualities.specs.Quality.{absolute, listed, eachInTens, minusTen, gapOf}
+use Rattle.diploid_scores.specs.declared.scores.Scored.{Scored}
+use Rattle.diploid_scores.specs.declared.scores.Scored.the-variants.{Beyond, Unread, Are}
+use Rattle.diploid_scores.specs.Scores.{fraction, oneWay, phasedScores, scoresBy}
+use Rattle.diploid_tables.specs.Tables.{tableAllowed}
+use Rattle.diploid_tables.specs.Calibration.{calibrated}
+use Rattle.diploid_models.specs.Allowed.{modelAllowed}
 use Rattle.diploid.specs.Genotype.{winner, blank}
 use Rattle.diploid.specs.declared.genotype.GenotypeResult.{GenotypeResult}
 
@@ -51,13 +50,6 @@ scoredWith e m ref alt1 alt2 =
     cond (countAllowed ref && (countAllowed alt1 && countAllowed alt2))
     (cond (eqb (ref + alt1 + alt2) 0) Unread (Are (scoresWith e (m .mode) m ref alt1 alt2)))
     Beyond
-
--- G4, M7: log10 of the sum of ten to each, by way of the largest
-abbrev pub wholeWith : (Float → Float) → List Float → Float
-wholeWith e [] = inf true
-wholeWith e (x ∷ l) =
-    let top = largestFrom larger x l in
-    top ⊕ log10Of (sumFrom (tenWith e (x ⊖ top)) (map (λ y. tenWith e (y ⊖ top)) l))
 
 -- G4: the three less that, and at most 0
 abbrev pub normalisedWith : (Float → Float) → Scores → Scores

@@ -8,24 +8,24 @@ use lib.Ieee.{Float, isNan, sub, mul, div, le, ofInt, ofBits, toBits}
 use Rattle.floats.specs.Apart.{exponent, significand}
 use Rattle.floats.specs.Key.{keyOf}
 use Rattle.kernels.specs.Ln.{lnNearOne, lnParts, lnReduced, lnPositive, lnOf}
-use Rattle.bounds.proofs.ExpBounds.{exp-of-zero}
-use Rattle.diploid.specs.Allowed.{modelAllowed}
-use Rattle.tables.specs.Tables.{entries, neverFalling, tableAllowed}
-use Rattle.scores.specs.Scores.{scoredBy}
+use Rattle.kernels_laws.proofs.ExpBounds.{exp-of-zero}
+use Rattle.diploid_models.specs.Allowed.{modelAllowed}
+use Rattle.diploid_tables.specs.Tables.{entries, neverFalling, tableAllowed}
+use Rattle.diploid_scores.specs.Scores.{scoredBy}
 use Rattle.diploid.specs.Genotype.{answered, genotypeBy}
 use Rattle.diploid_laws.proofs.WinnerLaws.{equal-scores}
 use Rattle.refusals.specs.Refusals.{numberOf}
-use Rattle.family.specs.Genotypes.{genotypeCount}
-use Rattle.family.specs.declared.sample.Sample.the-variants.{Mother}
-use Rattle.samples.specs.Samples.{columnTotal}
-use Rattle.opening.specs.Opening.{openStep}
-use Rattle.desks.specs.Call.{callOf}
-use Rattle.models.specs.declared.params.Params.{Params}
-use Rattle.mosaic.specs.Allowed.{paramsAllowed}
+use Rattle.trio_family.specs.Genotypes.{genotypeCount}
+use Rattle.trio_family.specs.declared.sample.Sample.the-variants.{Mother}
+use Rattle.trio_samples.specs.Samples.{columnTotal}
+use Rattle.trio_opening.specs.Opening.{openStep}
+use Rattle.trio_desks.specs.Call.{callOf}
+use Rattle.mosaic_params.specs.declared.params.Params.{Params}
+use Rattle.mosaic_params.specs.Allowed.{paramsAllowed}
 use Rattle.mosaic.specs.Genotype.{genotypeBy as mosaicBy, genotypeOf as mosaicOf}
-use Rattle.desks.proofs.ChildPairLaws.{one-pair, three-pairs, two-pairs, four-pairs}
-use Rattle.desks.proofs.TripleLaws.{genotype-counts, triple-counts}
-use Rattle.desks.proofs.UnreadCalls.{unread-of, unread-call}
+use Rattle.trio_laws.proofs.ChildPairLaws.{one-pair, three-pairs, two-pairs, four-pairs}
+use Rattle.trio_laws.proofs.TripleLaws.{genotype-counts, triple-counts}
+use Rattle.trio_desks.proofs.UnreadCalls.{unread-of, unread-call}
 use Rattle.examples.specs.Examples.{LastOfTwo, Examples}
 
 -- X2: the law of unread trios at two clusters, with its numbers worked out

@@ -2,96 +2,98 @@
 -- A crate that comes adds its public functions here. Assumes nothing.
 use mathlib.Core.Path.{_≡_, sym, _∙_}
 use Rattle.refusals.proofs.number.Reads as number
-use Rattle.refusal_names.proofs.name.Reads as name
+use Rattle.refusals.proofs.names.name.Reads as name
 use Rattle.floats.proofs.key.key.Reads as key
 use Rattle.floats.proofs.key.at_most.Reads as at-most
 use Rattle.floats.proofs.key.below.Reads as below
 use Rattle.floats.proofs.bits.bits.Reads as bits
 use Rattle.kernels.proofs.ln.ln.Reads as ln
 use Rattle.kernels.proofs.exp.exp.Reads as exp
-use Rattle.tens.proofs.log10.log10.Reads as log10
-use Rattle.tens.proofs.log10.pow10.Reads as pow10
-use Rattle.gammas.proofs.gamma.ln_gamma.Reads as ln-gamma
-use Rattle.binomials.proofs.binomial.ln_choose.Reads as ln-choose
-use Rattle.binomials.proofs.binomial.ln_pmf_by.Reads as ln-pmf-by
-use Rattle.binomials.proofs.binomial.ln_pmf.Reads as ln-pmf
-use Rattle.models.proofs.model.Mode.number.Reads as mode-number
-use Rattle.models.proofs.model.Model.default.Reads as model-default
-use Rattle.models.proofs.state.state_number.Reads as state-number
+use Rattle.kernels_tens.proofs.log10.log10.Reads as log10
+use Rattle.kernels_tens.proofs.log10.pow10.Reads as pow10
+use Rattle.kernels_gamma.proofs.gamma.ln_gamma.Reads as ln-gamma
+use Rattle.kernels_gamma.proofs.binomial.ln_choose.Reads as ln-choose
+use Rattle.kernels_gamma.proofs.binomial.ln_pmf_by.Reads as ln-pmf-by
+use Rattle.kernels_gamma.proofs.binomial.ln_pmf.Reads as ln-pmf
+use Rattle.diploid_models.proofs.model.Mode.number.Reads as mode-number
+use Rattle.diploid_models.proofs.model.Model.default.Reads as model-default
+use Rattle.diploid_models.proofs.allowed.model_allowed.Reads as model-allowed
+use Rattle.diploid_models.proofs.state.state_number.Reads as state-number
 use Rattle.limits.proofs.ranges.in_range.Reads as in-range
 use Rattle.limits.proofs.ranges.all_in.Reads as all-in
 use Rattle.limits.proofs.counts.count_allowed.Reads as count-allowed
 use Rattle.limits.proofs.counts.counts_allowed.Reads as counts-allowed
-use Rattle.tables.proofs.allowed.table_allowed.Reads as table-allowed
-use Rattle.tables.proofs.calibration.calibrate_gq.Reads as calibrate-gq
-use Rattle.picks.proofs.order.max.Reads as max
-use Rattle.picks.proofs.order.min.Reads as min
-use Rattle.qualities.proofs.quality.genotype_quals.Reads as genotype-quals
-use Rattle.scores.proofs.scores.genotype_scores.Reads as genotype-scores
+use Rattle.diploid_tables.proofs.allowed.table_allowed.Reads as table-allowed
+use Rattle.diploid_tables.proofs.calibration.calibrate_gq.Reads as calibrate-gq
+use Rattle.floats.proofs.max_min.max.Reads as max
+use Rattle.floats.proofs.max_min.min.Reads as min
+use Rattle.diploid_qualities.proofs.quality.genotype_quals.Reads as genotype-quals
+use Rattle.diploid_scores.proofs.scores.genotype_scores.Reads as genotype-scores
 use Rattle.diploid.proofs.genotype.genotype.Reads as genotype
-use Rattle.entries.proofs.entry.beats.Reads as beats
-use Rattle.entries.proofs.held.Held.nothing.Reads as held-nothing
-use Rattle.entries.proofs.held.offer.Reads as offer
-use Rattle.merges.proofs.merging.merge_held.Reads as merge-held
-use Rattle.marks.proofs.marks.row_marked.Reads as row-marked
-use Rattle.marks.proofs.marks.all_marked.Reads as all-marked
-use Rattle.search.proofs.shape.work_right.Reads as work-right
-use Rattle.family.proofs.genotypes.genotype_count.Reads as genotype-count
-use Rattle.mendel.proofs.mendel.distinct_pairs.Reads as distinct-pairs
-use Rattle.mendel.proofs.mendel.mendelian_prior.Reads as mendelian-prior
-use Rattle.family.proofs.sample.sample_number.Reads as sample-number
-use Rattle.samples.proofs.samples.column_total.Reads as column-total
-use Rattle.samples.proofs.samples.compute_log_likelihood.Reads as compute-log-likelihood
-use Rattle.parts.proofs.part.Part.empty.Reads as part-empty
-use Rattle.shapes.proofs.shape.right_part.Reads as right-part
-use Rattle.inputs.proofs.input.same_input.Reads as same-input
-use Rattle.animals.proofs.animal.sample_score.Reads as sample-score
-use Rattle.opening.proofs.opening.open_part.Reads as open-part
+use Rattle.trio_entries.proofs.entry.beats.Reads as beats
+use Rattle.trio_entries.proofs.held.Held.nothing.Reads as held-nothing
+use Rattle.trio_entries.proofs.held.offer.Reads as offer
+use Rattle.trio_entries.proofs.merging.merge_held.Reads as merge-held
+use Rattle.trio_search.proofs.marks.row_marked.Reads as row-marked
+use Rattle.trio_search.proofs.marks.all_marked.Reads as all-marked
+use Rattle.trio_search.proofs.shape.work_right.Reads as work-right
+use Rattle.trio_family.proofs.genotypes.genotype_count.Reads as genotype-count
+use Rattle.trio_mendel.proofs.mendel.distinct_pairs.Reads as distinct-pairs
+use Rattle.trio_mendel.proofs.mendel.mendelian_prior.Reads as mendelian-prior
+use Rattle.trio_family.proofs.sample.sample_number.Reads as sample-number
+use Rattle.trio_samples.proofs.samples.column_total.Reads as column-total
+use Rattle.trio_samples.proofs.samples.compute_log_likelihood.Reads as compute-log-likelihood
+use Rattle.trio_parts.proofs.part.Part.empty.Reads as part-empty
+use Rattle.trio_parts.proofs.shape.right_part.Reads as right-part
+use Rattle.trio_parts.proofs.input.same_input.Reads as same-input
+use Rattle.trio_closings.proofs.animal.sample_score.Reads as sample-score
+use Rattle.trio_opening.proofs.opening.open_part.Reads as open-part
 use Rattle.trio.proofs.rows.row_count.Reads as row-count
 use Rattle.trio.proofs.rows.work_row.Reads as work-row
 use Rattle.trio.proofs.merging.merge.Reads as merge
-use Rattle.family.proofs.ground.ground_number.Reads as ground-number
-use Rattle.closings.proofs.closing.refused_closing.Reads as refused-closing
-use Rattle.closings.proofs.closing.close.Reads as close
-use Rattle.desks.proofs.call.call.Reads as call
-use Rattle.stirlings.proofs.stirling.stirling.Reads as stirling
-use Rattle.stirlings.proofs.stirling.ln_factorial.Reads as ln-factorial
-use Rattle.probabilities.proofs.quality.all_probabilities.Reads as all-probabilities
-use Rattle.probabilities.proofs.quality.quality.Reads as mosaic-quality
-use Rattle.probabilities.proofs.winner.best_place.Reads as best-place
-use Rattle.alleles.proofs.counts.count.Reads as allele-count
-use Rattle.alleles.proofs.counts.somatic.Reads as somatic
-use Rattle.alleles.proofs.counts.total.Reads as total
-use Rattle.alleles.proofs.pair.alone.Reads as alone
-use Rattle.sites.proofs.site.site_of.Reads as site-of
-use Rattle.candidates.proofs.search.find.Reads as find
-use Rattle.hypotheses.proofs.choice.choose.Reads as choose
-use Rattle.models.proofs.params.Params.default.Reads as params-default
+use Rattle.trio_family.proofs.ground.ground_number.Reads as ground-number
+use Rattle.trio_closings.proofs.closing.refused_closing.Reads as refused-closing
+use Rattle.trio_closings.proofs.closing.close.Reads as close
+use Rattle.trio_desks.proofs.call.call.Reads as call
+use Rattle.kernels_stirling.proofs.stirling.stirling.Reads as stirling
+use Rattle.kernels_stirling.proofs.stirling.ln_factorial.Reads as ln-factorial
+use Rattle.mosaic_probabilities.proofs.quality.all_probabilities.Reads as all-probabilities
+use Rattle.mosaic_probabilities.proofs.quality.quality.Reads as mosaic-quality
+use Rattle.mosaic_probabilities.proofs.winner.best_place.Reads as best-place
+use Rattle.mosaic_alleles.proofs.counts.count.Reads as allele-count
+use Rattle.mosaic_alleles.proofs.counts.somatic.Reads as somatic
+use Rattle.mosaic_alleles.proofs.counts.total.Reads as total
+use Rattle.mosaic_alleles.proofs.pair.alone.Reads as alone
+use Rattle.mosaic_shared.proofs.shared.site_of.Reads as site-of
+use Rattle.mosaic_candidates.proofs.search.find.Reads as find
+use Rattle.mosaic_hypotheses.proofs.choice.choose.Reads as choose
+use Rattle.mosaic_params.proofs.params.Params.default.Reads as params-default
+use Rattle.mosaic_params.proofs.allowed.params_allowed.Reads as params-allowed
 use Rattle.mosaic.proofs.genotype.genotype.Reads as mosaic-genotype
-use Rattle.kernel_exports.proofs.admulfas_ln.Reads as c-ln
-use Rattle.kernel_exports.proofs.admulfas_exp.Reads as c-exp
-use Rattle.kernel_exports.proofs.admulfas_log10.Reads as c-log10
-use Rattle.kernel_exports.proofs.admulfas_pow10.Reads as c-pow10
-use Rattle.kernel_exports.proofs.admulfas_ln_gamma.Reads as c-ln-gamma
-use Rattle.kernel_exports.proofs.admulfas_ln_pmf.Reads as c-ln-pmf
-use Rattle.kernel_exports.proofs.admulfas_key.Reads as c-key
-use Rattle.kernel_exports.proofs.admulfas_stirling.Reads as c-stirling
-use Rattle.diploid_export.proofs.admulfas_diploid.Reads as c-diploid
-use Rattle.trio_export.proofs.admulfas_trio.Reads as c-trio
-use Rattle.mosaic_export.proofs.admulfas_mosaic.Reads as c-mosaic
-use Rattle.triples.proofs.genotypes.triple_of.Reads as triple-of
-use Rattle.triples.proofs.score.score_at.Reads as score-at
-use Rattle.reading.proofs.fields.field_end.Reads as field-end
-use Rattle.reading.proofs.fields.field.Reads as field
-use Rattle.reading.proofs.fields.next_field.Reads as next-field
-use Rattle.names.proofs.names.packed.Reads as packed
-use Rattle.numerals.proofs.wholes.read_whole.Reads as read-whole
-use Rattle.decimals.proofs.decimals.read_decimal.Reads as read-decimal
-use Rattle.figures.proofs.figures.hundredths.Reads as hundredths
-use Rattle.figures.proofs.figures.lay_figure.Reads as lay-figure
-use Rattle.writing.proofs.laying.first_bytes.Reads as first-bytes
-use Rattle.writing.proofs.laying.lay.Reads as lay
-use Rattle.writing.proofs.laying.lay_whole.Reads as lay-whole
+use Rattle.kernels_c.proofs.admulfas_ln.Reads as c-ln
+use Rattle.kernels_c.proofs.admulfas_exp.Reads as c-exp
+use Rattle.kernels_c.proofs.admulfas_log10.Reads as c-log10
+use Rattle.kernels_c.proofs.admulfas_pow10.Reads as c-pow10
+use Rattle.kernels_c.proofs.admulfas_ln_gamma.Reads as c-ln-gamma
+use Rattle.kernels_c.proofs.admulfas_ln_pmf.Reads as c-ln-pmf
+use Rattle.kernels_c.proofs.admulfas_key.Reads as c-key
+use Rattle.kernels_c.proofs.admulfas_stirling.Reads as c-stirling
+use Rattle.diploid_c.proofs.admulfas_diploid.Reads as c-diploid
+use Rattle.trio_c.proofs.admulfas_trio.Reads as c-trio
+use Rattle.mosaic_c.proofs.admulfas_mosaic.Reads as c-mosaic
+use Rattle.trio_triples.proofs.genotypes.triple_of.Reads as triple-of
+use Rattle.trio_triples.proofs.score.score_at.Reads as score-at
+use Rattle.text_reading.proofs.fields.field_end.Reads as field-end
+use Rattle.text_reading.proofs.fields.field.Reads as field
+use Rattle.text_reading.proofs.fields.next_field.Reads as next-field
+use Rattle.text_reading.proofs.names.packed.Reads as packed
+use Rattle.text_reading.proofs.wholes.read_whole.Reads as read-whole
+use Rattle.text_reading.proofs.decimals.read_decimal.Reads as read-decimal
+use Rattle.text_writing.proofs.figures.hundredths.Reads as hundredths
+use Rattle.text_writing.proofs.figures.lay_figure.Reads as lay-figure
+use Rattle.text_writing.proofs.laying.first_bytes.Reads as first-bytes
+use Rattle.text_writing.proofs.laying.lay.Reads as lay
+use Rattle.text_writing.proofs.laying.lay_whole.Reads as lay-whole
 
 -- Whatever the lifetimes and the arguments, and whatever these refer to at the end of either call, at most one result meets the contract.
 abbrev pub OneAnswer : {K : Type 0} {A R E : K → Type 0} → ((κ : K) → A κ → R κ → E κ → Type 0) → Type 0
@@ -137,7 +139,7 @@ log10-once κ a v w e f = only
 pub pow10-once : OneAnswer pow10.Post
 pow10-once κ a v w e f = only
 
--- ---- gammas
+-- ---- kernels: log gamma, binomial
 
 pub ln-gamma-once : OneAnswer ln-gamma.Post
 ln-gamma-once κ a v w e f = only
@@ -151,13 +153,16 @@ ln-pmf-by-once κ a v w e f = only
 pub ln-pmf-once : OneAnswer ln-pmf.Post
 ln-pmf-once κ a v w e f = only
 
--- ---- models
+-- ---- diploid: the model and the state
 
 pub mode-number-once : OneAnswer mode-number.Post
 mode-number-once κ a v w e f = only
 
 pub model-default-once : OneAnswer model-default.Post
 model-default-once κ a v w e f = only
+
+pub model-allowed-once : OneAnswer model-allowed.Post
+model-allowed-once κ a v w e f = only
 
 pub state-number-once : OneAnswer state-number.Post
 state-number-once κ a v w e f = only
@@ -176,7 +181,7 @@ count-allowed-once κ a v w e f = only
 pub counts-allowed-once : OneAnswer counts-allowed.Post
 counts-allowed-once κ a v w e f = only
 
--- ---- tables
+-- ---- diploid: tables
 
 pub table-allowed-once : OneAnswer table-allowed.Post
 table-allowed-once κ a v w e f = only
@@ -184,7 +189,7 @@ table-allowed-once κ a v w e f = only
 pub calibrate-gq-once : OneAnswer calibrate-gq.Post
 calibrate-gq-once κ a v w e f = only
 
--- ---- qualities
+-- ---- max and min; diploid: qualities, scores
 
 pub max-once : OneAnswer max.Post
 max-once κ a v w e f = only
@@ -203,7 +208,7 @@ genotype-scores-once κ a v w e f = only
 pub genotype-once : OneAnswer genotype.Post
 genotype-once κ a v w e f = only
 
--- ---- search
+-- ---- trio: searching
 
 pub beats-once : OneAnswer beats.Post
 beats-once κ a v w e f = only
@@ -226,7 +231,7 @@ all-marked-once κ a v w e f = only
 pub work-right-once : OneAnswer work-right.Post
 work-right-once κ a v w e f = only
 
--- ---- trio
+-- ---- trio: the family, parts and steps
 
 pub genotype-count-once : OneAnswer genotype-count.Post
 genotype-count-once κ a v w e f = only
@@ -285,12 +290,12 @@ refused-closing-once κ a v w e f = only
 pub close-once : OneAnswer close.Post
 close-once κ a v w e f = only
 
--- ---- desks
+-- ---- trio: the whole call
 
 pub call-once : OneAnswer call.Post
 call-once κ a v w e f = only
 
--- ---- stirlings, probabilities, alleles, sites, candidates, hypotheses, mosaic
+-- ---- mosaic
 
 pub stirling-once : OneAnswer stirling.Post
 stirling-once κ a v w e f = only
@@ -330,6 +335,9 @@ choose-once κ a v w e f = only
 
 pub params-default-once : OneAnswer params-default.Post
 params-default-once κ a v w e f = only
+
+pub params-allowed-once : OneAnswer params-allowed.Post
+params-allowed-once κ a v w e f = only
 
 pub mosaic-genotype-once : OneAnswer mosaic-genotype.Post
 mosaic-genotype-once κ a v w e f = only
@@ -400,7 +408,7 @@ pub c-mosaic-ends : (κ : _) (a : _) (v w : _) (e f : _) → c-mosaic.Post κ a 
     × (e .1 .1 .1 .1 .1 .1 .1 .1 .1 .1 .1 .1 .1 .1 .0 .now ≡ f .1 .1 .1 .1 .1 .1 .1 .1 .1 .1 .1 .1 .1 .1 .0 .now)
 c-mosaic-ends κ a v w e f p q = (only (p .ploidy-is) (q .ploidy-is), only (p .germline-is) (q .germline-is), only (p .somatic-is) (q .somatic-is), only (p .vafs-is) (q .vafs-is), only (p .seen-is) (q .seen-is), only (p .observed-is) (q .observed-is), only (p .posterior-is) (q .posterior-is), only (p .quality-is) (q .quality-is), only (p .hypotheses-is) (q .hypotheses-is), only (p .probabilities-is) (q .probabilities-is))
 
--- ---- reading, writing
+-- ---- text
 
 pub field-end-once : OneAnswer field-end.Post
 field-end-once κ a v w e f = only

@@ -11,21 +11,21 @@ use Rattle.kernels.specs.Ln.{lnOf}
 use Rattle.kernels.specs.Exp.{expOf}
 use Rattle.refusals.specs.declared.Refusal.the-variants.{Done}
 use Rattle.refusals.specs.Refusals.{numberOf}
-use Rattle.closings.specs.declared.closing.Closed.{Closed}
-use Rattle.family.specs.declared.ground.Ground.the-variants.{Unread}
-use Rattle.family.specs.declared.sample.Sample.the-variants.{Mother}
-use Rattle.family.specs.Genotypes.{genotypeCount, pair}
-use Rattle.triples.specs.Genotypes.{triples}
-use Rattle.mendel.specs.Mendel.{childPairs}
-use Rattle.samples.specs.Samples.{columnTotal}
-use Rattle.opening.specs.Opening.{openStep}
-use Rattle.desks.specs.Call.{callOf}
-use Rattle.models.specs.declared.params.Params.{Params}
-use Rattle.mosaic.specs.Allowed.{paramsAllowed}
+use Rattle.trio_closings.specs.declared.closing.Closed.{Closed}
+use Rattle.trio_family.specs.declared.ground.Ground.the-variants.{Unread}
+use Rattle.trio_family.specs.declared.sample.Sample.the-variants.{Mother}
+use Rattle.trio_family.specs.Genotypes.{genotypeCount, pair}
+use Rattle.trio_triples.specs.Genotypes.{triples}
+use Rattle.trio_mendel.specs.Mendel.{childPairs}
+use Rattle.trio_samples.specs.Samples.{columnTotal}
+use Rattle.trio_opening.specs.Opening.{openStep}
+use Rattle.trio_desks.specs.Call.{callOf}
+use Rattle.mosaic_params.specs.declared.params.Params.{Params}
+use Rattle.mosaic_params.specs.Allowed.{paramsAllowed}
 use Rattle.mosaic.specs.Genotype.{genotypeOf as mosaicOf}
-use Rattle.models.specs.declared.state.State.the-variants.{Hom}
-use Rattle.qualities.specs.declared.scores.Scores.{Scores}
-use Rattle.models.specs.Models.{defaultModel}
+use Rattle.diploid_models.specs.declared.state.State.the-variants.{Hom}
+use Rattle.diploid_qualities.specs.declared.scores.Scores.{Scores}
+use Rattle.diploid_models.specs.Models.{defaultModel}
 use Rattle.diploid.specs.Genotype.{winner, blank, genotypeOf}
 
 -- the call of two clusters whose mother was not read: at the last position, every pair (1,1), and Unread

@@ -10,7 +10,8 @@ use lib.Ieee.Positive.{num, den, positive}
 use Rattle.floats.specs.F64.{_⊕_, _⊖_, _⊗_, _⊘_}
 use Rattle.floats.specs.Within.{NotBelow}
 use Rattle.floats.proofs.Floats.{eqb-zero}
-use Rattle.floats.proofs.Rounded.{clear, round-clear}
+use Rattle.floats.proofs.Rounded.{round-clear}
+use Rattle.floats.specs.Zeros.{clear}
 
 pub positive-clear : (x : Float) → T (positive x) → T (clear x)
 positive-clear nan h = absurd h

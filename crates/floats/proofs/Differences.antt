@@ -15,9 +15,7 @@ use Rattle.floats.specs.F64.{_⊕_, _⊖_, nat}
 use Rattle.floats.specs.Within.{NotBelow}
 use Rattle.floats.proofs.Floats.{lt-zero, eq-zero}
 use Rattle.floats.proofs.Ranges.{not-below-zero, le-not-lt}
-
-abbrev pub nought : Float
-nought = fin false 0 (pos 0)
+use Rattle.floats.specs.Zeros.{nought}
 
 pub zero-is : nat 0 ≡ nought
 unfolding ofInt round

@@ -24,3 +24,5 @@ pub mod Sums
 pub mod Lost
 pub mod TinySums
 pub mod Negatives
+pub mod Signs
+pub mod MaxMinLaws

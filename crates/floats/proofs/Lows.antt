@@ -16,9 +16,10 @@ use Rattle.floats.specs.F64.{_⊕_, _⊗_, _⊘_}
 use Rattle.floats.specs.Within.{NotBelow}
 use Rattle.floats.specs.Under.{Under, Over}
 use Rattle.floats.proofs.Floats.{eqb-zero, lt-zero, eq-zero}
-use Rattle.floats.proofs.Rounded.{clear, round-clear}
+use Rattle.floats.proofs.Rounded.{round-clear}
+use Rattle.floats.specs.Zeros.{clear, nought}
 use Rattle.floats.proofs.Clear.{clear-not-below}
-use Rattle.floats.proofs.Differences.{nought, round-nothing, round-negative, above-both, below-both, both-nothing}
+use Rattle.floats.proofs.Differences.{round-nothing, round-negative, above-both, below-both, both-nothing}
 
 -- with a clear sign it is a zero
 pub zero-or-negative : (s : Bool) (m : ℕ) (e : ℤ) → T (le (fin s m e) nought) → s ≡ false → m ≡ 0

@@ -2,7 +2,7 @@
 -- power of two that the fraction is no less than. Assumes nothing.
 use mathlib.Core.Path.{_≡_, sym, ap, _∙_, subst}
 use mathlib.Core.Logic.{_⊎_, inl, inr}
-use mathlib.Core.Bool.{Bool, true, false, not, _&&_, _||_, cond, true≢false}
+use mathlib.Core.Bool.{Bool, true, false, _&&_, _||_, cond, true≢false}
 use Prim.Native.Nat.{ℕ, _+_, _-_, _*_, _^_, _≤_, _<_}
 use native.Mathlib.Nat.{le-trans, le-of-eq, le-of-lt, lt-of-le-of-lt, lt-of-lt-of-le, sub-le, zero-lt-suc, one-mul, mul-one, mul-comm, mul-assoc, mul-left-comm, mul-right-comm, mul-le-mul, mul-le-mul-left, le-of-mul-le-mul-right}
 use native.Mathlib.Omega.{arith}
@@ -17,6 +17,7 @@ use lib.Ieee.Scale.{finite, grid, overflow, round-val, round-under}
 use lib.Ieee.Positive.{num, den, den-pos, first-pos, positive-of-value}
 use lib.Ieee.Back.{round-whole}
 use Rattle.floats.specs.Within.{Within, Above}
+use Rattle.floats.specs.Zeros.{clear}
 
 -- ---- the order of two values that are not negative
 pub or-split : (a b : Bool) → T (a || b) → T a ⊎ T b
@@ -147,11 +148,6 @@ round-above a c j C J h t =
     above-value (round binary64 false a c) (grid binary64 a c) (2 ^ 1074) j (product-pos (grid binary64 a c) (2 ^ j) (1 * 2 ^ 1074) (lit< tt) g) (pow-pos 1074) v g
 
 -- ---- a finite value with a clear sign
-
-abbrev pub clear : Float → Bool
-clear nan = false
-clear (inf s) = false
-clear (fin s m e) = not s
 
 pub value-clear : (x : Float) (a c : ℕ) → HasValue x false a c → T (clear x)
 value-clear nan a c v = absurd v

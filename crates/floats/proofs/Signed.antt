@@ -1,13 +1,14 @@
--- The difference of two small unsigned numbers, as the machine's signed subtraction has it. Assumes nothing.
+-- The difference of two small unsigned numbers, as the machine's signed subtraction has it; and the order of whole numbers by its tests.
+-- Assumes nothing.
 use mathlib.Core.Path.{_≡_, refl, ap, _∙_}
-use mathlib.Core.Bool.{Bool, true, false, cond}
+use mathlib.Core.Bool.{Bool, true, false, not, cond}
 use Prim.Native.Nat.{ℕ, zero, suc, _-_, _+_, _^_, _≤_, _<_, zero-le}
-use native.Mathlib.Nat.{add-zero, sub-zero, le-suc, le-refl, le-trans, le-of-eq, add-comm, lt-of-le-of-lt, sub-le, zero-lt-suc}
+use native.Mathlib.Nat.{le-of-lt, add-zero, sub-zero, le-suc, le-refl, le-trans, le-of-eq, add-comm, lt-of-le-of-lt, sub-le, zero-lt-suc}
 use native.Mathlib.Omega.{arith}
 use borrow.Author.Tests.{le-ltb, lt-ltb}
-use lib.Dec.{T, ltb, ltb→lt}
+use lib.Dec.{T, ltb, ltb→lt, lt→ltb, nleb→lt, le→leb}
 use lib.IntN.{ℤ, pos, negsuc, negℤ, natAbs, subℕ, _+ℤ_, _-ℤ_}
-use lib.Signed.{mag}
+use lib.Signed.{mag, leZ, _≤ℤ_, _<ℤ_}
 use mir.Syntax.{Width}
 use mir.Val.{hbits, toZ, SFits}
 use mir.ValLaws.{toZ-pos}
@@ -63,3 +64,17 @@ sum-small (pos a) (pos b) = le-refl (a + b)
 sum-small (pos a) (negsuc b) = difference-small a (suc b)
 sum-small (negsuc a) (pos b) = le-trans (difference-small b (suc a)) (le-of-eq (add-comm b (suc a)))
 sum-small (negsuc a) (negsuc b) = omega arith
+
+-- ---- the order of whole numbers, by its tests
+
+pub above : (a b : ℤ) → T (not (leZ a b)) → b <ℤ a
+above (pos a) (pos b) t = record { lt = lt→ltb b a (nleb→lt a b t) }
+above (pos a) (negsuc b) t = record { lt = tt }
+above (negsuc a) (pos b) t = absurd t
+above (negsuc a) (negsuc b) t = record { lt = lt→ltb a b (nleb→lt b a t) }
+
+pub below-at-most : (a b : ℤ) → a <ℤ b → a ≤ℤ b
+below-at-most (pos a) (pos b) h = record { le = le→leb a b (le-of-lt (ltb→lt a b (h .lt))) }
+below-at-most (pos a) (negsuc b) h = absurd (h .lt)
+below-at-most (negsuc a) (pos b) h = record { le = tt }
+below-at-most (negsuc a) (negsuc b) h = record { le = le→leb b a (le-of-lt (ltb→lt b a (h .lt))) }

@@ -18,7 +18,8 @@ use lib.Ieee.Positive.{num, den, den-pos, positive, above-of-le, first-pos}
 use Rattle.floats.specs.F64.{_⊕_, _⊖_, _⊗_}
 use Rattle.floats.specs.Within.{Within}
 use Rattle.floats.specs.Under.{Under, Over}
-use Rattle.floats.proofs.Rounded.{fraction-val, grid-le, signed-val, le-values, clear, round-clear}
+use Rattle.floats.proofs.Rounded.{fraction-val, grid-le, signed-val, le-values, round-clear}
+use Rattle.floats.specs.Zeros.{clear}
 use Rattle.floats.proofs.Bounds.{common}
 use Rattle.floats.proofs.Ranges.{above-finite}
 

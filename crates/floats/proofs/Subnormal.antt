@@ -12,7 +12,7 @@ use lib.Ieee.Exact.{HasValue, round-exact}
 use lib.Ieee.Fits.{up-pos, down-pos, round-fits}
 use lib.Ieee.Positive.{positive}
 use Rattle.floats.specs.F64.{_⊗_}
-use Rattle.floats.specs.Apart.{lead, exponent, significand}
+use Rattle.floats.specs.Apart.{lead, exponent, significand, SameButFor54}
 use Rattle.floats.specs.Within.{Above}
 use Rattle.floats.proofs.Apart.{shifted}
 use Rattle.floats.proofs.Fitting.{Fitting, fitting, fitting-fits, place, in-units, value-unique}
@@ -107,10 +107,6 @@ module _ (m : ℕ) (e : ℤ) (h : 0 < m) (f : Fitting m e) (b : m * up e * 2 ^ 1
       ∙ ap (λ (n : ℕ). m * 2 ^ (j + 54) * n) (sym (mul-one (down e))))
 
 -- ---- so it changes nothing but k
-
-pub record SameButFor54 (x y : Float) : Type 0 where
-  pub exponent-more : exponent y ≡ exponent x +ℤ pos 54
-  pub significand-same : significand y ≡ significand x
 
 pub step-changes-nothing : (x : Float) → T (fits binary64 x) → T (positive x) → T (lt x (fin false 1 (negsuc 1021))) → SameButFor54 x (x ⊗ fin false 1 (pos 54))
 unfolding lt mul exponent significand

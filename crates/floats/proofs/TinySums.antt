@@ -23,7 +23,8 @@ use Rattle.floats.specs.F64.{_⊕_, nat, sumFrom}
 use Rattle.floats.specs.Within.{NotBelow}
 use Rattle.floats.specs.Tiny.{Tiny, SameOrTiny, same, tiny, Summand}
 use Rattle.floats.proofs.Ranges.{le-not-lt}
-use Rattle.floats.proofs.Differences.{nought, zero-is, add-either, test-not-below}
+use Rattle.floats.proofs.Differences.{zero-is, add-either, test-not-below}
+use Rattle.floats.specs.Zeros.{nought}
 use Rattle.floats.proofs.Fractions.{zero-size, lt-fractions, some-positive}
 use Rattle.floats.proofs.Sizes.{under-add, under-more}
 use Rattle.floats.proofs.Sums.{sum-of}

@@ -20,7 +20,8 @@ use Rattle.floats.proofs.Fitting.{fitting, place, in-units}
 use Rattle.floats.proofs.Rounded.{round-within}
 use Rattle.floats.proofs.Bounds.{common}
 use Rattle.floats.proofs.Sizes.{sub-mul, round-at-least}
-use Rattle.floats.proofs.Zeros.{zeroOf, Number, Alike, neither-below}
+use Rattle.floats.proofs.Zeros.{neither-below}
+use Rattle.floats.specs.Zeros.{zeroOf, Number, Alike}
 
 -- ---- numbers that an f64 holds are whole in units of 2^−1074
 

@@ -13,20 +13,13 @@ use lib.Pow.{pow-pos, pow-mono}
 use lib.Ieee.{Float, nan, inf, fin, binary64, up, down, round, neg, sum, add, sub, below, level, lt, eq, le, fits}
 use lib.Ieee.Exact.{round-exact}
 use lib.Ieee.Fits.{up-pos, down-pos, round-fits, neg-fits}
-use lib.Ieee.Scale.{finite}
 use lib.Ieee.Positive.{positive}
 use Rattle.floats.specs.F64.{_⊕_, _⊖_}
 use Rattle.floats.specs.Within.{NotBelow}
 use Rattle.floats.proofs.Fitting.{fitting, place, in-units, value-unique}
+use Rattle.floats.specs.Zeros.{zeroOf, Number, Alike, same, zeros}
 
--- ---- a zero, and a number that is an f64
-
-abbrev pub zeroOf : Bool → Float
-zeroOf s = fin s 0 (pos 0)
-
-pub record Number (x : Float) : Type 0 where
-  pub is-finite : T (finite x)
-  pub is-f64 : T (fits binary64 x)
+-- ---- a zero
 
 -- not below zero, whatever its sign
 pub either-not-below : (s : Bool) → NotBelow (zeroOf s)
@@ -102,10 +95,6 @@ zeros-sum false true = (false, refl)
 zeros-sum false false = (false, refl)
 
 -- ---- alike: equal, or both a zero
-pub data Alike : Float → Float → Type 0 where
-  same : {x : Float} → Alike x x
-  zeros : (s t : Bool) → Alike (zeroOf s) (zeroOf t)
-
 pub alike-equal : {x y : Float} → x ≡ y → Alike x y
 alike-equal {x} {y} e = subst (λ (z : Float). Alike x z) e same
 

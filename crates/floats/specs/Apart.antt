@@ -27,3 +27,8 @@ pub record TakenApart (x : Float) : Type 0 where
   pub same : num (significand x) * up (exponent x) * den x ≡ num x * (den (significand x) * down (exponent x))
   pub at-least-one : den (significand x) ≤ num (significand x)
   pub under-two : num (significand x) < 2 * den (significand x)
+
+-- K3's subnormal step, of an x below 2^−1022: y has the m of x, and a k that is 54 more
+pub record SameButFor54 (x y : Float) : Type 0 where
+  pub exponent-more : exponent y ≡ exponent x +ℤ pos 54
+  pub significand-same : significand y ≡ significand x

@@ -1,7 +1,9 @@
--- The definitions of `floats`: operators and constants, a number taken apart, the score key; and bounds, for the laws.
+-- The definitions of `floats`: operators and constants, a number taken apart, max and min, the score key; and bounds, for the laws.
 pub mod F64
 pub mod Apart
 pub mod Key
 pub mod Within
 pub mod Under
 pub mod Tiny
+pub mod Zeros
+pub mod MaxMin

@@ -13,7 +13,7 @@ use lib.Ieee.Nearest.{closest}
 use lib.Ieee.Positive.{num, den, den-pos}
 use lib.Ieee.Scale.{finite}
 use Rattle.floats.proofs.KeyOrder.{signed}
-use Rattle.floats.proofs.Zeros.{zeroOf}
+use Rattle.floats.specs.Zeros.{zeroOf}
 use Rattle.kernels.specs.Exp.{nearestWhole}
 use Rattle.kernels.specs.Near.{numerator, distance, NearWhole}
 use Rattle.kernels.proofs.Nearest.{Near, closest-near, closest-is}

@@ -2,7 +2,9 @@
 use mathlib.Core.Path.{_≡_, ap, _∙_}
 use mathlib.Core.Bool.{Bool, true, false, _&&_, and-false}
 use lib.Ieee.{Float, nan, le}
-use Rattle.floats.proofs.Zeros.{zeroOf, same, zeros, le-alike}
+use Rattle.floats.proofs.Zeros.{le-alike}
+use Rattle.floats.specs.Zeros.{same, zeros}
+use Rattle.floats.specs.Zeros.{zeroOf}
 use Rattle.limits.specs.Limits.{inRange}
 
 pub minus-zero-in-range : (lo hi : Float) → inRange lo hi (zeroOf true) ≡ inRange lo hi (zeroOf false)

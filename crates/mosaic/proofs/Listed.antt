@@ -6,12 +6,12 @@ use Prim.Native.Nat.{ℕ, zero, suc, _+_, _≤_, _<_}
 use native.Mathlib.Omega.{arith}
 use lib.Dec.{lit≤}
 use lib.ListN.{length, getD, take, set}
-use Rattle.alleles.specs.Alleles.{seenIn}
+use Rattle.mosaic_alleles.specs.Alleles.{seenIn}
 use Rattle.lists.specs.Lists.{numbers, passing, padded}
 use Rattle.lists.proofs.PlaceLaws.{number-at}
 use Rattle.lists.proofs.PassingLaws.{front, passing-next, passing-few}
 use Rattle.lists.proofs.PaddedLaws.{longer, padded-next}
-use Rattle.hypotheses.specs.Hypotheses.{seenAlleles}
+use Rattle.mosaic_hypotheses.specs.Hypotheses.{seenAlleles}
 use Rattle.mosaic.specs.Inner.{listStep, listOver, listedBy}
 use Rattle.mosaic.specs.declared.genotype.Alleles.{Alleles}
 

@@ -9,18 +9,18 @@ use Rattle.floats.specs.F64.{nat}
 use Rattle.refusals.specs.declared.Refusal.{Refusal}
 use Rattle.refusals.specs.declared.Refusal.the-variants.{Done, TooMany, Count, Model, NoCall}
 use Rattle.limits.specs.Limits.{countsAllowed}
-use Rattle.models.specs.declared.params.Params.{Params}
+use Rattle.mosaic_params.specs.declared.params.Params.{Params}
 use Rattle.lists.specs.Over.{placed}
-use Rattle.picks.specs.Order.{Pick, larger, smaller}
-use Rattle.probabilities.specs.Quality.{probabilities, qualityOf}
-use Rattle.alleles.specs.Alleles.{totalOf, alone, somaticIn}
-use Rattle.alleles.specs.declared.pair.Pair.{Pair}
+use Rattle.floats.specs.MaxMin.{Pick, larger, smaller}
+use Rattle.mosaic_probabilities.specs.Quality.{probabilities, qualityOf}
+use Rattle.mosaic_alleles.specs.Alleles.{totalOf, alone, somaticIn}
+use Rattle.mosaic_alleles.specs.declared.pair.Pair.{Pair}
 use Rattle.lists.specs.Lists.{padded}
-use Rattle.hypotheses.specs.Edition.{Edition, first}
-use Rattle.hypotheses.specs.Hypotheses.{seenAlleles}
-use Rattle.hypotheses.specs.Choice.{chosen}
-use Rattle.hypotheses.specs.declared.choice.Choice.{Choice}
-use Rattle.mosaic.specs.Allowed.{paramsAllowed}
+use Rattle.mosaic_hypotheses.specs.Edition.{Edition, first}
+use Rattle.mosaic_hypotheses.specs.Hypotheses.{seenAlleles}
+use Rattle.mosaic_hypotheses.specs.Choice.{chosen}
+use Rattle.mosaic_hypotheses.specs.declared.choice.Choice.{Choice}
+use Rattle.mosaic_params.specs.Allowed.{paramsAllowed}
 use Rattle.mosaic.specs.declared.genotype.MosaicResult.{MosaicResult}
 
 -- a refusal carries zeros

@@ -4,7 +4,7 @@ use mathlib.Core.Bool.{cond}
 use mathlib.Core.List.{List}
 use lib.ListN.{replicate, set}
 use Rattle.lists.specs.Over.{over}
-use Rattle.alleles.specs.Alleles.{seenIn}
+use Rattle.mosaic_alleles.specs.Alleles.{seenIn}
 use Rattle.mosaic.specs.declared.genotype.Alleles.{Alleles}
 
 -- the alleles that are seen, so far

@@ -1,3 +1,2 @@
 // Mosaic genotypes: the germline alleles and the somatic VAFs that explain the counts of up to eight alleles best.
-mod allowed;
 pub mod genotype;

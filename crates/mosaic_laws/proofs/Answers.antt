@@ -17,28 +17,28 @@ use Rattle.floats.specs.F64.{nat}
 use Rattle.floats.specs.Within.{Within, UpTo}
 use Rattle.floats.proofs.Bounds.{within-more, positive-not-below}
 use Rattle.refusals.specs.declared.Refusal.{Refusal}
-use Rattle.picks.specs.Order.{larger, smaller}
-use Rattle.tens.specs.Normalised.{inTens, wholeOver}
-use Rattle.probabilities.specs.Quality.{tensOf, probabilities, wrongOf, qualityBy}
-use Rattle.probabilities.specs.Inner.{probabilityOf}
-use Rattle.probabilities.proofs.Normal.{probability-at, probability-beyond}
-use Rattle.probabilities.proofs.InUse.{in-use-all}
+use Rattle.floats.specs.MaxMin.{larger, smaller}
+use Rattle.kernels_tens.specs.Normalised.{inTens, wholeOver}
+use Rattle.mosaic_probabilities.specs.Quality.{tensOf, probabilities, wrongOf, qualityBy}
+use Rattle.mosaic_probabilities.specs.Inner.{probabilityOf}
+use Rattle.mosaic_probabilities.proofs.Normal.{probability-at, probability-beyond}
+use Rattle.mosaic_probabilities.proofs.InUse.{in-use-all}
 use Rattle.lists.specs.Every.{Each}
 use Rattle.lists.specs.Lists.{numbers, passing}
 use Rattle.lists.proofs.PlaceLaws.{number-at, map-at}
-use Rattle.hypotheses.specs.Edition.{first}
-use Rattle.alleles.specs.Alleles.{countAt, seenIn, germlineIn, somaticIn, totalOver, totalOf, pair}
-use Rattle.hypotheses.specs.Hypotheses.{seenAlleles, singles, pairs, hypotheses, allPairs, bothSeen}
-use Rattle.candidates.specs.Shares.{vafAt}
-use Rattle.hypotheses.specs.Search.{foundOf}
-use Rattle.probabilities.specs.Winner.{winner}
-use Rattle.hypotheses.specs.Choice.{posteriors}
+use Rattle.mosaic_hypotheses.specs.Edition.{first}
+use Rattle.mosaic_alleles.specs.Alleles.{countAt, seenIn, germlineIn, somaticIn, totalOver, totalOf, pair}
+use Rattle.mosaic_hypotheses.specs.Hypotheses.{seenAlleles, singles, pairs, hypotheses, allPairs, bothSeen}
+use Rattle.mosaic_candidates.specs.Shares.{vafAt}
+use Rattle.mosaic_hypotheses.specs.Search.{foundOf}
+use Rattle.mosaic_probabilities.specs.Winner.{winner}
+use Rattle.mosaic_hypotheses.specs.Choice.{posteriors}
 use Rattle.mosaic.specs.Genotype.{blank, flagsOf, calledOf, genotypeBy, genotypeOf}
-use Rattle.models.specs.declared.params.Params.{Params}
-use Rattle.alleles.specs.declared.pair.Pair.{Pair}
+use Rattle.mosaic_params.specs.declared.params.Params.{Params}
+use Rattle.mosaic_alleles.specs.declared.pair.Pair.{Pair}
 use Rattle.lists.proofs.PaddedLaws.{padded-length}
-use Rattle.probabilities.proofs.WinnerLaws.{winner-low}
-use Rattle.hypotheses.proofs.Scanned.{all-seen, at-most-36}
+use Rattle.mosaic_probabilities.proofs.WinnerLaws.{winner-low}
+use Rattle.mosaic_hypotheses.proofs.Scanned.{all-seen, at-most-36}
 use Rattle.mosaic_laws.specs.Accepted.{Accepted}
 use Rattle.mosaic_laws.specs.Answers.{VafOf, FiniteAnswer}
 use Rattle.mosaic_laws.proofs.Seen.{seen-some, seen-in, count-in}

@@ -14,23 +14,24 @@ use lib.Ieee.Fits.{round-fits, add-fits, sub-fits, mul-fits, div-fits}
 use Rattle.floats.specs.Within.{UpTo}
 use Rattle.floats.specs.F64.{_⊕_, _⊖_, _⊘_, nat, whole, decimal, sumFrom}
 use Rattle.floats.proofs.Bounds.{within-sub}
-use Rattle.floats.proofs.Zeros.{Number, Alike, same, alike-sym, alike-trans, alike-number, add-alike, sub-alike}
+use Rattle.floats.proofs.Zeros.{alike-sym, alike-trans, alike-number, add-alike, sub-alike}
+use Rattle.floats.specs.Zeros.{same, Number, Alike}
 use Rattle.kernels.specs.Ln.{lnOf}
-use Rattle.tens.specs.Log10.{log10Of, pow10Of}
-use Rattle.tens.specs.Normalised.{largestFrom, wholeOver, lessWhole, normalisedOver}
-use Rattle.models.specs.declared.params.Params.{Params}
-use Rattle.picks.specs.Order.{Pick, IsMax, IsMin, larger, smaller}
+use Rattle.kernels_tens.specs.Log10.{log10Of, pow10Of}
+use Rattle.kernels_tens.specs.Normalised.{largestFrom, wholeOver, lessWhole, normalisedOver}
+use Rattle.mosaic_params.specs.declared.params.Params.{Params}
+use Rattle.floats.specs.MaxMin.{Pick, IsMax, IsMin, larger, smaller}
 use Rattle.lists.specs.Every.{Each}
 use Rattle.lists.specs.Lists.{padded}
-use Rattle.diploid_laws.proofs.Picks.{zero-number, max-alike, max-same, min-alike, cap-same, larger-alike, smaller-alike, larger-number}
-use Rattle.diploid_laws.proofs.Picks.{pow10-alike}
-use Rattle.probabilities.specs.Quality.{tensOf, probabilities, qualityBy}
-use Rattle.probabilities.proofs.InUse.{in-use-all}
-use Rattle.alleles.specs.Alleles.{totalOf}
-use Rattle.hypotheses.specs.Edition.{first}
-use Rattle.hypotheses.specs.Hypotheses.{hypotheses}
-use Rattle.hypotheses.specs.Choice.{posteriors}
-use Rattle.hypotheses.proofs.Scanned.{at-most-36}
+use Rattle.floats.proofs.MaxMinLaws.{zero-number, max-alike, max-same, min-alike, cap-same, larger-alike, smaller-alike, larger-number}
+use Rattle.kernels_laws.proofs.TenAtMost.{pow10-alike}
+use Rattle.mosaic_probabilities.specs.Quality.{tensOf, probabilities, qualityBy}
+use Rattle.mosaic_probabilities.proofs.InUse.{in-use-all}
+use Rattle.mosaic_alleles.specs.Alleles.{totalOf}
+use Rattle.mosaic_hypotheses.specs.Edition.{first}
+use Rattle.mosaic_hypotheses.specs.Hypotheses.{hypotheses}
+use Rattle.mosaic_hypotheses.specs.Choice.{posteriors}
+use Rattle.mosaic_hypotheses.proofs.Scanned.{at-most-36}
 use Rattle.mosaic.specs.Genotype.{calledOf, genotypeBy, genotypeOf}
 use Rattle.mosaic_laws.specs.Accepted.{Accepted}
 use Rattle.mosaic_laws.proofs.OneLess.{one-less}

@@ -16,23 +16,22 @@ use Rattle.floats.specs.F64.{_⊗_, nat}
 use Rattle.floats.specs.Tiny.{SameOrTiny, same, Summand}
 use Rattle.kernels.specs.Ln.{lnOf}
 use Rattle.kernels.specs.Exp.{expOf}
-use Rattle.tens.specs.Log10.{pow10Of}
-use Rattle.tens.specs.Normalised.{inTens, lessWhole}
-use Rattle.bounds.specs.Tail.{Tail, expFlushed, tenWith}
-use Rattle.bounds.proofs.ExpBounds.{deep}
-use Rattle.bounds.proofs.ExpTail.{exp-is-tail, exp-tiny, flushed-below, flushed-is-tail, tail-summand, tail-same}
-use Rattle.diploid_laws.specs.Tails.{wholeWith}
-use Rattle.diploid_laws.proofs.AnyTail.{whole-by-exp, whole-tail}
+use Rattle.kernels_tens.specs.Log10.{pow10Of}
+use Rattle.kernels_tens.specs.Normalised.{inTens, lessWhole}
+use Rattle.kernels_laws.specs.Tail.{Tail, expFlushed, tenWith, wholeWith}
+use Rattle.kernels_laws.proofs.ExpBounds.{deep}
+use Rattle.kernels_laws.proofs.ExpTail.{exp-is-tail, exp-tiny, flushed-below, flushed-is-tail, tail-summand, tail-same}
+use Rattle.kernels_laws.proofs.WholeTail.{whole-by-exp, whole-tail}
 use Rattle.refusals.specs.declared.Refusal.{Refusal}
-use Rattle.models.specs.declared.params.Params.{Params}
-use Rattle.picks.specs.Order.{larger, smaller}
+use Rattle.mosaic_params.specs.declared.params.Params.{Params}
+use Rattle.floats.specs.MaxMin.{larger, smaller}
 use Rattle.lists.specs.Lists.{padded}
-use Rattle.probabilities.specs.Quality.{inUse, tensOf, probabilities}
-use Rattle.probabilities.proofs.InUse.{in-use-all}
-use Rattle.hypotheses.specs.Edition.{first}
-use Rattle.hypotheses.specs.Hypotheses.{seenAlleles, hypotheses}
-use Rattle.hypotheses.specs.Choice.{posteriors}
-use Rattle.probabilities.specs.Winner.{winner}
+use Rattle.mosaic_probabilities.specs.Quality.{inUse, tensOf, probabilities}
+use Rattle.mosaic_probabilities.proofs.InUse.{in-use-all}
+use Rattle.mosaic_hypotheses.specs.Edition.{first}
+use Rattle.mosaic_hypotheses.specs.Hypotheses.{seenAlleles, hypotheses}
+use Rattle.mosaic_hypotheses.specs.Choice.{posteriors}
+use Rattle.mosaic_probabilities.specs.Winner.{winner}
 use Rattle.mosaic.specs.Genotype.{blank, calledOf, genotypeBy, genotypeOf}
 use Rattle.mosaic.specs.declared.genotype.MosaicResult.{MosaicResult}
 use Rattle.mosaic_laws.specs.Tails.{probabilitiesWith, calledWith, genotypeWith, withoutChances, SameButTiny}

@@ -20,22 +20,23 @@ use Rattle.floats.specs.F64.{_⊕_, _⊖_, _⊗_, nat, decimal}
 use Rattle.floats.specs.Within.{Within, Above, Low, least, finite-low}
 use Rattle.floats.proofs.Bounds.{within-more, within-whole, within-fraction, within-mul, within-neg, above-whole, above-fraction}
 use Rattle.floats.proofs.Bounds.{low-more, low-add, least-finite, least-low, low-least}
-use Rattle.floats.proofs.Differences.{nought, not-below, less-larger}
+use Rattle.floats.proofs.Differences.{not-below, less-larger}
+use Rattle.floats.specs.Zeros.{nought, clear}
 use Rattle.floats.proofs.Floats.{eq-zero, eqb-zero, lt-zero}
 use Rattle.floats.proofs.Ranges.{within-range, le-not-lt, above-finite}
-use Rattle.floats.proofs.Rounded.{clear, round-clear}
+use Rattle.floats.proofs.Rounded.{round-clear}
 use Rattle.floats.proofs.Whole.{zero-below, below-is-most}
 use Rattle.kernels.specs.Ln.{lnOf}
-use Rattle.bounds.proofs.LnBounds.{low-ln}
-use Rattle.stirlings.specs.Stirling.{stirlingOf, lnFactorial}
+use Rattle.kernels_laws.proofs.LnBounds.{low-ln}
+use Rattle.kernels_stirling.specs.Stirling.{stirlingOf, lnFactorial}
 use Rattle.limits.specs.Limits.{countsAllowed}
 use Rattle.lists.specs.Over.{over}
-use Rattle.alleles.specs.Alleles.{countAt, seenIn, germlineIn, somaticIn, totalOf}
-use Rattle.alleles.specs.declared.pair.Pair.{Pair}
-use Rattle.alleles.proofs.CountLaws.{count-bound, total-bound}
-use Rattle.candidates.specs.Shares.{vafAt, massOf, germlineShare}
-use Rattle.hypotheses.specs.Edition.{first}
-use Rattle.hypotheses.specs.Likelihood.{shareOf, likelihoodOf}
+use Rattle.mosaic_alleles.specs.Alleles.{countAt, seenIn, germlineIn, somaticIn, totalOf}
+use Rattle.mosaic_alleles.specs.declared.pair.Pair.{Pair}
+use Rattle.mosaic_alleles.proofs.CountLaws.{count-bound, total-bound}
+use Rattle.mosaic_candidates.specs.Shares.{vafAt, massOf, germlineShare}
+use Rattle.mosaic_hypotheses.specs.Edition.{first}
+use Rattle.mosaic_hypotheses.specs.Likelihood.{shareOf, likelihoodOf}
 use Rattle.mosaic_laws.specs.AtOnce.{FromZero, VafsFromZero, impossible, someImpossible, likelihoodAtOnce}
 use Rattle.mosaic_laws.proofs.Terms.{either, within-factorial, share-ln-within}
 use Rattle.mosaic_laws.proofs.OneLess.{one-less}

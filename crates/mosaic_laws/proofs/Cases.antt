@@ -12,9 +12,9 @@ use lib.Ieee.{binary64, fits}
 use Rattle.refusals.specs.declared.Refusal.{Refusal}
 use Rattle.refusals.specs.declared.Refusal.the-variants.{TooMany, Count, Model, NoCall}
 use Rattle.limits.specs.Limits.{countsAllowed}
-use Rattle.models.specs.declared.params.Params.{Params}
-use Rattle.alleles.specs.Alleles.{totalOf}
-use Rattle.mosaic.specs.Allowed.{paramsAllowed}
+use Rattle.mosaic_params.specs.declared.params.Params.{Params}
+use Rattle.mosaic_alleles.specs.Alleles.{totalOf}
+use Rattle.mosaic_params.specs.Allowed.{paramsAllowed}
 use Rattle.mosaic.specs.Genotype.{blank}
 use Rattle.mosaic.specs.declared.genotype.MosaicResult.{MosaicResult}
 use Rattle.mosaic_laws.specs.Accepted.{Accepted}

@@ -15,7 +15,7 @@ use lib.Ieee.Fits.{div-fits}
 use lib.Ieee.Positive.{above-of-le}
 use Rattle.lists.specs.Every.{Each}
 use Rattle.floats.specs.F64.{_⊕_, _⊖_, _⊗_, nat, sumFrom}
-use Rattle.floats.specs.Within.{Within, UpTo}
+use Rattle.floats.specs.Within.{Within, UpTo, NotAbove}
 use Rattle.floats.specs.Tiny.{Summand}
 use Rattle.floats.proofs.Bounds.{within-number, within-more, within-whole, within-add, within-sub, within-div, zero-not-below}
 use Rattle.floats.proofs.Clear.{clear-not-below, clear-div}
@@ -26,19 +26,18 @@ use Rattle.floats.proofs.Sizes.{under-within}
 use Rattle.floats.proofs.TinySums.{summand-sum, from-one-among, not-below-add}
 use Rattle.kernels.specs.Ln.{lnOf}
 use Rattle.kernels.specs.Exp.{expOf}
-use Rattle.tens.specs.Log10.{log10Of, pow10Of}
-use Rattle.tens.specs.Normalised.{inTens, largestFrom, wholeOver, lessWhole}
-use Rattle.bounds.specs.Tail.{Tail, tenWith}
-use Rattle.bounds.proofs.ExpBounds.{deep}
-use Rattle.bounds.proofs.ExpTail.{exp-is-tail, tail-summand}
-use Rattle.bounds.proofs.LnSigns.{one-positive, ln-clear}
-use Rattle.bounds.proofs.Log10Bounds.{within-log10}
-use Rattle.picks.specs.Order.{larger, smaller}
-use Rattle.diploid_laws.specs.Tails.{wholeWith}
-use Rattle.diploid_laws.proofs.AnyTail.{whole-by-exp, largest-among, ten-from-one}
-use Rattle.diploid_laws.proofs.Signs.{NotAbove, lt-itself, not-below-trans, difference-not-above}
-use Rattle.diploid_laws.proofs.Largest.{either-of, larger-left, larger-right}
-use Rattle.diploid_laws.proofs.QualityBounds.{pow10-within, ten-above, smaller-zero}
+use Rattle.kernels_tens.specs.Log10.{log10Of, pow10Of}
+use Rattle.kernels_tens.specs.Normalised.{inTens, largestFrom, wholeOver, lessWhole}
+use Rattle.kernels_laws.specs.Tail.{Tail, tenWith, wholeWith}
+use Rattle.kernels_laws.proofs.ExpBounds.{deep}
+use Rattle.kernels_laws.proofs.ExpTail.{exp-is-tail, tail-summand}
+use Rattle.kernels_laws.proofs.LnSigns.{one-positive, ln-clear}
+use Rattle.kernels_laws.proofs.Log10Bounds.{within-log10}
+use Rattle.floats.specs.MaxMin.{larger, smaller}
+use Rattle.kernels_laws.proofs.WholeTail.{whole-by-exp, largest-among, ten-from-one}
+use Rattle.floats.proofs.Signs.{lt-itself, not-below-trans, difference-not-above}
+use Rattle.floats.proofs.MaxMinLaws.{either-of, larger-left, larger-right, smaller-zero}
+use Rattle.kernels_laws.proofs.TenAtMost.{pow10-within, ten-above}
 
 -- ---- from 0 to n
 

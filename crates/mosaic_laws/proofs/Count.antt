@@ -5,9 +5,9 @@ use Prim.Native.Nat.{ℕ, suc, _+_, _-_, _*_, _/_}
 use native.Mathlib.Nat.{suc-mul, mul-suc}
 use native.Mathlib.Omega.{arith}
 use lib.ListN.{length, length-append, length-map}
-use Rattle.alleles.specs.Alleles.{pair}
-use Rattle.hypotheses.specs.Hypotheses.{seenAlleles, singles, pairs, hypotheses}
-use Rattle.alleles.proofs.CountLaws.{square}
+use Rattle.mosaic_alleles.specs.Alleles.{pair}
+use Rattle.mosaic_hypotheses.specs.Hypotheses.{seenAlleles, singles, pairs, hypotheses}
+use Rattle.mosaic_alleles.proofs.CountLaws.{square}
 
 twice : (l : List ℕ) → 2 * length (pairs l) + length l ≡ length l * length l
 twice [] = refl

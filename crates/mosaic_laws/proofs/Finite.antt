@@ -24,25 +24,24 @@ use Rattle.floats.proofs.KeyOrder.{key-order}
 use Rattle.floats.proofs.Whole.{below-is-most}
 use Rattle.floats.proofs.Fractions.{above-by-test}
 use Rattle.kernels.specs.Ln.{lnOf}
-use Rattle.stirlings.specs.Stirling.{stirlingOf, lnFactorial}
+use Rattle.kernels_stirling.specs.Stirling.{stirlingOf, lnFactorial}
 use Rattle.lists.specs.Over.{over}
-use Rattle.hypotheses.proofs.Terms.{start-at}
-use Rattle.hypotheses.specs.Edition.{first}
-use Rattle.alleles.specs.Alleles.{countAt, seenIn, germlineIn, somaticIn, totalOf}
-use Rattle.candidates.specs.Shares.{anyOver, anySomatic, vafAt, massOf, germlineShare, startVafs, stepOf, observedShare}
-use Rattle.hypotheses.specs.Hypotheses.{bothSeen}
-use Rattle.hypotheses.specs.Likelihood.{shareOf, likelihoodOf}
-use Rattle.hypotheses.specs.Prior.{gainOf, priorOf}
-use Rattle.hypotheses.specs.Search.{Best, valueOf, tried, triedStep, searchedAllele, searchedAll, foundOf}
-use Rattle.models.specs.declared.params.Params.{Params}
-use Rattle.alleles.specs.declared.pair.Pair.{Pair}
-use Rattle.alleles.proofs.CountLaws.{count-bound, total-bound}
+use Rattle.mosaic_hypotheses.proofs.Terms.{start-at}
+use Rattle.mosaic_hypotheses.specs.Edition.{first}
+use Rattle.mosaic_alleles.specs.Alleles.{countAt, seenIn, germlineIn, somaticIn, totalOf}
+use Rattle.mosaic_candidates.specs.Shares.{anyOver, anySomatic, vafAt, massOf, germlineShare, startVafs, stepOf, observedShare}
+use Rattle.mosaic_hypotheses.specs.Hypotheses.{bothSeen}
+use Rattle.mosaic_hypotheses.specs.Likelihood.{shareOf, likelihoodOf}
+use Rattle.mosaic_hypotheses.specs.Prior.{gainOf, priorOf}
+use Rattle.mosaic_hypotheses.specs.Search.{Best, valueOf, tried, triedStep, searchedAllele, searchedAll, foundOf}
+use Rattle.mosaic_params.specs.declared.params.Params.{Params}
+use Rattle.mosaic_alleles.specs.declared.pair.Pair.{Pair}
+use Rattle.mosaic_alleles.proofs.CountLaws.{count-bound, total-bound}
 use Rattle.lists.proofs.OverLaws.{length-placed, at-set}
 use Rattle.mosaic_laws.specs.AtOnce.{VafsFromZero}
 use Rattle.mosaic_laws.specs.Accepted.{Accepted}
 use Rattle.mosaic_laws.proofs.Quotients.{observed-share}
-use Rattle.mosaic_laws.proofs.Terms.{either, within-factorial, highest-within, Vaf, ln-within, one-at, gain-within}
-use Rattle.mosaic_laws.proofs.Terms.{share-ln-within}
+use Rattle.mosaic_laws.proofs.Terms.{either, within-factorial, highest-within, Vaf, ln-within, one-at, gain-within, share-ln-within}
 use Rattle.mosaic_laws.proofs.Sums.{over-keeps, grows, of-eight}
 use Rattle.mosaic_laws.proofs.PriorAtOnce.{density, germline-within, prior-least}
 use Rattle.mosaic_laws.proofs.Least.{under-finite, least-stays}

@@ -6,14 +6,14 @@ use mathlib.Core.Bool.{Bool, true, false, true≢false}
 use mathlib.Core.List.{List, [], _∷_, map}
 use lib.Ieee.{Float, nan, inf, fin, add, sub, mul, div, neg, lt, isNan, ofBits}
 use Rattle.floats.specs.F64.{_⊕_, _⊖_, _⊗_, nat, sumFrom}
-use Rattle.floats.proofs.Zeros.{zeroOf}
+use Rattle.floats.specs.Zeros.{zeroOf}
 use Rattle.kernels.specs.Ln.{lnOf}
 use Rattle.kernels.specs.Exp.{expOf}
-use Rattle.tens.specs.Log10.{log10Of, pow10Of}
-use Rattle.tens.specs.Normalised.{largestFrom, wholeOver}
-use Rattle.tens.proofs.Log10Laws.{ln-ten}
-use Rattle.bounds.proofs.ExpBounds.{exp-beside-zero}
-use Rattle.picks.specs.Order.{Pick, larger}
+use Rattle.kernels_tens.specs.Log10.{log10Of, pow10Of}
+use Rattle.kernels_tens.specs.Normalised.{largestFrom, wholeOver}
+use Rattle.kernels_tens.proofs.Log10Laws.{ln-ten}
+use Rattle.kernels_laws.proofs.ExpBounds.{exp-beside-zero}
+use Rattle.floats.specs.MaxMin.{Pick, larger}
 use Rattle.mosaic_laws.specs.Folded.{wholeFolded}
 
 -- ---- from the first number on

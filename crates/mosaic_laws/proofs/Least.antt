@@ -10,12 +10,12 @@ use lib.Ieee.{Float, nan, inf, fin, binary64, lt, isNan, fits}
 use lib.Ieee.Scale.{finite}
 use Rattle.floats.specs.F64.{nat, decimal}
 use Rattle.floats.proofs.KeyOrder.{key-order}
-use Rattle.models.specs.declared.params.Params.{Params}
-use Rattle.hypotheses.specs.Edition.{Edition}
-use Rattle.alleles.specs.Alleles.{countAt, somaticIn, totalOf}
-use Rattle.candidates.specs.Shares.{startVafs, stepOf, observedShare}
-use Rattle.hypotheses.specs.Search.{Best, valueOf, tried, triedStep, searchedAllele, searchedAll}
-use Rattle.alleles.specs.declared.pair.Pair.{Pair}
+use Rattle.mosaic_params.specs.declared.params.Params.{Params}
+use Rattle.mosaic_hypotheses.specs.Edition.{Edition}
+use Rattle.mosaic_alleles.specs.Alleles.{countAt, somaticIn, totalOf}
+use Rattle.mosaic_candidates.specs.Shares.{startVafs, stepOf, observedShare}
+use Rattle.mosaic_hypotheses.specs.Search.{Best, valueOf, tried, triedStep, searchedAllele, searchedAll}
+use Rattle.mosaic_alleles.specs.declared.pair.Pair.{Pair}
 use Rattle.mosaic_laws.proofs.Sums.{over-keeps}
 
 -- nothing is below minus infinity

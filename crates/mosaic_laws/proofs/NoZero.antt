@@ -17,24 +17,24 @@ use Rattle.floats.specs.F64.{_⊖_, _⊗_, whole, nat}
 use Rattle.floats.specs.Within.{Within}
 use Rattle.floats.proofs.Bounds.{within-more, within-whole, within-sub, within-mul}
 use Rattle.floats.proofs.Monotone.{sub-from-order, mul-order}
-use Rattle.floats.proofs.Zeros.{Number}
+use Rattle.floats.specs.Zeros.{Number}
 use Rattle.kernels.specs.Ln.{lnOf}
 use Rattle.kernels.specs.Exp.{expOf}
-use Rattle.tens.specs.Normalised.{largestFrom, lessWhole}
-use Rattle.bounds.specs.Tail.{Tail, expFlushed, tenWith}
-use Rattle.bounds.proofs.ExpBounds.{deep, lt-number}
-use Rattle.bounds.proofs.ExpTail.{flushed-is-tail}
-use Rattle.picks.specs.Order.{larger, smaller}
-use Rattle.diploid_laws.specs.Tails.{wholeWith}
-use Rattle.diploid_laws.proofs.QualityBounds.{ten-above, ten-within, smaller-zero}
-use Rattle.diploid_laws.proofs.Signs.{lt-itself, lt-not-back, no-trans}
-use Rattle.models.specs.declared.params.Params.{Params}
-use Rattle.probabilities.specs.Quality.{tensOf}
-use Rattle.probabilities.proofs.InUse.{in-use-all}
-use Rattle.hypotheses.specs.Edition.{first}
-use Rattle.hypotheses.specs.Hypotheses.{hypotheses}
-use Rattle.hypotheses.specs.Choice.{posteriors}
-use Rattle.hypotheses.proofs.Scanned.{at-most-36}
+use Rattle.kernels_tens.specs.Normalised.{largestFrom, lessWhole}
+use Rattle.kernels_laws.specs.Tail.{Tail, expFlushed, tenWith, wholeWith}
+use Rattle.kernels_laws.proofs.ExpBounds.{deep, lt-number}
+use Rattle.kernels_laws.proofs.ExpTail.{flushed-is-tail}
+use Rattle.floats.specs.MaxMin.{larger, smaller}
+use Rattle.kernels_laws.proofs.TenAtMost.{ten-above, ten-within}
+use Rattle.floats.proofs.MaxMinLaws.{smaller-zero}
+use Rattle.floats.proofs.Signs.{lt-itself, lt-not-back, no-trans}
+use Rattle.mosaic_params.specs.declared.params.Params.{Params}
+use Rattle.mosaic_probabilities.specs.Quality.{tensOf}
+use Rattle.mosaic_probabilities.proofs.InUse.{in-use-all}
+use Rattle.mosaic_hypotheses.specs.Edition.{first}
+use Rattle.mosaic_hypotheses.specs.Hypotheses.{hypotheses}
+use Rattle.mosaic_hypotheses.specs.Choice.{posteriors}
+use Rattle.mosaic_hypotheses.proofs.Scanned.{at-most-36}
 use Rattle.mosaic.specs.Genotype.{genotypeOf}
 use Rattle.mosaic_laws.specs.Accepted.{Accepted}
 use Rattle.mosaic_laws.specs.Tails.{probabilitiesWith, calledWith, genotypeWith, NoneZero}

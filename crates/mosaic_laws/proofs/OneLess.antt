@@ -14,7 +14,7 @@ use lib.Ieee.Scale.{finite}
 use Rattle.floats.specs.F64.{_⊖_, nat}
 use Rattle.floats.proofs.Fitting.{fitting}
 use Rattle.floats.proofs.Rounded.{round-smaller}
-use Rattle.floats.proofs.Zeros.{Number}
+use Rattle.floats.specs.Zeros.{Number}
 use Rattle.mosaic_laws.proofs.Terms.{either}
 
 -- the largest f64

@@ -11,14 +11,14 @@ use lib.Signed.{ltZ}
 use lib.Ieee.{Float, nan, inf, lt}
 use Rattle.floats.specs.F64.{nat, decimal}
 use Rattle.floats.specs.Key.{keyOf}
-use Rattle.hypotheses.specs.Edition.{Edition}
-use Rattle.alleles.specs.Alleles.{countAt, germlineIn, somaticIn, totalOf}
-use Rattle.candidates.specs.Shares.{anySomatic, vafAt, startVafs, stepOf, observedShare}
-use Rattle.hypotheses.specs.Likelihood.{likelihoodOf}
-use Rattle.hypotheses.specs.Search.{Best, valueOf, tried, triedStep, searchedAllele, searchedAll, foundOf}
+use Rattle.mosaic_hypotheses.specs.Edition.{Edition}
+use Rattle.mosaic_alleles.specs.Alleles.{countAt, germlineIn, somaticIn, totalOf}
+use Rattle.mosaic_candidates.specs.Shares.{anySomatic, vafAt, startVafs, stepOf, observedShare}
+use Rattle.mosaic_hypotheses.specs.Likelihood.{likelihoodOf}
+use Rattle.mosaic_hypotheses.specs.Search.{Best, valueOf, tried, triedStep, searchedAllele, searchedAll, foundOf}
 use Rattle.mosaic.specs.Genotype.{flagsOf}
-use Rattle.models.specs.declared.params.Params.{Params}
-use Rattle.alleles.specs.declared.pair.Pair.{Pair}
+use Rattle.mosaic_params.specs.declared.params.Params.{Params}
+use Rattle.mosaic_alleles.specs.declared.pair.Pair.{Pair}
 use Rattle.lists.proofs.OverLaws.{placed-at, placed-beyond}
 use Rattle.mosaic_laws.proofs.Terms.{either}
 use Rattle.mosaic_laws.proofs.Sums.{over-keeps}

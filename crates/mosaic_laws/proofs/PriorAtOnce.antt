@@ -18,15 +18,15 @@ use Rattle.floats.proofs.Floats.{positive-by-test}
 use Rattle.floats.proofs.Fractions.{above-by-test}
 use Rattle.floats.proofs.Whole.{below-is-most, within-whole-test}
 use Rattle.kernels.specs.Ln.{lnOf}
-use Rattle.stirlings.specs.Stirling.{stirlingOf}
+use Rattle.kernels_stirling.specs.Stirling.{stirlingOf}
 use Rattle.lists.specs.Over.{over}
-use Rattle.models.specs.declared.params.Params.{Params}
-use Rattle.alleles.specs.Alleles.{seenIn, somaticIn, alone}
-use Rattle.alleles.specs.declared.pair.Pair.{Pair}
-use Rattle.candidates.specs.Shares.{vafAt}
-use Rattle.hypotheses.specs.Edition.{first}
-use Rattle.hypotheses.specs.Hypotheses.{bothSeen}
-use Rattle.hypotheses.specs.Prior.{gainOf, forGermline, priorOf}
+use Rattle.mosaic_params.specs.declared.params.Params.{Params}
+use Rattle.mosaic_alleles.specs.Alleles.{seenIn, somaticIn, alone}
+use Rattle.mosaic_alleles.specs.declared.pair.Pair.{Pair}
+use Rattle.mosaic_candidates.specs.Shares.{vafAt}
+use Rattle.mosaic_hypotheses.specs.Edition.{first}
+use Rattle.mosaic_hypotheses.specs.Hypotheses.{bothSeen}
+use Rattle.mosaic_hypotheses.specs.Prior.{gainOf, forGermline, priorOf}
 use Rattle.mosaic_laws.specs.Accepted.{Accepted}
 use Rattle.mosaic_laws.specs.AtOnce.{VafsF64, fromOne, someFromOne, priorAtOnce}
 use Rattle.mosaic_laws.proofs.Terms.{either, Dense, dense, one-at, gain-within, gain-least, one-within, two-within}

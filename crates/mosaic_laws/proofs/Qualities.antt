@@ -22,18 +22,19 @@ use Rattle.floats.specs.Under.{Under, Over}
 use Rattle.floats.proofs.Floats.{positive-by-test}
 use Rattle.floats.proofs.Bounds.{within-more, within-whole, within-mul}
 use Rattle.floats.proofs.Fractions.{lt-fractions, le-fractions}
-use Rattle.floats.proofs.Differences.{nought, not-below}
+use Rattle.floats.proofs.Differences.{not-below}
+use Rattle.floats.specs.Zeros.{nought}
 use Rattle.floats.proofs.Lows.{low-over, low-low, not-below-over}
 use Rattle.floats.proofs.Sizes.{under-within, under-mul, within-under}
 use Rattle.kernels.specs.Ln.{lnOf}
-use Rattle.tens.specs.Log10.{log10Of}
-use Rattle.tens.proofs.Log10Laws.{ln-ten}
-use Rattle.bounds.proofs.Log10Bounds.{within-log10}
-use Rattle.bounds.proofs.LnBounds.{within-ln}
+use Rattle.kernels_tens.specs.Log10.{log10Of}
+use Rattle.kernels_tens.proofs.Log10Laws.{ln-ten}
+use Rattle.kernels_laws.proofs.Log10Bounds.{within-log10}
+use Rattle.kernels_laws.proofs.LnBounds.{within-ln}
 use Rattle.floats.proofs.Quotients.{under-div}
-use Rattle.bounds.proofs.LnBelow.{ln-low, ln-under}
-use Rattle.picks.specs.Order.{smaller}
-use Rattle.probabilities.specs.Quality.{wrongOf, qualityBy}
+use Rattle.kernels_laws.proofs.LnBelow.{ln-low, ln-under}
+use Rattle.floats.specs.MaxMin.{smaller}
+use Rattle.mosaic_probabilities.specs.Quality.{wrongOf, qualityBy}
 use Rattle.mosaic_laws.proofs.Terms.{either}
 use Rattle.mosaic_laws.proofs.Chances.{chance-add, nothing}
 

@@ -8,7 +8,7 @@ use native.Mathlib.Omega.{arith}
 use borrow.Author.Tests.{ltb-true, ltb-false, eqb-true, eqb-false}
 use lib.Dec.{ltb, eqb}
 use lib.ListN.{length, List·getD-eq-default}
-use Rattle.alleles.specs.Alleles.{countAt, seenIn, totalOver}
+use Rattle.mosaic_alleles.specs.Alleles.{countAt, seenIn, totalOver}
 
 pub seen-some : (counts : List ℕ) (i : ℕ) → seenIn counts i ≡ true → 0 < countAt counts i
 seen-some counts i h = ltb-true 0 (countAt counts i) h

@@ -14,12 +14,13 @@ use lib.Ieee.Order.{round-mono}
 use lib.Ieee.Positive.{num, den, positive-finite}
 use Rattle.floats.specs.F64.{_⊕_, _⊗_, _⊘_, nat}
 use Rattle.floats.specs.Within.{Within, NotBelow}
-use Rattle.floats.proofs.Rounded.{clear, round-clear}
+use Rattle.floats.proofs.Rounded.{round-clear}
+use Rattle.floats.specs.Zeros.{clear, zeroOf}
 use Rattle.floats.proofs.Bounds.{above-whole, within-ratio}
-use Rattle.floats.proofs.Zeros.{zeroOf, zero-fits, plus-zero}
-use Rattle.models.specs.declared.params.Params.{Params}
-use Rattle.mosaic.specs.Allowed.{paramsAllowed}
-use Rattle.candidates.specs.Shares.{stepOf}
+use Rattle.floats.proofs.Zeros.{zero-fits, plus-zero}
+use Rattle.mosaic_params.specs.declared.params.Params.{Params}
+use Rattle.mosaic_params.specs.Allowed.{paramsAllowed}
+use Rattle.mosaic_candidates.specs.Shares.{stepOf}
 use Rattle.mosaic_laws.proofs.Quotients.{quotient, whole-size}
 use Rattle.mosaic_laws.proofs.Terms.{highest-not-below}
 

@@ -13,23 +13,22 @@ use lib.Ieee.Positive.{num, den, positive, above-of-le, between}
 use Rattle.floats.specs.F64.{_⊕_, _⊖_, _⊗_, _⊘_, nat, ratio, decimal}
 use Rattle.floats.specs.Within.{Within, Above, NotBelow}
 use Rattle.floats.proofs.Bounds.{within-more, within-whole, within-fraction, within-reciprocal, within-add, within-sub, within-mul, within-div, within-neg, above-whole, above-add, above-fraction, positive-not-below}
-use Rattle.floats.proofs.Ranges.{within-range, above-range, not-below-zero}
-use Rattle.floats.proofs.Ranges.{above-finite}
+use Rattle.floats.proofs.Ranges.{within-range, above-range, not-below-zero, above-finite}
 use Rattle.floats.proofs.Fractions.{less, le-fractions, difference-above}
 use Rattle.floats.proofs.Differences.{not-below}
 use Rattle.floats.proofs.Fitting.{fits-above}
 use Rattle.floats.proofs.Whole.{zero-below}
 use Rattle.kernels.specs.Ln.{lnOf}
-use Rattle.bounds.proofs.LnBounds.{within-ln}
-use Rattle.stirlings.specs.Stirling.{pi, stirlingFromOne, stirlingOf, lnFactorial}
-use Rattle.mosaic.specs.Allowed.{paramsAllowed}
+use Rattle.kernels_laws.proofs.LnBounds.{within-ln}
+use Rattle.kernels_stirling.specs.Stirling.{pi, stirlingFromOne, stirlingOf, lnFactorial}
+use Rattle.mosaic_params.specs.Allowed.{paramsAllowed}
 use Rattle.limits.specs.Limits.{inRange}
-use Rattle.alleles.specs.Alleles.{alone}
-use Rattle.picks.specs.Order.{larger}
-use Rattle.candidates.specs.Shares.{germlineShare}
-use Rattle.hypotheses.specs.Prior.{gainOf}
-use Rattle.models.specs.declared.params.Params.{Params}
-use Rattle.alleles.specs.declared.pair.Pair.{Pair}
+use Rattle.mosaic_alleles.specs.Alleles.{alone}
+use Rattle.floats.specs.MaxMin.{larger}
+use Rattle.mosaic_candidates.specs.Shares.{germlineShare}
+use Rattle.mosaic_hypotheses.specs.Prior.{gainOf}
+use Rattle.mosaic_params.specs.declared.params.Params.{Params}
+use Rattle.mosaic_alleles.specs.declared.pair.Pair.{Pair}
 use Rattle.mosaic_laws.proofs.Quotients.{above-div}
 
 -- ---- the short log gamma of a number above zero and at most 2 ^ 23

@@ -15,11 +15,11 @@ use Rattle.floats.specs.F64.{_⊕_, _⊘_, nat}
 use Rattle.floats.specs.Tiny.{Tiny, SameOrTiny, same, tiny, Summand}
 use Rattle.floats.proofs.Floats.{positive-by-test}
 use Rattle.floats.proofs.TinySums.{summand-add, same-or-tiny-more, tiny-step}
-use Rattle.bounds.proofs.Log10Far.{far-over-thousand}
-use Rattle.picks.specs.Order.{smaller}
+use Rattle.kernels_laws.proofs.Log10Far.{far-over-thousand}
+use Rattle.floats.specs.MaxMin.{smaller}
 use Rattle.lists.proofs.OverLaws.{last, before}
-use Rattle.probabilities.specs.Quality.{wrongOf, qualityBy, qualityOf}
-use Rattle.probabilities.proofs.InUse.{in-use-all}
+use Rattle.mosaic_probabilities.specs.Quality.{wrongOf, qualityBy, qualityOf}
+use Rattle.mosaic_probabilities.proofs.InUse.{in-use-all}
 use Rattle.mosaic_laws.proofs.Terms.{either}
 use Rattle.mosaic_laws.proofs.Sums.{over-keeps}
 use Rattle.mosaic_laws.proofs.Qualities.{rawOf, hundred}

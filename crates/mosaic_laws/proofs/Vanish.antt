@@ -12,31 +12,31 @@ use lib.ListN.{length, getD, replicate, length-map, List·getD-append}
 use lib.Ieee.{Float, nan, binary64, round, lt, le, fits}
 use lib.Ieee.Positive.{positive}
 use Rattle.floats.specs.F64.{_⊖_, _⊗_, whole, nat}
-use Rattle.floats.specs.Within.{Within}
+use Rattle.floats.specs.Within.{Within, NotAbove}
 use Rattle.floats.proofs.Bounds.{within-sub, within-mul}
-use Rattle.floats.proofs.Differences.{nought}
+use Rattle.floats.specs.Zeros.{nought}
 use Rattle.floats.proofs.Ranges.{le-number}
 use Rattle.kernels.specs.Ln.{lnOf}
 use Rattle.kernels.specs.Exp.{expOf}
-use Rattle.tens.specs.Log10.{pow10Of}
-use Rattle.tens.specs.Normalised.{wholeOver, lessWhole}
-use Rattle.bounds.specs.Tail.{tenWith}
-use Rattle.bounds.proofs.ExpBounds.{exp-below, by-tests, not-both, not-most, parts-positive}
-use Rattle.bounds.proofs.TenBounds.{pow10-chance-positive}
-use Rattle.models.specs.declared.params.Params.{Params}
-use Rattle.picks.specs.Order.{larger, smaller}
+use Rattle.kernels_tens.specs.Log10.{pow10Of}
+use Rattle.kernels_tens.specs.Normalised.{wholeOver, lessWhole}
+use Rattle.kernels_laws.specs.Tail.{tenWith, wholeWith}
+use Rattle.kernels_laws.proofs.ExpBounds.{exp-below, by-tests, not-both, not-most, parts-positive}
+use Rattle.kernels_laws.proofs.TenBounds.{pow10-chance-positive}
+use Rattle.mosaic_params.specs.declared.params.Params.{Params}
+use Rattle.floats.specs.MaxMin.{larger, smaller}
 use Rattle.lists.proofs.PlaceLaws.{map-at}
-use Rattle.probabilities.specs.Quality.{tensOf}
-use Rattle.probabilities.proofs.InUse.{in-use-all}
-use Rattle.hypotheses.specs.Edition.{first}
-use Rattle.hypotheses.specs.Hypotheses.{hypotheses}
-use Rattle.hypotheses.specs.Choice.{posteriors}
-use Rattle.hypotheses.proofs.Scanned.{at-most-36}
+use Rattle.mosaic_probabilities.specs.Quality.{tensOf}
+use Rattle.mosaic_probabilities.proofs.InUse.{in-use-all}
+use Rattle.mosaic_hypotheses.specs.Edition.{first}
+use Rattle.mosaic_hypotheses.specs.Hypotheses.{hypotheses}
+use Rattle.mosaic_hypotheses.specs.Choice.{posteriors}
+use Rattle.mosaic_hypotheses.proofs.Scanned.{at-most-36}
 use Rattle.mosaic.specs.Genotype.{genotypeOf}
-use Rattle.diploid_laws.specs.Tails.{wholeWith}
-use Rattle.diploid_laws.proofs.AnyTail.{whole-by-exp}
-use Rattle.diploid_laws.proofs.Signs.{NotAbove, not-above-le, mul-not-above}
-use Rattle.diploid_laws.proofs.QualityBounds.{ten-above, ten-within, smaller-zero}
+use Rattle.kernels_laws.proofs.WholeTail.{whole-by-exp}
+use Rattle.floats.proofs.Signs.{not-above-le, mul-not-above}
+use Rattle.kernels_laws.proofs.TenAtMost.{ten-above, ten-within}
+use Rattle.floats.proofs.MaxMinLaws.{smaller-zero}
 use Rattle.mosaic_laws.specs.Accepted.{Accepted}
 use Rattle.mosaic_laws.specs.Tails.{probabilitiesWith, normalisedAt}
 use Rattle.mosaic_laws.proofs.Chances.{each-at, DecimalPosterior, whole-within}

@@ -10,8 +10,8 @@ use lib.Dec.{T, eqb, lit<}
 use lib.IntN.{ℤ}
 use lib.Signed.{leZ, _≤ℤ_, _<ℤ_, leZ-yes, ≤ℤ-refl, <ℤ-≤ℤ-trans, clashℤ}
 use lib.Ieee.{Float}
-use Rattle.diploid_laws.proofs.WinnerLaws.{above, below-at-most}
-use Rattle.probabilities.specs.Winner.{winner}
+use Rattle.floats.proofs.Signed.{above, below-at-most}
+use Rattle.mosaic_probabilities.specs.Winner.{winner}
 use Rattle.mosaic_laws.specs.Largest.{keyAt, LastLargest}
 
 through : (a b c : ℤ) → a ≤ℤ b → b ≤ℤ c → a ≤ℤ c

@@ -7,8 +7,8 @@ use lib.Dec.{T}
 use lib.ListN.{length}
 use lib.Ieee.{binary64, fits}
 use Rattle.limits.specs.Limits.{countsAllowed}
-use Rattle.mosaic.specs.Allowed.{paramsAllowed}
-use Rattle.models.specs.declared.params.Params.{Params}
+use Rattle.mosaic_params.specs.Allowed.{paramsAllowed}
+use Rattle.mosaic_params.specs.declared.params.Params.{Params}
 
 -- parameters and counts that no refusal of R2, R6 and R4 turns away; parameters are f64, as the struct's fields are
 pub record Accepted (p : Params) (counts : List ℕ) : Type 0 where

@@ -10,13 +10,13 @@ use lib.Ieee.{Float, inf, binary64, le, eq, fits}
 use Rattle.floats.specs.F64.{nat}
 use Rattle.floats.specs.Within.{NotBelow}
 use Rattle.lists.specs.Over.{over}
-use Rattle.alleles.specs.Alleles.{seenIn, somaticIn}
-use Rattle.alleles.specs.declared.pair.Pair.{Pair}
-use Rattle.candidates.specs.Shares.{vafAt}
-use Rattle.hypotheses.specs.Edition.{Edition}
-use Rattle.hypotheses.specs.Likelihood.{shareOf, likelihoodOf}
-use Rattle.hypotheses.specs.Prior.{priorOf}
-use Rattle.models.specs.declared.params.Params.{Params}
+use Rattle.mosaic_alleles.specs.Alleles.{seenIn, somaticIn}
+use Rattle.mosaic_alleles.specs.declared.pair.Pair.{Pair}
+use Rattle.mosaic_candidates.specs.Shares.{vafAt}
+use Rattle.mosaic_hypotheses.specs.Edition.{Edition}
+use Rattle.mosaic_hypotheses.specs.Likelihood.{shareOf, likelihoodOf}
+use Rattle.mosaic_hypotheses.specs.Prior.{priorOf}
+use Rattle.mosaic_params.specs.declared.params.Params.{Params}
 
 -- M3: a VAF from 0 on: a finite f64 that is not below zero; −0.0 counts
 pub record FromZero (v : Float) : Type 0 where

@@ -5,9 +5,9 @@ use mathlib.Core.List.{List, map}
 use lib.IntN.{pos}
 use lib.Ieee.{Float, inf, fin}
 use Rattle.floats.specs.F64.{_⊕_, _⊖_, sumFrom}
-use Rattle.tens.specs.Log10.{log10Of, pow10Of}
-use Rattle.tens.specs.Normalised.{largestFrom}
-use Rattle.picks.specs.Order.{Pick}
+use Rattle.kernels_tens.specs.Log10.{log10Of, pow10Of}
+use Rattle.kernels_tens.specs.Normalised.{largestFrom}
+use Rattle.floats.specs.MaxMin.{Pick}
 
 -- the sum from 0.0, or from −0.0 where `negative` is true
 unfoldable pub wholeFolded : Pick → Bool → List Float → Float

@@ -10,20 +10,19 @@ use lib.ListN.{length, getD, replicate}
 use lib.Ieee.{Float, nan}
 use Rattle.floats.specs.F64.{nat}
 use Rattle.floats.specs.Tiny.{Tiny, SameOrTiny}
-use Rattle.bounds.specs.Tail.{tenWith}
-use Rattle.tens.specs.Normalised.{lessWhole, wholeOver}
-use Rattle.diploid_laws.specs.Tails.{wholeWith}
+use Rattle.kernels_laws.specs.Tail.{tenWith, wholeWith}
+use Rattle.kernels_tens.specs.Normalised.{lessWhole, wholeOver}
 use Rattle.refusals.specs.declared.Refusal.the-variants.{TooMany, Count, Model, NoCall}
 use Rattle.limits.specs.Limits.{countsAllowed}
-use Rattle.models.specs.declared.params.Params.{Params}
-use Rattle.picks.specs.Order.{larger, smaller}
+use Rattle.mosaic_params.specs.declared.params.Params.{Params}
+use Rattle.floats.specs.MaxMin.{larger, smaller}
 use Rattle.lists.specs.Lists.{padded}
-use Rattle.probabilities.specs.Quality.{inUse, tensOf}
-use Rattle.alleles.specs.Alleles.{totalOf}
-use Rattle.hypotheses.specs.Edition.{first}
-use Rattle.hypotheses.specs.Hypotheses.{hypotheses}
-use Rattle.hypotheses.specs.Choice.{posteriors, chosen}
-use Rattle.mosaic.specs.Allowed.{paramsAllowed}
+use Rattle.mosaic_probabilities.specs.Quality.{inUse, tensOf}
+use Rattle.mosaic_alleles.specs.Alleles.{totalOf}
+use Rattle.mosaic_hypotheses.specs.Edition.{first}
+use Rattle.mosaic_hypotheses.specs.Hypotheses.{hypotheses}
+use Rattle.mosaic_hypotheses.specs.Choice.{posteriors, chosen}
+use Rattle.mosaic_params.specs.Allowed.{paramsAllowed}
 use Rattle.mosaic.specs.Genotype.{blank, answerFrom}
 use Rattle.mosaic.specs.declared.genotype.MosaicResult.{MosaicResult}
 

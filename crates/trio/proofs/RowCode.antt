@@ -7,13 +7,13 @@ use native.Mathlib.Omega.{arith}
 use borrow.Author.Tests.{lt-ltb}
 use lib.Bits.{or-zero-l}
 use Rattle.refusals.specs.declared.Refusal.the-variants.{Done}
-use Rattle.marks.specs.Marks.{marked}
-use Rattle.search.specs.Work.{Work, joined, rowWork}
-use Rattle.search_laws.proofs.BestCode.{pass-back}
-use Rattle.parts.specs.declared.part.Part.{Part}
-use Rattle.triples.specs.Genotypes.{rowWidth}
-use Rattle.parts.specs.Part.{rowCount, workIn, withWork, gives}
-use Rattle.shapes.specs.Right.{rightPart}
+use Rattle.trio_search.specs.Marks.{marked}
+use Rattle.trio_search.specs.Work.{Work, joined, rowWork}
+use Rattle.trio_search_laws.proofs.BestCode.{pass-back}
+use Rattle.trio_parts.specs.declared.part.Part.{Part}
+use Rattle.trio_triples.specs.Genotypes.{rowWidth}
+use Rattle.trio_parts.specs.Part.{rowCount, workIn, withWork, gives}
+use Rattle.trio_parts.specs.Right.{rightPart}
 use Rattle.trio.specs.Steps.{scoreIn, rowStep}
 
 -- the end of a row, of at most 36

@@ -4,14 +4,14 @@ use mathlib.Core.Bool.{cond, _&&_}
 use lib.Dec.{ltb}
 use lib.Ieee.{Float}
 use Rattle.refusals.specs.declared.Refusal.the-variants.{Done, Row, OtherTrio, BadPart}
-use Rattle.search.specs.Work.{joined, rowWork}
-use Rattle.parts.specs.declared.part.Part.{Part}
-use Rattle.parts.specs.declared.part.Stepped.{Stepped}
-use Rattle.parts.specs.Part.{rowCount, workIn, withWork, gives}
-use Rattle.shapes.specs.Right.{rightPart}
-use Rattle.inputs.specs.Same.{sameInput}
-use Rattle.triples.specs.Genotypes.{rowWidth}
-use Rattle.triples.specs.Score.{scoreOf}
+use Rattle.trio_search.specs.Work.{joined, rowWork}
+use Rattle.trio_parts.specs.declared.part.Part.{Part}
+use Rattle.trio_parts.specs.declared.part.Stepped.{Stepped}
+use Rattle.trio_parts.specs.Part.{rowCount, workIn, withWork, gives}
+use Rattle.trio_parts.specs.Right.{rightPart}
+use Rattle.trio_parts.specs.Same.{sameInput}
+use Rattle.trio_triples.specs.Genotypes.{rowWidth}
+use Rattle.trio_triples.specs.Score.{scoreOf}
 
 -- how many rows there are to work; in a bad part none
 unfoldable pub rowsIn : Part → ℕ

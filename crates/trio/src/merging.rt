@@ -1,14 +1,14 @@
 // Merging two parts of one trio (docs/RULES.md, T8).
 ghost use mathlib.Core.Path.{_≡_};
-ghost use Rattle.search.specs.Work as work;
-ghost use Rattle.parts.specs.Part.{withWork, workIn};
+ghost use Rattle.trio_search.specs.Work as work;
+ghost use Rattle.trio_parts.specs.Part.{withWork, workIn};
 ghost use Rattle.trio.specs.Steps.{mergeStep};
-use inputs::input::same_input;
-use merges::merging::merge_held;
-use parts::part::Part;
-use parts::part::Stepped;
+use trio_parts::input::same_input;
+use trio_entries::merging::merge_held;
+use trio_parts::part::Part;
+use trio_parts::part::Stepped;
 use refusals::Refusal;
-use shapes::shape::right_part;
+use trio_parts::shape::right_part;
 
 // The input of `a`, with the work of both.
 pub(crate) fn joined(a: Part, b: Part) -> Part

@@ -1,22 +1,22 @@
 // Working a row: all triples of one father's genotype (docs/RULES.md, T6).
 ghost use mathlib.Core.Path.{_≡_};
 ghost use Prim.Native.Nat.{_+_, _*_, _≤_, _<_, _^_};
-ghost use Rattle.entries.specs.Held.{heldOf};
-ghost use Rattle.search.specs.Work.{onePass, entriesFrom, rowWork};
-ghost use Rattle.parts.specs.Part.{withWork};
-ghost use Rattle.triples.specs.Score.{scoreOf};
+ghost use Rattle.trio_entries.specs.Held.{heldOf};
+ghost use Rattle.trio_search.specs.Work.{onePass, entriesFrom, rowWork};
+ghost use Rattle.trio_parts.specs.Part.{withWork};
+ghost use Rattle.trio_triples.specs.Score.{scoreOf};
 ghost use Rattle.trio.specs.Steps.{rowsIn, rowStep};
 use crate::merging::joined;
-use entries::entry::Entry;
-use entries::held::Held;
-use entries::held::offer;
-use family::genotypes::genotype_count;
-use marks::marks::row_marked;
-use parts::part::Part;
-use parts::part::Stepped;
+use trio_entries::entry::Entry;
+use trio_entries::held::Held;
+use trio_entries::held::offer;
+use trio_family::genotypes::genotype_count;
+use trio_search::marks::row_marked;
+use trio_parts::part::Part;
+use trio_parts::part::Stepped;
 use refusals::Refusal;
-use shapes::shape::right_part;
-use triples::score::score_at;
+use trio_parts::shape::right_part;
+use trio_triples::score::score_at;
 
 // The best two of `many` positions from `from` on.
 fn best_of(clusters: u64, counts: [u32; 24], weights: [f64; 8], from: u64, many: u64) -> Held

@@ -15,14 +15,14 @@ use Rattle.lists.proofs.PlaceLaws.{number-at, numbers-length}
 use Rattle.refusals.specs.declared.Refusal.{Refusal}
 use Rattle.refusals.specs.declared.Refusal.the-variants.{Done, NoCluster, TooMany, Shape, Count, Weight, Model, Table}
 use Rattle.refusals.specs.declared.Refusal.the-variants.{Row, OtherTrio, NotComplete, NoCall, BadPart}
-use Rattle.marks.specs.Marks.{isMarked, fullMarks}
-use Rattle.search.specs.Shape.{workRight}
-use Rattle.search_laws.proofs.ShapeLaws.{Shaped, right-shaped}
-use Rattle.search_laws.proofs.WordLaws.{full-marked, marked-full}
-use Rattle.parts.specs.declared.part.Part.{Part}
-use Rattle.parts.specs.Part.{rowCount}
-use Rattle.shapes.specs.Right.{inputRight, rightPart}
-use Rattle.closings.specs.Closing.{closedAs, refusedClosing, closeStep}
+use Rattle.trio_search.specs.Marks.{isMarked, fullMarks}
+use Rattle.trio_search.specs.Shape.{workRight}
+use Rattle.trio_search_laws.proofs.ShapeLaws.{Shaped, right-shaped}
+use Rattle.trio_search_laws.proofs.WordLaws.{full-marked, marked-full}
+use Rattle.trio_parts.specs.declared.part.Part.{Part}
+use Rattle.trio_parts.specs.Part.{rowCount}
+use Rattle.trio_parts.specs.Right.{inputRight, rightPart}
+use Rattle.trio_closings.specs.Closing.{closedAs, refusedClosing, closeStep}
 use Rattle.trio_meanings.specs.Marked.{SomeUnmarked, AllMarked, ClosesWith}
 use Rattle.trio_meanings.proofs.Settled.{Settles, settled}
 

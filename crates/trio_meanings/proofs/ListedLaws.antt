@@ -13,13 +13,13 @@ use lib.ListN.{length, getD, length-map}
 use lib.Seq.{ext-getD}
 use Rattle.lists.specs.Lists.{numbers}
 use Rattle.lists.proofs.PlaceLaws.{number-at, numbers-length, map-at}
-use Rattle.family.specs.declared.pair.Pair.{Pair}
-use Rattle.family.specs.declared.pair.Triple.{Triple}
-use Rattle.mendel.specs.Mendel.{samePair}
-use Rattle.mendel.proofs.MendelLaws.{same-is}
-use Rattle.triples.specs.Genotypes.{genotypeAt, tripleAt, tripleOf, triples}
-use Rattle.triples.proofs.GenotypesLaws.{triple-within}
-use Rattle.desks.proofs.TripleLaws.{triple-count, triple-place, triple-once}
+use Rattle.trio_family.specs.declared.pair.Pair.{Pair}
+use Rattle.trio_family.specs.declared.pair.Triple.{Triple}
+use Rattle.trio_mendel.specs.Mendel.{samePair}
+use Rattle.trio_mendel.proofs.MendelLaws.{same-is}
+use Rattle.trio_triples.specs.Genotypes.{genotypeAt, tripleAt, tripleOf, triples}
+use Rattle.trio_triples.proofs.GenotypesLaws.{triple-within}
+use Rattle.trio_laws.proofs.TripleLaws.{triple-count, triple-place, triple-once}
 use Rattle.trio_meanings.specs.Called.{positionCount}
 use Rattle.trio_meanings.specs.Loops.{noTriple, sameTriple}
 

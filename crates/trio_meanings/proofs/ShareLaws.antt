@@ -25,8 +25,8 @@ use Rattle.floats.proofs.Fractions.{le-fractions}
 use Rattle.floats.proofs.Whole.{zero-below}
 use Rattle.floats.proofs.Sums.{Term, AllTerms, Summed, summed-terms}
 use Rattle.floats.proofs.Quotients.{over-div}
-use Rattle.family.specs.declared.pair.Pair.{Pair}
-use Rattle.samples.specs.Samples.{inUse, clusters, named, expectation, expectationTotal, shareOf}
+use Rattle.trio_family.specs.declared.pair.Pair.{Pair}
+use Rattle.trio_samples.specs.Samples.{inUse, clusters, named, expectation, expectationTotal, shareOf}
 use Rattle.trio_meanings.specs.Shares.{IsShare}
 
 -- ---- an expectation is 1, a half or a thousandth, so at least 2 ^ -10

@@ -5,10 +5,10 @@ use mathlib.Core.Path.{_≡_}
 use Rattle.refusals.specs.declared.Refusal.{Refusal}
 use Rattle.refusals.specs.declared.Refusal.the-variants.{Done, NoCluster, TooMany, Shape, Count, Weight, Model, Table}
 use Rattle.refusals.specs.declared.Refusal.the-variants.{Row, OtherTrio, NotComplete, NoCall, BadPart}
-use Rattle.marks.specs.Marks.{isMarked}
-use Rattle.parts.specs.declared.part.Part.{Part}
-use Rattle.parts.specs.Part.{rowCount}
-use Rattle.shapes.specs.Right.{rightPart}
+use Rattle.trio_search.specs.Marks.{isMarked}
+use Rattle.trio_parts.specs.declared.part.Part.{Part}
+use Rattle.trio_parts.specs.Part.{rowCount}
+use Rattle.trio_parts.specs.Right.{rightPart}
 
 module _ (p : Part) where
   -- R10: a row of the search has no mark

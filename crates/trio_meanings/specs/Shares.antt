@@ -1,4 +1,4 @@
--- What T2 says of every share (`shareOf`, samples/specs/Samples.antt). Definitions only (RULES.md, T2).
+-- What T2 says of every share (`shareOf`, trio_samples/specs/Samples.antt). Definitions only (RULES.md, T2).
 use mathlib.Core.Bool.{true}
 use mathlib.Core.Path.{_≡_}
 use lib.Ieee.{Float, lt, le}

@@ -7,9 +7,9 @@ use crate::write::Out;
 use crate::write::Text;
 use diploid::genotype;
 use diploid::genotype::GenotypeResult;
-use models::model::Mode;
-use models::model::Model;
-use models::state::state_number;
+use diploid_models::model::Mode;
+use diploid_models::model::Model;
+use diploid_models::state::state_number;
 
 struct Three {
     are: [f64; 3],

@@ -18,10 +18,10 @@ fn value(kernel: Kernel, x: f64) -> f64 {
     match kernel {
         Kernel::Ln => kernels::ln::ln(x),
         Kernel::Exp => kernels::exp::exp(x),
-        Kernel::Log10 => tens::log10::log10(x),
-        Kernel::Pow10 => tens::log10::pow10(x),
-        Kernel::Lgamma => gammas::gamma::ln_gamma(x),
-        Kernel::Stirling => stirlings::stirling::stirling(x),
+        Kernel::Log10 => kernels_tens::log10::log10(x),
+        Kernel::Pow10 => kernels_tens::log10::pow10(x),
+        Kernel::Lgamma => kernels_gamma::gamma::ln_gamma(x),
+        Kernel::Stirling => kernels_stirling::stirling::stirling(x),
     }
 }
 
@@ -40,7 +40,7 @@ pub fn binomial(line: &[u8], at: usize, text: &mut Text, out: Out) -> Out {
     if !words::done(line, p.after) {
         return write::unread(text, out);
     }
-    write::float(text, out, binomials::binomial::ln_pmf(k.is, n.is, p.is))
+    write::float(text, out, kernels_gamma::binomial::ln_pmf(k.is, n.is, p.is))
 }
 
 pub fn key(line: &[u8], at: usize, text: &mut Text, out: Out) -> Out {

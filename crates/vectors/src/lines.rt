@@ -6,9 +6,9 @@ use crate::registers::Registers;
 use crate::write;
 use crate::write::Out;
 use crate::write::Text;
-use reading::fields::field;
-use reading::fields::field_end;
-use writing::laying::lay;
+use text_reading::fields::field;
+use text_reading::fields::field_end;
+use text_writing::laying::lay;
 
 // What is kept between two pieces: how many bytes of an unended line have come, the answers that wait, and the registers.
 // A line that does not fit the buffer counts as one byte more than the buffer has, however long it is.

@@ -6,7 +6,7 @@ use crate::words;
 use crate::write;
 use crate::write::Out;
 use crate::write::Text;
-use models::params::Params;
+use mosaic_params::params::Params;
 use mosaic::genotype;
 use mosaic::genotype::MosaicResult;
 

@@ -4,9 +4,9 @@ use crate::words;
 use crate::write;
 use crate::write::Out;
 use crate::write::Text;
-use entries::entry::Entry;
-use entries::held::Held;
-use parts::part::Part;
+use trio_entries::entry::Entry;
+use trio_entries::held::Held;
+use trio_parts::part::Part;
 
 pub type Registers = [Part; 10];
 

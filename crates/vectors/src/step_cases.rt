@@ -7,9 +7,9 @@ use crate::words;
 use crate::write;
 use crate::write::Out;
 use crate::write::Text;
-use closings::closing;
-use parts::part::Part;
-use parts::part::Stepped;
+use trio_closings::closing;
+use trio_parts::part::Part;
+use trio_parts::part::Stepped;
 use trio::merging;
 use trio::rows;
 

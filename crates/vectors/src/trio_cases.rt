@@ -8,15 +8,15 @@ use crate::words;
 use crate::write;
 use crate::write::Out;
 use crate::write::Text;
-use animals::animal;
-use closings::closing::Closed;
-use family::ground;
-use family::pair::Pair;
-use family::sample::Sample;
-use mendel::mendel::distinct_pairs;
-use mendel::mendel::mendelian_prior;
-use opening::opening::open_part;
-use parts::part::Stepped;
+use trio_closings::animal;
+use trio_closings::closing::Closed;
+use trio_family::ground;
+use trio_family::pair::Pair;
+use trio_family::sample::Sample;
+use trio_mendel::mendel::distinct_pairs;
+use trio_mendel::mendel::mendelian_prior;
+use trio_opening::opening::open_part;
+use trio_parts::part::Stepped;
 
 // A pair, and where the next word starts.
 struct ReadPair {
@@ -181,7 +181,7 @@ pub fn call(line: &[u8], at: usize, text: &mut Text, out: Out) -> Out {
     if !words::done(line, input.after) {
         return write::unread(text, out);
     }
-    let answer = desks::call::call(
+    let answer = trio_desks::call::call(
         input.clusters,
         &counts[..input.counts],
         &weights[..input.weights],

@@ -2,9 +2,9 @@
 ghost use mathlib.Core.Path.{_≡_};
 ghost use lib.IntN.{natAbs};
 use libc::STDOUT_FILENO;
-use writing::laying::first_bytes;
-use writing::laying::lay;
-use writing::laying::lay_whole;
+use text_writing::laying::first_bytes;
+use text_writing::laying::lay;
+use text_writing::laying::lay_whole;
 
 pub type Text = [u8; 65536];
 

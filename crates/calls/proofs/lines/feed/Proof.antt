@@ -4,7 +4,7 @@ use mathlib.Core.Path.{_≡_}
 use Prim.Native.Nat.{_≤_, _-_}
 use borrow.Author.Needs.{needs}
 use lib.ListN.{length}
-use Rattle.reading.proofs.FieldLaws.{end-there}
+use Rattle.text_reading.proofs.FieldLaws.{end-there}
 use Rattle.calls.proofs.lines.feed.Statement.{statement}
 use Rattle.calls.proofs.lines.feed.Tie as tie
 

@@ -3,7 +3,7 @@ use native.Mathlib.Omega.{arith}
 use Prim.Native.Nat.{_+_, _≤_, _-_, _<_}
 use borrow.Author.Needs.{needs}
 use lib.ListN.{length}
-use Rattle.reading.proofs.FieldLaws.{end-there}
+use Rattle.text_reading.proofs.FieldLaws.{end-there}
 use Rattle.calls.proofs.numbers.how_many.Statement.{statement}
 use Rattle.calls.proofs.numbers.how_many.Tie as tie
 

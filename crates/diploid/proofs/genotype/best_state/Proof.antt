@@ -5,7 +5,7 @@ use mathlib.Core.Bool.{false, _&&_}
 use lib.Signed.{leZ}
 use borrow.Author.Needs.{needs}
 use Rattle.floats.specs.Key.{keyOf}
-use Rattle.qualities.specs.declared.scores.Scores.{Scores}
+use Rattle.diploid_qualities.specs.declared.scores.Scores.{Scores}
 use Rattle.diploid.specs.Genotype.{winner}
 use Rattle.diploid.proofs.genotype.best_state.Statement.{statement}
 use Rattle.diploid.proofs.genotype.best_state.Tie as tie

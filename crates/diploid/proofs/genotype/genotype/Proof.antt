@@ -3,8 +3,8 @@ use mathlib.Core.Path.{_≡_, sym, _∙_}
 use mathlib.Core.Bool.{true, false}
 use borrow.Author.Needs.{needs}
 use borrow.Author.Tests.{not-true, not-false}
-use Rattle.diploid.specs.Allowed.{modelAllowed}
-use Rattle.tables.specs.Tables.{tableAllowed}
+use Rattle.diploid_models.specs.Allowed.{modelAllowed}
+use Rattle.diploid_tables.specs.Tables.{tableAllowed}
 use Rattle.diploid.specs.Genotype.{genotypeBy}
 use Rattle.diploid.proofs.genotype.genotype.Statement.{statement}
 use Rattle.diploid.proofs.genotype.genotype.Tie as tie

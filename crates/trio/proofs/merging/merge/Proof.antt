@@ -2,7 +2,7 @@
 use mathlib.Core.Bool.{true}
 use mathlib.Core.Path.{_≡_, sym, _∙_}
 use borrow.Author.Needs.{needs}
-use Rattle.shapes.specs.Right.{rightPart}
+use Rattle.trio_parts.specs.Right.{rightPart}
 use Rattle.trio.specs.Steps.{mergeStep}
 use Rattle.trio.proofs.merging.merge.Statement.{statement}
 use Rattle.trio.proofs.merging.merge.Tie as tie

@@ -1,7 +1,7 @@
 -- `trio::rows::best_of` meets its contract. The loop's invariant: offering the positions that are left gives the best two of all.
 use Prim.Native.Nat.{_-_}
-use Rattle.triples.specs.Score.{scoreOf}
-use Rattle.search_laws.proofs.BestCode.{Offering, offering-none, offering-more, offering-all}
+use Rattle.trio_triples.specs.Score.{scoreOf}
+use Rattle.trio_search_laws.proofs.BestCode.{Offering, offering-none, offering-more, offering-all}
 use borrow.Author.Needs.{needs}
 use Rattle.trio.proofs.rows.best_of.Statement.{statement}
 use Rattle.trio.proofs.rows.best_of.Tie as tie

@@ -3,8 +3,8 @@ use mathlib.Core.Bool.{true}
 use mathlib.Core.Path.{_≡_, sym, _∙_}
 use native.Mathlib.Omega.{arith}
 use borrow.Author.Needs.{needs}
-use Rattle.shapes.specs.Right.{rightPart}
-use Rattle.shapes.proofs.RightLaws.{right-input, few-clusters}
+use Rattle.trio_parts.specs.Right.{rightPart}
+use Rattle.trio_parts.proofs.RightLaws.{right-input, few-clusters}
 use Rattle.trio.specs.Steps.{rowsIn}
 use Rattle.trio.proofs.rows.row_count.Statement.{statement}
 use Rattle.trio.proofs.rows.row_count.Tie as tie

@@ -5,12 +5,12 @@ use mathlib.Core.Path.{_≡_, sym, subst, _∙_}
 use native.Mathlib.Omega.{arith}
 use borrow.Author.Needs.{needs}
 use borrow.Author.Tests.{le-ltb}
-use Rattle.parts.specs.Part.{rowCount}
-use Rattle.shapes.specs.Right.{rightPart}
-use Rattle.shapes.proofs.RightLaws.{right-input, few-clusters}
+use Rattle.trio_parts.specs.Part.{rowCount}
+use Rattle.trio_parts.specs.Right.{rightPart}
+use Rattle.trio_parts.proofs.RightLaws.{right-input, few-clusters}
 use Rattle.trio.specs.Steps.{rowStep}
 use Rattle.trio.proofs.RowCode.{row-done}
-use Rattle.family.proofs.GenotypesLaws.{genotypes-few}
+use Rattle.trio_family.proofs.GenotypesLaws.{genotypes-few}
 use Rattle.trio.proofs.rows.work_row.Statement.{statement}
 use Rattle.trio.proofs.rows.work_row.Tie as tie
 

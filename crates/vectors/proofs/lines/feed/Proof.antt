@@ -4,7 +4,7 @@ use mathlib.Core.Path.{_≡_}
 use native.Mathlib.Omega.{arith}
 use lib.ListN.{length}
 use borrow.Author.Needs.{needs}
-use Rattle.reading.proofs.FieldLaws.{end-there}
+use Rattle.text_reading.proofs.FieldLaws.{end-there}
 use Rattle.vectors.proofs.lines.feed.Statement.{statement}
 use Rattle.vectors.proofs.lines.feed.Tie as tie
 

@@ -1,2 +1,0 @@
--- The definitions that the contracts of `alleles` cite.
-pub mod Alleles

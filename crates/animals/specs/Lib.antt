@@ -1,2 +1,0 @@
--- The definition that the contract of `animals` cites.
-pub mod Animal

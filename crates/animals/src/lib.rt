@@ -1,2 +1,0 @@
-// The score of one animal of a part.
-pub mod animal;

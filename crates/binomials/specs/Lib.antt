@@ -1,2 +1,0 @@
--- The definitions that the contracts of `binomials` cite.
-pub mod Binomial

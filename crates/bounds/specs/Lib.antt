@@ -1,2 +1,0 @@
--- What the laws of `bounds` are said over, beside the definitions of the kernels.
-pub mod Tail

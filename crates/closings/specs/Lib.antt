@@ -1,2 +1,0 @@
--- The definitions of `closings`: what closing a part gives.
-pub mod Closing

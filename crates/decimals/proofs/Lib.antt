@@ -1,2 +1,0 @@
--- The laws of `decimals`.
-pub mod DecimalLaws

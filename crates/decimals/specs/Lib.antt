@@ -1,2 +1,0 @@
--- The definitions of `decimals`.
-pub mod Decimals

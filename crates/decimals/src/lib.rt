@@ -1,2 +1,0 @@
-// Decimal numbers, with a point or without.
-pub mod decimals;

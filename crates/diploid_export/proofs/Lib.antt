@@ -1,2 +1,0 @@
--- What belongs to no one function of `diploid_export`.
-pub mod Modes

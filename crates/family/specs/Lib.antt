@@ -1,3 +1,0 @@
--- The definitions of `family`: the genotypes, and the numbers of animals and grounds.
-pub mod Genotypes
-pub mod Numbers

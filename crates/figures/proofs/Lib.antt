@@ -1,2 +1,0 @@
--- The laws of `figures`.
-pub mod FigureLaws

@@ -1,2 +1,0 @@
--- The definitions of `figures`.
-pub mod Figures

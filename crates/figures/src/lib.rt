@@ -1,2 +1,0 @@
-// Figures: a float with two decimals, as text.
-pub mod figures;

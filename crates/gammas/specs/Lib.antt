@@ -1,2 +1,0 @@
--- The definition that the contract of `gammas` cites.
-pub mod Gamma

@@ -1,2 +1,0 @@
--- The definition that the contract of `inputs` cites.
-pub mod Same

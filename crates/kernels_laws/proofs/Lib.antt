@@ -1,0 +1,20 @@
+-- Bounds and signs of the kernels, of log gamma and of the binomial.
+pub mod LnApart
+pub mod LnBounds
+pub mod ExpReduced
+pub mod ExpSeries
+pub mod ExpTimes
+pub mod ExpBounds
+pub mod Log10Bounds
+pub mod TenBounds
+pub mod GammaSteps
+pub mod GammaBounds
+pub mod BinomialBounds
+pub mod LnSigns
+pub mod LnBelow
+pub mod ExpAtMost
+pub mod ExpTail
+pub mod TenAtMost
+pub mod WholeTail
+pub mod LnFar
+pub mod Log10Far

@@ -1,2 +1,0 @@
--- The definitions of `marks`: which rows of a search have been worked.
-pub mod Marks

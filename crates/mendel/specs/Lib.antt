@@ -1,2 +1,0 @@
--- The definitions of `mendel`.
-pub mod Mendel

@@ -1,3 +1,0 @@
--- What belongs to no one function of `merges`.
-pub mod MergedLaws
-pub mod HeldLaws

@@ -1,2 +1,0 @@
--- The definitions of `merges`: what merging holds.
-pub mod Merged

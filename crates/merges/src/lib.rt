@@ -1,2 +1,0 @@
-// Merging what two searches hold.
-pub mod merging;

@@ -1,2 +1,0 @@
--- The definitions that the contracts of `models` cite.
-pub mod Models

@@ -1,0 +1,13 @@
+-- What may differ from one edition of the call to another, and the first edition. Definitions only (RULES.md, M2, M6).
+use mathlib.Core.Bool.{Bool, true}
+use lib.Ieee.{Float}
+use Rattle.kernels_stirling.specs.Stirling.{stirlingOf}
+
+-- the log gamma, and whether the prior counts again after a search, whose value has it already
+pub record Edition : Type 0 where
+  pub lnGamma : Float → Float
+  pub again : Bool
+
+-- the short log gamma, and the prior counts twice where there are somatic alleles
+abbrev pub first : Edition
+first = record { lnGamma = stirlingOf; again = true }

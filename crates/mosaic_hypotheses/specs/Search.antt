@@ -1,0 +1,60 @@
+-- The search for the VAFs of a hypothesis, and its posterior. Definitions only (RULES.md, M1, M5, M6).
+use Prim.Native.Nat.{ℕ}
+use mathlib.Core.Bool.{true, not, _&&_, cond}
+use mathlib.Core.List.{List}
+use lib.ListN.{length, set}
+use lib.Signed.{ltZ}
+use lib.Ieee.{Float, inf, lt}
+use Rattle.floats.specs.F64.{_⊕_, nat, decimal}
+use Rattle.floats.specs.Key.{keyOf}
+use Rattle.lists.specs.Over.{over}
+use Rattle.mosaic_candidates.specs.Shares.{anySomatic, startVafs, observedShare, stepOf}
+use Rattle.mosaic_hypotheses.specs.Edition.{Edition}
+use Rattle.mosaic_alleles.specs.Alleles.{countAt, somaticIn, totalOf}
+use Rattle.mosaic_hypotheses.specs.Likelihood.{likelihoodOf}
+use Rattle.mosaic_hypotheses.specs.Prior.{priorOf}
+use Rattle.mosaic_params.specs.declared.params.Params.{Params}
+use Rattle.mosaic_alleles.specs.declared.pair.Pair.{Pair}
+use Rattle.mosaic_candidates.specs.declared.search.Found.{Found}
+
+-- the VAFs kept so far, by allele, and their value
+pub record Best : Type 0 where
+  pub vafs : List Float
+  pub value : Float
+
+module _ (e : Edition) (p : Params) (counts : List ℕ) (g : Pair) where
+  -- likelihood plus prior
+  abbrev pub valueOf : List Float → Float
+  valueOf vafs = likelihoodOf e counts g vafs ⊕ priorOf e p counts g vafs
+
+  -- the candidate x of allele i, in what is kept so far: strictly larger replaces
+  unfoldable pub tried : ℕ → Float → Best → Best
+  tried i x kept =
+      let vafs = set (kept .vafs) i x in
+      cond (ltZ (keyOf (kept .value)) (keyOf (valueOf vafs))) (record { vafs = vafs; value = valueOf vafs }) kept
+
+  -- a step is a candidate where it is above 0.001
+  abbrev pub triedStep : ℕ → ℕ → Best → Best
+  triedStep i s kept = let x = stepOf (p .highest) s in cond (lt (decimal 1 3) x) (tried i x kept) kept
+
+  -- the candidates of allele i: the observed share, then the steps 0 to 20
+  unfoldable pub searchedAllele : ℕ → Best → Best
+  searchedAllele i kept = over (triedStep i) (tried i (observedShare (countAt counts i) (nat (totalOf counts))) kept) 21
+
+  -- the somatic alleles in rising order, each from what the earlier ones left; the value starts at minus infinity
+  unfoldable pub searchedAll : Best
+  searchedAll = over (λ i kept. cond (somaticIn counts g i) (searchedAllele i kept) kept) (record { vafs = startVafs counts g; value = inf true }) (length counts)
+
+  -- without somatic alleles the value is the likelihood alone
+  abbrev pub bestOf : Best
+  bestOf = cond (anySomatic counts g) searchedAll (record { vafs = startVafs counts g; value = likelihoodOf e counts g (startVafs counts g) })
+
+  -- M6: the posterior is that value plus the prior of what was found; where there are somatic alleles the value has the prior already,
+  -- and the edition says whether it counts again
+  unfoldable pub foundOf : Found
+  foundOf =
+      let best = bestOf in
+      record {
+        vafs = best .vafs;
+        posterior = cond (anySomatic counts g && not (e .again)) (best .value) (best .value ⊕ priorOf e p counts g (best .vafs));
+      }

@@ -1,2 +1,0 @@
--- The laws of `names`.
-pub mod NameLaws

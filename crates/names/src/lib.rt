@@ -1,2 +1,0 @@
-// Text in: names as numbers.
-pub mod names;

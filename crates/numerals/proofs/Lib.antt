@@ -1,2 +1,0 @@
--- The laws of `numerals`.
-pub mod WholeLaws

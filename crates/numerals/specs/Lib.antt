@@ -1,2 +1,0 @@
--- The definitions of `numerals`.
-pub mod Wholes

@@ -1,2 +1,0 @@
-// Whole numbers in decimal.
-pub mod wholes;

@@ -1,2 +1,0 @@
-// Partial results of a trio's search: what they carry.
-pub mod part;

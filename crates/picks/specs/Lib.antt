@@ -1,2 +1,0 @@
--- The definitions that the contracts of `picks` cite.
-pub mod Order

@@ -1,2 +1,0 @@
-// The larger and the smaller of two numbers.
-pub mod order;

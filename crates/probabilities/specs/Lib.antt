@@ -1,4 +1,0 @@
--- The definitions that the contracts of `probabilities` cite.
-pub mod Quality
-pub mod Winner
-pub mod Inner

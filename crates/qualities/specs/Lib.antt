@@ -1,2 +1,0 @@
--- The definitions that the contracts of `qualities` cite.
-pub mod Quality

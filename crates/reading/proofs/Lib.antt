@@ -1,2 +1,0 @@
--- The laws of `reading`.
-pub mod FieldLaws

@@ -1,2 +1,0 @@
--- The definitions of `reading`: fields.
-pub mod Fields

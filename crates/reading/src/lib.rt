@@ -1,2 +1,0 @@
-// Text in: the fields of a line.
-pub mod fields;

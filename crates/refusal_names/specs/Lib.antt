@@ -1,2 +1,0 @@
--- The definition that the contract of `refusal_names` cites.
-pub mod Names

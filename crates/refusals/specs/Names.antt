@@ -1,0 +1,33 @@
+-- The names of the refusals. Definitions only (RULES.md, R0 to R12).
+use Prim.Native.Nat.{ℕ, zero, suc}
+use Prim.Native.Char.{code}
+use Prim.Native.String as text
+use mathlib.Core.List.{List, [], _∷_}
+use Rattle.refusals.specs.declared.Refusal.{Refusal}
+use Rattle.refusals.specs.declared.Refusal.the-variants.{Done, NoCluster, TooMany, Shape, Count, Weight, Model, Table, Row, OtherTrio, NotComplete, NoCall, BadPart}
+
+-- the first n bytes of an ASCII text, zeros where it ends before
+abbrev pub padded : ℕ → text.String → List ℕ
+padded zero s = []
+padded (suc n) text.[] = 0 ∷ padded n text.[]
+padded (suc n) (text._∷_ c s) = code c ∷ padded n s
+
+-- its name
+abbrev pub spelled : Refusal → text.String
+spelled Done = "done"
+spelled NoCluster = "NoCluster"
+spelled TooMany = "TooMany"
+spelled Shape = "Shape"
+spelled Count = "Count"
+spelled Weight = "Weight"
+spelled Model = "Model"
+spelled Table = "Table"
+spelled Row = "Row"
+spelled OtherTrio = "OtherTrio"
+spelled NotComplete = "NotComplete"
+spelled NoCall = "NoCall"
+spelled BadPart = "BadPart"
+
+-- its name as the eleven bytes that the longest has
+abbrev pub nameOf : Refusal → List ℕ
+nameOf r = padded 11 (spelled r)

@@ -1,2 +1,0 @@
--- The definitions that the contracts of `scores` cite.
-pub mod Scores

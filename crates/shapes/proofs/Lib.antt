@@ -1,3 +1,0 @@
--- What belongs to no one function of `shapes`.
-pub mod PlacesLaws
-pub mod RightLaws

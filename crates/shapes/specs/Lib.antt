@@ -1,2 +1,0 @@
--- The definition that the contract of `shapes` cites.
-pub mod Right

@@ -1,2 +1,0 @@
-// The right shape of a partial result.
-pub mod shape;

@@ -1,2 +1,0 @@
--- The definitions that the contract of `sites` cites.
-pub mod Site

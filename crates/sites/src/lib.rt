@@ -1,3 +1,0 @@
-// What is the same for every hypothesis of a mosaic call, worked out once.
-pub mod priors;
-pub mod site;

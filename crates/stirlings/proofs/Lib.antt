@@ -1,2 +1,0 @@
--- What belongs to no one function of `stirlings`: what the proofs share.
-pub mod HalfLnTwoPi

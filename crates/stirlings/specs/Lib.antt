@@ -1,2 +1,0 @@
--- The definitions that the contracts of `stirlings` cite.
-pub mod Stirling

@@ -1,3 +1,0 @@
--- What belongs to no one function of `tables`.
-pub mod TableLaws
-pub mod CalibrationLaws

@@ -1,3 +1,0 @@
--- The definitions that the contracts of `tables` cite.
-pub mod Tables
-pub mod Calibration

@@ -1,0 +1,5 @@
+-- The laws of `text_reading`.
+pub mod DecimalLaws
+pub mod NameLaws
+pub mod WholeLaws
+pub mod FieldLaws

@@ -1,0 +1,160 @@
+-- Whole numbers digit by digit, and what a number of so many digits is. Assumes nothing.
+use mathlib.Core.Path.{_≡_, refl, sym, ap, _∙_, subst}
+use mathlib.Core.Bool.{Bool, true, false, cond, _&&_}
+use mathlib.Core.List.{List, [], _∷_, _++_}
+use Prim.Native.Nat.{ℕ, suc, _+_, _-_, _*_, _^_, _≤_, _<_}
+use native.Mathlib.Nat.{le-trans, lt-of-lt-of-le, zero-lt-suc, zero-add, add-mul, mul-assoc, mul-le-mul-right, pow-succ', pow-le-pow-right}
+use native.Mathlib.Omega.{arith}
+use borrow.Author.Tests.{ltb-true, ltb-false, leb-true, leb-false, lt-ltb, le-ltb}
+use lib.Dec.{T, leb, ltb, leb→le, lit≤}
+use lib.Ieee.Fits.{and-l, and-r}
+use lib.ListN.{length, getD, drop, drop-of-length-le}
+use Rattle.lists.proofs.PlaceLaws.{drop-next}
+use Rattle.lists.specs.Every.{every}
+use Rattle.lists.proofs.EveryLaws.{every-more, every-end}
+use Rattle.text_reading.specs.declared.wholes.Whole.the-variants.{Is, Unread}
+use Rattle.text_reading.specs.Wholes.{isDigit, digits, numberFrom, number, wholeOf, digitOf, grownBy}
+
+never : {n : ℕ} → Unread ≡ Is n → ⊥
+never h = let z : _≡_ {A = ℕ} 0 1 = cc in omega arith
+
+-- ---- one digit more
+
+-- what a byte that goes on says
+pub record Step (n b m : ℕ) : Type 0 where
+  pub digit : isDigit b ≡ true
+  pub grown : m ≡ n * 10 + (b - 48)
+  pub fits : m < 2 ^ 64
+
+pub step-yes : (n b m : ℕ) → grownBy n (digitOf b) ≡ Is m → Step n b m
+unfolding grownBy
+step-yes n b m h = go (isDigit b) refl h
+  where
+    by-tests : (p q : Bool) → isDigit b ≡ true → ltb (n * 10 + (b - 48)) (2 ^ 64) ≡ q → cond (p && q) (Is (n * 10 + (b - 48))) Unread ≡ Is m → Step n b m
+    by-tests true true d l e = let same : m ≡ n * 10 + (b - 48) = cc in record { digit = d; grown = same; fits = rw same (ltb-true _ _ l) }
+    by-tests true false d l e = absurd (never e)
+    by-tests false q d l e = absurd (never e)
+
+    go : (t : Bool) → isDigit b ≡ t → cond (leb (cond t (b - 48) 10) 9 && ltb (n * 10 + cond t (b - 48) 10) (2 ^ 64)) (Is (n * 10 + cond t (b - 48) 10)) Unread ≡ Is m → Step n b m
+    go true d e = by-tests (leb (b - 48) 9) (ltb (n * 10 + (b - 48)) (2 ^ 64)) d refl e
+    go false d e = absurd (never e)
+
+-- more digits make no smaller number
+pub number-grows : (n : ℕ) (l : List ℕ) → n ≤ numberFrom n l
+number-grows n [] = omega arith
+number-grows n (b ∷ l) = let h = number-grows (n * 10 + (b - 48)) l in omega arith
+
+-- a byte that does not go on: no digit, or a number that is too large however the rest goes on
+pub step-no : (n b : ℕ) (l : List ℕ) → grownBy n (digitOf b) ≡ Unread → (every isDigit (b ∷ l) && ltb (numberFrom n (b ∷ l)) (2 ^ 64)) ≡ false
+unfolding grownBy
+step-no n b l h = go (n * 10 + (b - 48)) (leb 48 b) (leb b 57) refl refl h
+  where
+    large : (m : ℕ) (t : Bool) → 2 ^ 64 ≤ m → (t && ltb (numberFrom m l) (2 ^ 64)) ≡ false
+    large m true g = le-ltb (numberFrom m l) (2 ^ 64) (le-trans g (number-grows m l))
+    large m false g = refl
+
+    by-tests : (m : ℕ) (p q : Bool) → leb (b - 48) 9 ≡ p → ltb m (2 ^ 64) ≡ q → b ≤ 57 → cond (p && q) (Is m) Unread ≡ Unread → (every isDigit l && ltb (numberFrom m l) (2 ^ 64)) ≡ false
+    by-tests m true true e g d u = absurd (never (sym u))
+    by-tests m true false e g d u = large m (every isDigit l) (ltb-false m (2 ^ 64) g)
+    by-tests m false q e g d u = let k : 9 < b - 48 = leb-false (b - 48) 9 e in absurd (omega arith)
+
+    go : (m : ℕ) (p q : Bool) → n * 10 + (b - 48) ≡ m → leb b 57 ≡ q → cond (leb (cond (p && q) (b - 48) 10) 9 && ltb (n * 10 + cond (p && q) (b - 48) 10) (2 ^ 64)) (Is (n * 10 + cond (p && q) (b - 48) 10)) Unread ≡ Unread
+        → (((p && q) && every isDigit l) && ltb (numberFrom m l) (2 ^ 64)) ≡ false
+    go m true true z e u = by-tests m (leb (b - 48) 9) (ltb m (2 ^ 64)) refl refl (leb-true b 57 e) (rw z at u)
+    go m true false z e u = refl
+    go m false q z e u = refl
+
+-- ---- what is left from place i on decides
+
+-- the first i bytes are digits and write n
+pub record Read (l : List ℕ) (n i : ℕ) : Type 0 where
+  pub within : i ≤ length l
+  pub all : every isDigit (drop i l) ≡ every isDigit l
+  pub same : numberFrom n (drop i l) ≡ number l
+  pub fits : n < 2 ^ 64
+
+module _ (l : List ℕ) (n i : ℕ) (r : Read l n i) where
+  pub read-on : (m : ℕ) → i < length l → grownBy n (digitOf (getD l i 0)) ≡ Is m → Read l m (i + 1)
+  read-on m h e =
+      let s = step-yes n (getD l i 0) m e in
+      record {
+        within = omega arith;
+        all = every-more isDigit 0 l i h (s .digit) ∙ r .all;
+        same = ap (λ (k : ℕ). numberFrom k (drop (i + 1) l)) (s .grown) ∙ sym (ap (numberFrom n) (drop-next l i 0 h)) ∙ r .same;
+        fits = s .fits;
+      }
+
+  pub read-no : i < length l → grownBy n (digitOf (getD l i 0)) ≡ Unread → Unread ≡ wholeOf l
+  unfolding wholeOf
+  read-no h e =
+      let none : (every isDigit l && ltb (number l) (2 ^ 64)) ≡ false =
+      rw (← r .all, ← r .same, drop-next l i 0 h) (step-no n (getD l i 0) (drop (i + 1) l) e) in
+      refused (ltb 0 (length l)) (every isDigit l) (ltb (number l) (2 ^ 64)) none
+    where
+      refused : (p q t : Bool) → (q && t) ≡ false → Unread ≡ cond ((p && q) && t) (Is (number l)) Unread
+      refused true q t h = rw h
+      refused false q t h = refl
+
+  pub read-end : 0 < length l → length l ≤ i → Is n ≡ wholeOf l
+  unfolding wholeOf
+  read-end p h =
+      let over : drop i l ≡ [] = drop-of-length-le l h in
+      let value : number l ≡ n = sym (r .same) ∙ ap (numberFrom n) over in
+      let good : every isDigit l ≡ true = sym (every-end isDigit 0 l i h ∙ r .all) in
+      rw (lt-ltb 0 (length l) p, good, value, lt-ltb n (2 ^ 64) (r .fits))
+
+-- ---- numbers of so many digits
+
+pub number-shift : (n : ℕ) (l : List ℕ) → numberFrom n l ≡ n * 10 ^ length l + number l
+number-shift n [] = omega arith
+number-shift n (b ∷ l) =
+    let one = number-shift (n * 10 + (b - 48)) l in
+    let two : number (b ∷ l) ≡ (b - 48) * 10 ^ length l + number l = ap (λ (k : ℕ). numberFrom k l) (zero-add (b - 48)) ∙ number-shift (b - 48) l in
+    let split : (n * 10 + (b - 48)) * 10 ^ length l ≡ n * 10 * 10 ^ length l + (b - 48) * 10 ^ length l = add-mul (n * 10) (b - 48) (10 ^ length l) in
+    let power : n * 10 ^ suc (length l) ≡ n * 10 * 10 ^ length l = rw (pow-succ' 10 (length l)) (sym (mul-assoc n 10 (10 ^ length l))) in
+    one ∙ ap (λ (k : ℕ). k + number l) split ∙ joined (n * 10 * 10 ^ length l) ((b - 48) * 10 ^ length l) (number l) ∙ ap (λ (k : ℕ). k + ((b - 48) * 10 ^ length l + number l)) (sym power) ∙ ap (λ (k : ℕ). n * 10 ^ suc (length l) + k) (sym two)
+  where
+    joined : (x y z : ℕ) → x + y + z ≡ x + (y + z)
+    joined x y z = omega arith
+
+pub number-append : (n : ℕ) (w p : List ℕ) → numberFrom n (w ++ p) ≡ numberFrom (numberFrom n w) p
+number-append n [] p = refl
+number-append n (b ∷ w) p = number-append (n * 10 + (b - 48)) w p
+
+pub number-lt : (l : List ℕ) → T (every isDigit l) → number l < 10 ^ length l
+number-lt [] t = omega arith
+number-lt (b ∷ l) t =
+    let few : b - 48 ≤ 9 = less b (leb→le b 57 (and-r (leb 48 b) (leb b 57) (and-l (isDigit b) (every isDigit l) t))) in
+    let rest : number l < 10 ^ length l = number-lt l (and-r (isDigit b) (every isDigit l) t) in
+    let most : (b - 48) * 10 ^ length l ≤ 9 * 10 ^ length l = mul-le-mul-right (10 ^ length l) few in
+    rw (zero-add (b - 48), number-shift (b - 48) l, pow-succ' 10 (length l)) (omega arith)
+  where
+    less : (b : ℕ) → b ≤ 57 → b - 48 ≤ 9
+    less b h = omega arith
+
+-- ---- short numbers are below 2^64
+
+short-number : (l : List ℕ) → length l ≤ 15 → T (every isDigit l) → number l < 2 ^ 64
+short-number l h t = lt-of-lt-of-le (number-lt l t) (le-trans (pow-le-pow-right (zero-lt-suc 9) h) (lit≤ tt))
+
+short-whole : (l : List ℕ) → length l ≤ 15 → wholeOf l ≡ cond (digits l) (Is (number l)) Unread
+unfolding wholeOf
+short-whole l h = go (digits l) refl
+  where
+    go : (t : Bool) → digits l ≡ t → cond (t && ltb (number l) (2 ^ 64)) (Is (number l)) Unread ≡ cond t (Is (number l)) Unread
+    go true e = rw (lt-ltb (number l) (2 ^ 64) (short-number l h (and-r (ltb 0 (length l)) (every isDigit l) (subst T (sym e) tt))))
+    go false e = refl
+
+pub whole-read : (l : List ℕ) (n : ℕ) → length l ≤ 15 → wholeOf l ≡ Is n → (digits l ≡ true) × (n ≡ number l)
+whole-read l n h e = go (digits l) (sym (short-whole l h) ∙ e)
+  where
+    go : (t : Bool) → cond t (Is (number l)) Unread ≡ Is n → (t ≡ true) × (n ≡ number l)
+    go true e = (refl, cc)
+    go false e = absurd (never e)
+
+pub whole-unread : (l : List ℕ) → length l ≤ 15 → wholeOf l ≡ Unread → digits l ≡ false
+whole-unread l h e = go (digits l) (sym (short-whole l h) ∙ e)
+  where
+    go : (t : Bool) → cond t (Is (number l)) Unread ≡ Unread → t ≡ false
+    go true e = absurd (never (sym e))
+    go false e = refl

@@ -1,0 +1,58 @@
+// Whole numbers in decimal (docs/RULES.md, A2).
+ghost use mathlib.Core.Path.{_≡_};
+ghost use Prim.Native.Nat.{_<_};
+ghost use Rattle.text_reading.specs.Wholes.{digitOf, grownBy, wholeOf};
+
+pub enum Whole {
+    Is(u64),
+    Unread,
+}
+
+// The value of a decimal digit; 10 for any other byte.
+fn digit(b: u8) -> u64
+    ensures { λ r. ⌜ r ≡ digitOf b ⌝ }
+{
+    if b < b'0' {
+        return 10;
+    }
+    if b > b'9' {
+        return 10;
+    }
+    (b - b'0') as u64
+}
+
+// A number with one digit more, where it still fits.
+fn grown(n: u64, d: u64) -> Whole
+    ensures { λ r. ⌜ r ≡ grownBy n d ⌝ }
+{
+    if d > 9 {
+        return Whole::Unread;
+    }
+    if n > u64::MAX / 10 {
+        return Whole::Unread;
+    }
+    let tens = n * 10;
+    if d > u64::MAX - tens {
+        return Whole::Unread;
+    }
+    Whole::Is(tens + d)
+}
+
+// A u64 in decimal, with any number of zeros before it.
+pub fn read_whole(field: &[u8]) -> Whole
+    ensures { λ r. ⌜ r ≡ wholeOf (now (field .entry)) ⌝ }
+{
+    if field.len() == 0 {
+        return Whole::Unread;
+    }
+    let mut n: u64 = 0;
+    let mut i = 0;
+    while i < field.len() {
+        let Whole::Is(m) = grown(n, digit(field[i])) else {
+            return Whole::Unread;
+        };
+        n = m;
+        i += 1;
+    }
+    Whole::Is(n)
+}

@@ -1,0 +1,3 @@
+-- The laws of `text_writing`.
+pub mod FigureLaws
+pub mod LayingLaws

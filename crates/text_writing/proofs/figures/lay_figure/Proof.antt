@@ -1,0 +1,105 @@
+-- `text_writing::figures::lay_figure` meets its contract: three texts, one behind the other. Assumes nothing.
+use Prim.Native.Nat.{ℕ, _/_}
+use mathlib.Core.List.{List, [], _∷_}
+use mathlib.Core.Path.{_≡_, sym, ap, _∙_}
+use lib.Seq.{length-take-le}
+use lib.ListN.{length, take}
+use borrow.Author.Needs.{needs}
+use Rattle.text_writing.proofs.LayingLaws.{Laid, behind-it}
+use Rattle.text_writing.proofs.FigureLaws.{sign-short, figure-text}
+use Rattle.text_writing.specs.declared.figures.Figure.the-variants.{TooLarge}
+use Rattle.text_writing.specs.Figures.{figureOf, figureText}
+use Rattle.text_writing.specs.Laying.{laidEnd, laid, wholeText}
+use Rattle.text_writing.proofs.figures.lay_figure.Statement.{statement}
+use Rattle.text_writing.proofs.figures.lay_figure.Tie as tie
+
+hundredths-requires : tie.Need-hundredths-requires
+hundredths-requires c κs = search needs
+
+enum-known-negative : tie.Need-enum-known-negative
+enum-known-negative c = search needs
+
+enum-told : tie.Need-enum-told
+enum-told c = search needs
+
+slice-aggregate-lay : tie.Need-slice-aggregate-lay
+slice-aggregate-lay c = search needs
+
+lay-requires : tie.Need-lay-requires
+lay-requires c κs = search needs
+
+same-length : tie.Need-same-length
+same-length c = search needs
+
+returns : tie.Need-returns
+unfolding figureText
+returns c =
+    let large : figureOf (c .before .before .before .before .before .before .before .before .before .args .x) ≡ TooLarge = sym (c .before .before .before .before .before .before .before .hundredths .ensures) ∙ c .before .before .before .before .before .enum-told .given .1 in
+    let l = c .before .before .lay .ensures in
+    rw large (l .0, l .1)
+
+sign-length-requires : tie.Need-sign-length-requires
+sign-length-requires c κs = search needs
+
+array-share-prefix-minus : tie.Need-array-share-prefix-minus
+array-share-prefix-minus c = sign-short (c .before .before .before .negative .given .0 .0) (c .before .sign-length .result) (c .before .sign-length .ensures)
+
+slice-aggregate-lay-2 : tie.Need-slice-aggregate-lay-2
+slice-aggregate-lay-2 c = sym (length-take-le (c .before .before .sign-length .result) (45 ∷ []) (sign-short (c .before .before .before .before .negative .given .0 .0) (c .before .before .sign-length .result) (c .before .before .sign-length .ensures)))
+
+lay-requires-2 : tie.Need-lay-requires-2
+lay-requires-2 c κs = search needs
+
+lay-whole-requires : tie.Need-lay-whole-requires
+lay-whole-requires c κs = search needs
+
+last-digit-requires : tie.Need-last-digit-requires
+last-digit-requires c κs = search needs
+
+last-digit-requires-2 : tie.Need-last-digit-requires-2
+last-digit-requires-2 c κs = search needs
+
+slice-aggregate-lay-3 : tie.Need-slice-aggregate-lay-3
+slice-aggregate-lay-3 c = search needs
+
+lay-requires-3 : tie.Need-lay-requires-3
+lay-requires-3 c κs = search needs
+
+same-length-2 : tie.Need-same-length-2
+same-length-2 c = search needs
+
+returns-2 : tie.Need-returns-2
+returns-2 c =
+    let a = c .before .before .before .before .before .before .before .before .before .before .before .before .before .before .before .before .before .before .before .before .before .before .args in
+    let f = c .before .before .before .before .before .before .before .before .before .before .before .before .before .before .before .before .before .before .negative .given in
+    let first : Laid (a .text .now) (a .at) (take (c .before .before .before .before .before .before .before .before .before .before .before .before .before .before .before .before .sign-length .result) (45 ∷ [])) (c .before .before .before .before .before .before .before .before .before .before .before .before .before .lay2 .result) (c .before .before .before .before .before .before .before .before .before .before .before .before .before .lay2 .last .0) =
+    record { ends = c .before .before .before .before .before .before .before .before .before .before .before .before .before .lay2 .ensures .0; gives = c .before .before .before .before .before .before .before .before .before .before .before .before .before .lay2 .ensures .1 } in
+    let second = behind-it (wholeText (f .0 .1 .0 / 100)) first (c .before .before .before .before .before .before .before .before .before .lay-whole .ensures .0) (c .before .before .before .before .before .before .before .before .before .lay-whole .ensures .1) in
+    let all = behind-it (46 ∷ c .before .before .before .before .before .before .last-digit .result ∷ c .before .before .before .before .before .last-digit2 .result ∷ []) second (c .before .before .lay3 .ensures .0) (c .before .before .lay3 .ensures .1) in
+    let text =
+    figure-text (f .0 .0) (f .0 .1 .0) (c .before .before .before .before .before .before .before .before .before .before .before .before .before .before .before .before .sign-length .result) (c .before .before .before .before .before .before .last-digit .result) (c .before .before .before .before .before .last-digit2 .result) (c .before .before .before .before .before .before .before .before .before .before .before .before .before .before .before .before .sign-length .ensures) (c .before .before .before .before .before .before .last-digit .ensures) (c .before .before .before .before .before .last-digit2 .ensures)
+    ∙ ap figureText (sym (f .1) ∙ c .before .before .before .before .before .before .before .before .before .before .before .before .before .before .before .before .before .before .before .before .hundredths .ensures) in
+    (all .ends ∙ ap (λ (t : List ℕ). laidEnd (length (a .text .now)) (a .at) (length t)) text, all .gives ∙ ap (laid (a .text .now) (a .at)) text)
+
+pub lay-figure-spec : {M : Type 1} → statement M
+lay-figure-spec =
+    tie.close
+    (tie.spec
+    hundredths-requires
+    enum-known-negative
+    enum-told
+    slice-aggregate-lay
+    lay-requires
+    same-length
+    returns
+    sign-length-requires
+    array-share-prefix-minus
+    slice-aggregate-lay-2
+    lay-requires-2
+    lay-whole-requires
+    last-digit-requires
+    last-digit-requires-2
+    slice-aggregate-lay-3
+    lay-requires-3
+    same-length-2
+    returns-2)

@@ -1,0 +1,2 @@
+-- The definitions that the contract of `trio_c` cites.
+pub mod Trio

@@ -1,0 +1,55 @@
+// The whole call of a trio for callers in other languages: a cluster number and slices in, numbers out (docs/RULES.md, T9, T10).
+// It answers every argument; what the foreign caller answers for is in docs/TRUST.md.
+ghost use mathlib.Core.Path.{_≡_};
+ghost use mathlib.Core.Bool.{cond};
+ghost use Rattle.trio_desks.specs.Call.{callOf};
+ghost use Rattle.trio_c.specs.Trio.{IsCall};
+use trio_family::ground;
+
+// 1 for true.
+fn flag(b: bool) -> u32
+    ensures { λ r. ⌜ r ≡ cond b 1 0 ⌝ }
+{
+    if b { 1 } else { 0 }
+}
+
+// Each cluster has three counts, of child, father and mother. The refusal's number is returned. Written through references: the pairs of child, father
+// and mother, the score, the ground's number, 1 if there is a runner-up and else 0, its position and its score.
+#[no_mangle]
+pub extern "C" fn admulfas_trio(
+    clusters: u64,
+    counts: &[u32],
+    weights: &[f64],
+    pairs: &mut [u64; 6],
+    score: &mut f64,
+    ground: &mut u32,
+    runner: &mut u32,
+    position: &mut u64,
+    second: &mut f64,
+) -> u32
+    ensures { λ r. ⌜ IsCall (callOf «clusters» (now (counts .entry)) (now (weights .entry)))
+        r (now (pairs .exit)) (now (score .exit)) (now (ground .exit)) (now (runner .exit)) (now (position .exit)) (now (second .exit)) ⌝ }
+{
+    let answer = trio_desks::call::call(clusters, counts, weights);
+    let refusal = answer.refusal;
+    let rests_on = answer.ground;
+    let triple = answer.triple;
+    let child = triple.child;
+    let father = triple.father;
+    let mother = triple.mother;
+    *pairs = [
+        child.low,
+        child.high,
+        father.low,
+        father.high,
+        mother.low,
+        mother.high,
+    ];
+    *score = answer.score;
+    *ground = ground::ground_number(rests_on);
+    *runner = flag(answer.has_runner);
+    let next = answer.runner;
+    *position = next.position;
+    *second = next.score;
+    refusals::number(refusal)
+}

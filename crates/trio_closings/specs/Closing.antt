@@ -1,0 +1,71 @@
+-- Closing a part, at every input: the call with its ground, or a refusal; the part is handed back with either. Definitions only (RULES.md, O1, O2, T9, T10).
+use Prim.Native.Nat.{ℕ}
+use mathlib.Core.Bool.{Bool, false, cond, decide, _&&_, _||_}
+use mathlib.Core.List.{List}
+use lib.Dec.{eqb, leb}
+use lib.IntN.{ℤ-discrete}
+use Rattle.floats.specs.F64.{nat}
+use Rattle.floats.specs.Key.{keyOf}
+use Rattle.refusals.specs.declared.Refusal.{Refusal}
+use Rattle.refusals.specs.declared.Refusal.the-variants.{Done, NotComplete, BadPart}
+use Rattle.trio_entries.specs.declared.held.Held.{Held}
+use Rattle.trio_entries.specs.Held.{noEntry}
+use Rattle.trio_search.specs.Marks.{fullMarks}
+use Rattle.trio_family.specs.declared.ground.Ground.{Ground}
+use Rattle.trio_family.specs.declared.ground.Ground.the-variants.{NoGround, Won, Tied, Unread}
+use Rattle.trio_family.specs.declared.sample.Sample.the-variants.{Child, Father, Mother}
+use Rattle.trio_family.specs.Genotypes.{pair}
+use Rattle.trio_parts.specs.declared.part.Part.{Part}
+use Rattle.trio_parts.specs.Part.{rowCount}
+use Rattle.trio_parts.specs.Right.{rightPart}
+use Rattle.trio_samples.specs.Samples.{columnTotal}
+use Rattle.trio_triples.specs.Genotypes.{tripleOf}
+use Rattle.trio_closings.specs.declared.closing.Closed.{Closed}
+
+-- some column sums to 0
+unfoldable pub unread : ℕ → List ℕ → Bool
+unread n counts =
+    eqb (columnTotal n counts Child) 0 || (eqb (columnTotal n counts Father) 0 || eqb (columnTotal n counts Mother) 0)
+
+-- is there a runner-up, and has it the key of the best?
+abbrev pub hasRunner : Held → Bool
+hasRunner h = leb 2 (h .count)
+
+unfoldable pub tied : Held → Bool
+tied h = hasRunner h && decide (ℤ-discrete (keyOf (h .first .score)) (keyOf (h .second .score)))
+
+-- T10: Unread before Tied, Won where neither holds
+unfoldable pub groundOf : ℕ → List ℕ → Held → Ground
+groundOf n counts h = cond (unread n counts) Unread (cond (tied h) Tied Won)
+
+-- T9: the best triple with its score, and the runner-up, or that there is none
+unfoldable pub closedAs : Part → Closed
+closedAs p =
+    let h = p .held in
+    record {
+      refusal = Done;
+      part = p;
+      triple = tripleOf (p .clusters) (h .first .position);
+      score = h .first .score;
+      ground = groundOf (p .clusters) (p .counts) h;
+      «has_runner» = hasRunner h;
+      runner = h .second;
+    }
+
+-- O2: zeros, no ground, no runner-up, and the part
+unfoldable pub refusedClosing : Refusal → Part → Closed
+refusedClosing r p =
+    record {
+      refusal = r;
+      part = p;
+      triple = record { child = pair 0 0; father = pair 0 0; mother = pair 0 0 };
+      score = nat 0;
+      ground = NoGround;
+      «has_runner» = false;
+      runner = noEntry;
+    }
+
+-- O1: a bad part, a row that is not marked; else the call
+unfoldable pub closeStep : Part → Closed
+closeStep p =
+    cond (rightPart p) (cond (eqb (p .marks) (fullMarks (rowCount p))) (closedAs p) (refusedClosing NotComplete p)) (refusedClosing BadPart p)

@@ -1,0 +1,112 @@
+// Closing a part: the call, its score, the runner-up and the ground (docs/RULES.md, T9, T10).
+ghost use mathlib.Core.Path.{_≡_};
+ghost use Rattle.trio_closings.specs.Closing.{groundOf, unread, refusedClosing, closedAs, closeStep};
+use trio_entries::entry::Entry;
+use trio_entries::held::Held;
+use trio_family::genotypes::genotype_count;
+use trio_family::ground::Ground;
+use trio_family::pair::Pair;
+use trio_family::pair::Triple;
+use trio_family::sample::Sample;
+use floats::key::key;
+use trio_search::marks::all_marked;
+use trio_parts::part::Part;
+use refusals::Refusal;
+use trio_samples::samples::column_total;
+use trio_parts::shape::right_part;
+use trio_triples::genotypes::triple_of;
+
+// The call with its score, its ground and the runner-up, if there is one; or a refusal with zeros. The part is handed back in every case.
+pub struct Closed {
+    pub refusal: Refusal,
+    pub part: Part,
+    pub triple: Triple,
+    pub score: f64,
+    pub ground: Ground,
+    pub has_runner: bool,
+    pub runner: Entry,
+}
+
+// Has some animal no reads?
+fn is_unread(n: u64, counts: [u32; 24]) -> bool
+    ensures { λ r. ⌜ r ≡ unread n counts ⌝ }
+{
+    if column_total(n, counts, Sample::Child) == 0 {
+        return true;
+    }
+    if column_total(n, counts, Sample::Father) == 0 {
+        return true;
+    }
+    column_total(n, counts, Sample::Mother) == 0
+}
+
+fn ground_of(n: u64, counts: [u32; 24], h: Held) -> Ground
+    ensures { λ r. ⌜ r ≡ groundOf n counts h ⌝ }
+{
+    if is_unread(n, counts) {
+        return Ground::Unread;
+    }
+    if h.count < 2 {
+        return Ground::Won;
+    }
+    if key(h.first.score) == key(h.second.score) {
+        return Ground::Tied;
+    }
+    Ground::Won
+}
+
+// A refusal with zeros, and the part.
+pub fn refused_closing(refusal: Refusal, p: Part) -> Closed
+    ensures { λ r. ⌜ r ≡ refusedClosing refusal p ⌝ }
+{
+    let none = Pair { low: 0, high: 0 };
+    Closed {
+        refusal,
+        part: p,
+        triple: Triple {
+            child: none,
+            father: none,
+            mother: none,
+        },
+        score: 0.0,
+        ground: Ground::NoGround,
+        has_runner: false,
+        runner: Entry {
+            position: 0,
+            score: 0.0,
+        },
+    }
+}
+
+// What a complete part says.
+fn closed_as(p: Part) -> Closed
+    ensures { λ r. ⌜ r ≡ closedAs p ⌝ }
+{
+    let n = p.clusters;
+    let counts = p.counts;
+    let held = p.held;
+    let first = held.first;
+    let runner = held.second;
+    Closed {
+        refusal: Refusal::Done,
+        part: p,
+        triple: triple_of(n, first.position),
+        score: first.score,
+        ground: ground_of(n, counts, held),
+        has_runner: 2 <= held.count,
+        runner,
+    }
+}
+
+// Close a part: its call if every row is marked, else a refusal.
+pub fn close(p: Part) -> Closed
+    ensures { λ r. ⌜ r ≡ closeStep p ⌝ }
+{
+    if right_part(p) {
+        if all_marked(genotype_count(p.clusters as u32), p.marks) {
+            return closed_as(p);
+        }
+        return refused_closing(Refusal::NotComplete, p);
+    }
+    refused_closing(Refusal::BadPart, p)
+}

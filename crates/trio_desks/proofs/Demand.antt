@@ -1,0 +1,81 @@
+-- D3, for every trio that an opening accepts, and what follows from it for merging.
+use Prim.Native.Nat.{ℕ}
+use mathlib.Core.Bool.{true, false, or-comm, or-assoc, or-self}
+use mathlib.Core.List.{List}
+use mathlib.Core.Logic.{_≢_}
+use mathlib.Core.Path.{_≡_, refl, sym, ap, subst, _∙_}
+use borrow.Author.Tests.{eq-eqb, ne-eqb}
+use lib.Ieee.{Float, isNan}
+use Rattle.refusals.specs.Refusals.{numberOf}
+use Rattle.trio_search.specs.Work.{noWork}
+use Rattle.trio_parts.specs.declared.part.Part.{Part}
+use Rattle.trio_parts.specs.declared.part.Stepped.{Stepped}
+use Rattle.trio_parts.specs.Part.{withWork, freshPart}
+use Rattle.trio_parts.specs.Right.{rightPart}
+use Rattle.trio_parts.proofs.RightLaws.{right-input}
+use Rattle.trio_opening.specs.Opening.{openStep}
+use Rattle.trio.specs.Steps.{scoreIn, rowsIn}
+use Rattle.trio_closings.specs.Closing.{refusedClosing, closeStep}
+use Rattle.trio_desks.specs.Call.{calledBy, callOf, workedTo}
+use Rattle.trio_desks.specs.History.{History, merged, partOf, rowsOf, Promised}
+use Rattle.trio_laws.proofs.Inputs.{scores-numbers}
+use Rattle.trio_desks.proofs.Opening.{Opened, opened-tells, opened-is, fresh-places, fresh-right}
+use Rattle.trio_desks.proofs.Promises.{promised, same-rows}
+use Rattle.trio_desks.proofs.Rising.{rising-closes}
+
+-- an opened part: of the right shape, with no work in it, and its scores are numbers
+pub record Fresh (start : Part) : Type 0 where
+  pub right : rightPart start ≡ true
+  pub no-work : start ≡ withWork start noWork
+  pub numbers : (p : ℕ) → isNan (scoreIn start p) ≡ false
+
+module _ (n : ℕ) (counts : List ℕ) (weights : List Float) where
+  pub fresh : Opened n counts weights → Fresh (freshPart n counts weights)
+  fresh o =
+      let p = freshPart n counts weights in
+      let r = fresh-right n counts weights o in
+      record {
+        right = r;
+        no-work = refl;
+        numbers = scores-numbers p (right-input p r) (fresh-places n counts weights o);
+      }
+
+  module _ (accepted : numberOf (openStep n counts weights .refusal) ≡ 0) where
+    abbrev start : Part
+    start = openStep n counts weights .part
+
+    opened-fresh : Fresh start
+    opened-fresh = subst Fresh (sym (ap (λ (s : Stepped). s .part) (opened-is n counts weights accepted))) (fresh (opened-tells n counts weights accepted))
+
+    -- every history of its parts keeps every promise
+    pub demand-three : (h : History start) → Promised start h
+    demand-three = promised start (opened-fresh .right) (opened-fresh .no-work) (opened-fresh .numbers)
+
+    -- two parts into which the same rows have been worked are the same part
+    pub same-part : (h k : History start) → ((r : ℕ) → rowsOf start h r ≡ rowsOf start k r) → partOf start h ≡ partOf start k
+    same-part = same-rows start (opened-fresh .right) (opened-fresh .no-work) (opened-fresh .numbers)
+
+    -- so merging is free of order, of grouping and of repeats
+    pub merging-commutes : (h k : History start) → partOf start (merged h k) ≡ partOf start (merged k h)
+    unfolding rowsOf
+    merging-commutes h k = same-part (merged h k) (merged k h) (λ r. or-comm (rowsOf start h r) (rowsOf start k r))
+
+    pub merging-associates : (h k l : History start) → partOf start (merged (merged h k) l) ≡ partOf start (merged h (merged k l))
+    unfolding rowsOf
+    merging-associates h k l = same-part (merged (merged h k) l) (merged h (merged k l)) (λ r. or-assoc (rowsOf start h r) (rowsOf start k r) (rowsOf start l r))
+
+    pub merging-with-itself : (h : History start) → partOf start (merged h h) ≡ partOf start h
+    unfolding rowsOf
+    merging-with-itself h = same-part (merged h h) h (λ r. or-self (rowsOf start h r))
+
+    -- with every row worked in rising order, closing gives the call
+    pub worked-call : closeStep (workedTo start (rowsIn start)) ≡ callOf n counts weights
+    unfolding calledBy
+    worked-call =
+        rising-closes start (opened-fresh .right) (opened-fresh .no-work) (opened-fresh .numbers)
+        ∙ rw (eq-eqb (numberOf (openStep n counts weights .refusal)) 0 accepted)
+
+  -- a refused opening is the call
+  pub refused-call : numberOf (openStep n counts weights .refusal) ≢ 0 → refusedClosing (openStep n counts weights .refusal) (openStep n counts weights .part) ≡ callOf n counts weights
+  unfolding calledBy
+  refused-call h = rw (ne-eqb (numberOf (openStep n counts weights .refusal)) 0 h)

@@ -1,0 +1,133 @@
+-- What an opening that is not refused tells, and that the part which it gives has the right shape.
+use Prim.Native.Nat.{ℕ, zero, suc, _*_, _-_, _≤_}
+use mathlib.Core.Bool.{Bool, true, false, not, cond, _&&_}
+use mathlib.Core.List.{List, [], _∷_, _++_}
+use mathlib.Core.Path.{_≡_, refl, sym, ap, _∙_}
+use mathlib.Mathlib.Data.Bool.Basic.{and-elim-left, and-intro, and-elim-right}
+use native.Mathlib.Omega.{arith}
+use borrow.Author.Tests.{eqb-true, eqb-false, ltb-false, le-leb}
+use lib.Dec.{eqb, ltb}
+use lib.ListN.{length, replicate}
+use lib.Ieee.{Float, isNan, toBits, ofInt}
+use Rattle.lists.specs.Lists.{padded}
+use Rattle.lists.proofs.PaddedLaws.{padded-length}
+use Rattle.floats.specs.F64.{nat}
+use Rattle.refusals.specs.declared.Refusal.the-variants.{Done, NoCluster, TooMany, Shape, Count, Weight}
+use Rattle.refusals.specs.Refusals.{numberOf}
+use Rattle.trio_entries.specs.Held.{heldOf}
+use Rattle.trio_search.specs.Shape.{workRight}
+use Rattle.trio_search.specs.Work.{noWork}
+use Rattle.trio_search_laws.proofs.ShapeLaws.{work-right}
+use Rattle.trio_search_laws.proofs.WorkLaws.{none-sound}
+use Rattle.trio_family.proofs.GenotypesLaws.{genotypes-some, genotypes-few}
+use Rattle.trio_parts.specs.declared.part.Stepped.{Stepped}
+use Rattle.trio_family.specs.Genotypes.{genotypeCount}
+use Rattle.limits.specs.Limits.{countAllowed}
+use Rattle.trio_parts.specs.Part.{weightAllowed, freshPart, emptyPart, gives}
+use Rattle.trio_parts.specs.Right.{noCount, noWeight, placesRight, inputRight, rightPart}
+use Rattle.lists.specs.Every.{every}
+use Rattle.trio_opening.specs.Opening.{openStep}
+
+-- ---- what it tells
+
+pub record Opened (n : ℕ) (counts : List ℕ) (weights : List Float) : Type 0 where
+  pub some-clusters : 1 ≤ n
+  pub few-clusters : n ≤ 8
+  pub counts-length : length counts ≡ 3 * n
+  pub weights-length : length weights ≡ n
+  pub counts-allowed : every countAllowed counts ≡ true
+  pub weights-allowed : every weightAllowed weights ≡ true
+
+module _ (n : ℕ) (counts : List ℕ) (weights : List Float) where
+  -- openStep over the outcomes of its five tests
+  abbrev pub chosen : (a b c d e : Bool) → Stepped
+  chosen a b c d e =
+      cond a (gives NoCluster emptyPart) (cond b (gives TooMany emptyPart) (cond (not c) (gives Shape emptyPart)
+      (cond (not d) (gives Count emptyPart) (cond (not e) (gives Weight emptyPart) (gives Done (freshPart n counts weights))))))
+
+  pub record Passed (a b c d e : Bool) : Type 0 where
+    pub no-first : a ≡ false
+    pub no-second : b ≡ false
+    pub third : c ≡ true
+    pub fourth : d ≡ true
+    pub fifth : e ≡ true
+
+  suc-not-zero : {k : ℕ} → suc k ≡ 0 → ⊥
+  suc-not-zero q = omega arith
+
+  passed : (a b c d e : Bool) → numberOf (chosen a b c d e .refusal) ≡ 0 → Passed a b c d e
+  passed true b c d e h = absurd (suc-not-zero h)
+  passed false true c d e h = absurd (suc-not-zero h)
+  passed false false false d e h = absurd (suc-not-zero h)
+  passed false false true false e h = absurd (suc-not-zero h)
+  passed false false true true false h = absurd (suc-not-zero h)
+  passed false false true true true h = record { no-first = refl; no-second = refl; third = refl; fourth = refl; fifth = refl }
+
+  abbrev pub shaped : Bool
+  shaped = eqb (length counts) (3 * n) && eqb (length weights) n
+
+  pub opened-tells : numberOf (openStep n counts weights .refusal) ≡ 0 → Opened n counts weights
+  unfolding openStep
+  opened-tells h =
+      let p = passed (eqb n 0) (ltb 8 n) shaped (every countAllowed counts) (every weightAllowed weights) h in
+      let z = eqb-false n 0 (p .no-first) in
+      record {
+        some-clusters = omega arith;
+        few-clusters = ltb-false 8 n (p .no-second);
+        counts-length = eqb-true (length counts) (3 * n) (and-elim-left (eqb (length counts) (3 * n)) (eqb (length weights) n) (p .third));
+        weights-length = eqb-true (length weights) n (and-elim-right (eqb (length counts) (3 * n)) (eqb (length weights) n) (p .third));
+        counts-allowed = p .fourth;
+        weights-allowed = p .fifth;
+      }
+
+  pub opened-is : numberOf (openStep n counts weights .refusal) ≡ 0 → openStep n counts weights ≡ gives Done (freshPart n counts weights)
+  unfolding openStep
+  opened-is h =
+      let p = passed (eqb n 0) (ltb 8 n) shaped (every countAllowed counts) (every weightAllowed weights) h in
+      rw (p .no-first, p .no-second, p .third, p .fourth, p .fifth)
+
+-- ---- the shape of what it gives
+
+module _ {A : Type 0} (inUse unused : A → Bool) (z : A) (blank : unused z ≡ true) where
+  places-none : (m : ℕ) → placesRight inUse unused 0 (replicate m z) ≡ true
+  places-none zero = refl
+  places-none (suc m) = and-intro blank (places-none m)
+
+  places-front : (l : List A) (m : ℕ) → every inUse l ≡ true → placesRight inUse unused (length l) (l ++ replicate m z) ≡ true
+  places-front [] m a = places-none m
+  places-front (x ∷ l) m a = and-intro (and-elim-left (inUse x) (every inUse l) a) (places-front l m (and-elim-right (inUse x) (every inUse l) a))
+
+  pub places-padded : (k : ℕ) (l : List A) → every inUse l ≡ true → placesRight inUse unused (length l) (padded k z l) ≡ true
+  places-padded k l a = places-front l (k - length l) a
+
+no-weight : noWeight (nat 0) ≡ true
+unfolding toBits ofInt
+no-weight = refl
+
+no-score : (p : ℕ) → isNan (nat 0) ≡ false
+unfolding isNan ofInt
+no-score p = refl
+
+module _ (n : ℕ) (counts : List ℕ) (weights : List Float) (o : Opened n counts weights) where
+  -- no row worked is sound work of any search
+  fresh-work : workRight (genotypeCount n) (noWork .marks) (heldOf (noWork .held)) ≡ true
+  fresh-work =
+      let s = genotypes-some n (o .some-clusters) in
+      let f = genotypes-few n (o .few-clusters) in
+      work-right {score = λ (p : ℕ). nat 0} no-score s (omega arith) none-sound
+
+  pub fresh-places : length (freshPart n counts weights .weights) ≡ 8
+  fresh-places =
+      let f = o .few-clusters in
+      padded-length 8 (nat 0) weights (omega (arith, o .weights-length))
+
+  pub fresh-right : rightPart (freshPart n counts weights) ≡ true
+  unfolding rightPart inputRight
+  fresh-right =
+      and-intro
+      (and-intro (le-leb 1 n (o .some-clusters)) (and-intro (le-leb n 8 (o .few-clusters)) (and-intro
+      (ap (λ (i : ℕ). placesRight countAllowed noCount i (padded 24 0 counts)) (sym (o .counts-length))
+      ∙ places-padded countAllowed noCount 0 refl 24 counts (o .counts-allowed))
+      (ap (λ (i : ℕ). placesRight weightAllowed noWeight i (padded 8 (nat 0) weights)) (sym (o .weights-length))
+      ∙ places-padded weightAllowed noWeight (nat 0) no-weight 8 weights (o .weights-allowed)))))
+      fresh-work

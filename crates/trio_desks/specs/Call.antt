@@ -1,0 +1,34 @@
+-- The call of a whole trio. Definitions only (RULES.md, D2, T5, T9).
+use Prim.Native.Nat.{ℕ, zero, suc}
+use mathlib.Core.Bool.{cond}
+use mathlib.Core.List.{List}
+use lib.Dec.{eqb}
+use lib.Ieee.{Float}
+use Rattle.refusals.specs.Refusals.{numberOf}
+use Rattle.trio_search.specs.Work.{wholeWork}
+use Rattle.trio_closings.specs.declared.closing.Closed.{Closed}
+use Rattle.trio_parts.specs.declared.part.Part.{Part}
+use Rattle.trio_parts.specs.declared.part.Stepped.{Stepped}
+use Rattle.trio_triples.specs.Genotypes.{rowWidth}
+use Rattle.trio_parts.specs.Part.{rowCount, withWork}
+use Rattle.trio_opening.specs.Opening.{openStep}
+use Rattle.trio.specs.Steps.{scoreIn, rowStep}
+use Rattle.trio_closings.specs.Closing.{closedAs, refusedClosing}
+
+-- what one undivided pass over the input of a part says: it keeps the best triple and the best of the rest, a later equal score replacing an earlier one
+abbrev pub onePassCall : Part → Closed
+onePassCall p = closedAs (withWork p (wholeWork (rowCount p) (rowWidth (p .clusters)) (scoreIn p)))
+
+-- what an opening leads to: its refusal, or the one pass over its input
+unfoldable pub calledBy : Stepped → Closed
+calledBy o = cond (eqb (numberOf (o .refusal)) 0) (onePassCall (o .part)) (refusedClosing (o .refusal) (o .part))
+
+abbrev pub callOf : ℕ → List ℕ → List Float → Closed
+callOf n counts weights = calledBy (openStep n counts weights)
+
+-- ---- for the code
+
+-- the part after its first k rows, in rising order
+unfoldable pub workedTo : Part → ℕ → Part
+workedTo p zero = p
+workedTo p (suc k) = rowStep (workedTo p k) k .part

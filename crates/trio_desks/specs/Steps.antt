@@ -1,0 +1,31 @@
+-- The part that is opened, and the steps that take a part, as one kind of thing. Definitions only (RULES.md, O1, O2).
+use Prim.Native.Nat.{ℕ}
+use mathlib.Core.List.{List}
+use lib.Ieee.{Float}
+use Rattle.refusals.specs.declared.Refusal.{Refusal}
+use Rattle.trio_parts.specs.declared.part.Part.{Part}
+use Rattle.trio_opening.specs.Opening.{openStep}
+use Rattle.trio.specs.Steps.{rowStep, mergeStep}
+use Rattle.trio_closings.specs.Closing.{closeStep}
+
+-- T6, O3: the part that opening gives
+abbrev pub openedPart : ℕ → List ℕ → List Float → Part
+openedPart n counts weights = openStep n counts weights .part
+
+-- O1: what can be done with a part: work a row into it, merge another part into it, close it
+pub data Step : Type 0 where
+  work : ℕ → Step
+  mergeWith : Part → Step
+  close : Step
+
+-- O1: how the step is answered
+abbrev pub refusalOf : Step → Part → Refusal
+refusalOf (work r) p = rowStep p r .refusal
+refusalOf (mergeWith q) p = mergeStep p q .refusal
+refusalOf close p = closeStep p .refusal
+
+-- T6, T8, O2: and the part that comes back
+abbrev pub partAfter : Step → Part → Part
+partAfter (work r) p = rowStep p r .part
+partAfter (mergeWith q) p = mergeStep p q .part
+partAfter close p = closeStep p .part

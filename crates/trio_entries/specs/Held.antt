@@ -1,0 +1,24 @@
+-- What a search holds, as a list of at most two entries. Definitions only (RULES.md, T5).
+use Prim.Native.Nat.{ℕ, zero, suc}
+use mathlib.Core.List.{List, [], _∷_}
+use lib.Ieee.{binary64, ofBits}
+use Rattle.trio_entries.specs.declared.entry.Entry.{Entry}
+use Rattle.trio_entries.specs.declared.held.Held.{Held}
+
+abbrev pub noEntry : Entry
+noEntry = record { position = 0; score = ofBits binary64 0 }
+
+-- the entries in use, of two places
+abbrev pub inUse : ℕ → Entry → Entry → List Entry
+inUse zero f s = []
+inUse (suc zero) f s = f ∷ []
+inUse (suc (suc n)) f s = f ∷ s ∷ []
+
+abbrev pub heldList : Held → List Entry
+heldList h = inUse (h .count) (h .first) (h .second)
+
+-- the first two of a list, unused places zero
+abbrev pub heldOf : List Entry → Held
+heldOf [] = record { count = 0; first = noEntry; second = noEntry }
+heldOf (a ∷ []) = record { count = 1; first = a; second = noEntry }
+heldOf (a ∷ b ∷ more) = record { count = 2; first = a; second = b }

@@ -1,2 +1,0 @@
--- The definitions that the contract of `trio_export` cites.
-pub mod Trio

@@ -1,0 +1,3 @@
+-- The definitions of `trio_family`: the genotypes, and the numbers of animals and grounds.
+pub mod Genotypes
+pub mod Numbers

@@ -1,0 +1,23 @@
+// The ground of a call (docs/RULES.md, T10).
+ghost use mathlib.Core.Path.{_≡_};
+ghost use Rattle.trio_family.specs.Numbers.{groundNumber};
+
+// What a call rests on; a refusal has no ground.
+pub enum Ground {
+    NoGround,
+    Won,
+    Tied,
+    Unread,
+}
+
+// The number by which callers in other languages and every text form know a ground.
+pub fn ground_number(g: Ground) -> u32
+    ensures { λ n. ⌜ n ≡ groundNumber g ⌝ }
+{
+    match g {
+        Ground::NoGround => 0,
+        Ground::Won => 1,
+        Ground::Tied => 2,
+        Ground::Unread => 3,
+    }
+}

@@ -1,0 +1,3 @@
+-- What the laws of triples, child pairs and scores are said over.
+pub mod Accepted
+pub mod ChildPairs

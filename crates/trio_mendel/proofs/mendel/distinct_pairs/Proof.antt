@@ -1,0 +1,16 @@
+-- `trio_mendel::mendel::distinct_pairs` meets its contract. Assumes nothing.
+use borrow.Author.Needs.{needs}
+use Rattle.trio_mendel.proofs.mendel.distinct_pairs.Statement.{statement}
+use Rattle.trio_mendel.proofs.mendel.distinct_pairs.Tie as tie
+
+child-pairs-requires : tie.Need-child-pairs-requires
+child-pairs-requires c κs = search needs
+
+cast-result : tie.Need-cast-result
+cast-result c = search needs
+
+returns : tie.Need-returns
+returns c = c .before .child-pairs .ensures .1 .0
+
+pub distinct-pairs-spec : {M : Type 1} → statement M
+distinct-pairs-spec = tie.close (tie.spec child-pairs-requires cast-result returns)

@@ -1,0 +1,2 @@
+-- The definitions of `trio_mendel`.
+pub mod Mendel

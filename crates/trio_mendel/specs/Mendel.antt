@@ -1,0 +1,49 @@
+-- The Mendelian term. Definitions only (RULES.md, T3).
+use Prim.Native.Nat.{ℕ}
+use mathlib.Core.Bool.{Bool, false, cond, _&&_, _||_}
+use mathlib.Core.List.{List, [], _∷_, _++_}
+use lib.Dec.{eqb, leb}
+use lib.ListN.{length, take}
+use lib.Ieee.{Float}
+use Rattle.lists.specs.Lists.{distinctBy}
+use Rattle.floats.specs.F64.{_⊘_, nat, decimal}
+use Rattle.kernels.specs.Ln.{lnOf}
+use Rattle.trio_family.specs.declared.pair.Pair.{Pair}
+use Rattle.trio_family.specs.Genotypes.{pair}
+use Rattle.trio_mendel.specs.declared.mendel.Possible.{Possible}
+
+-- two cluster numbers as a pair, the lower first
+abbrev pub ordered : ℕ → ℕ → Pair
+ordered a b = cond (leb a b) (pair a b) (pair b a)
+
+abbrev pub samePair : Pair → Pair → Bool
+samePair p q = eqb (p .low) (q .low) && eqb (p .high) (q .high)
+
+-- is p in the list?
+abbrev pub among : Pair → List Pair → Bool
+among p [] = false
+among p (q ∷ l) = samePair q p || among p l
+
+-- each pair of a list once, where it first stands
+abbrev pub distinct : List Pair → List Pair
+distinct l = distinctBy samePair l
+
+-- the different pairs of one allele of the father and one of the mother; d is their number
+unfoldable pub childPairs : Pair → Pair → List Pair
+childPairs f m =
+    distinct (ordered (f .low) (m .low) ∷ ordered (f .low) (m .high) ∷ ordered (f .high) (m .low) ∷ ordered (f .high) (m .high) ∷ [])
+
+-- ln(1/d) for a child whose pair is among them, else ln(1e-6)
+unfoldable pub mendelTerm : Pair → Pair → Pair → Float
+mendelTerm c f m =
+    cond (among (ordered (c .low) (c .high)) (childPairs f m)) (lnOf (nat 1 ⊘ nat (length (childPairs f m)))) (lnOf (decimal 1 6))
+
+-- ---- for the code
+
+-- the pairs of a `Possible`
+abbrev pub pairsOf : Possible → List Pair
+pairsOf s = take (s .count) (s .pairs)
+
+-- l with p at its end, unless it has it
+abbrev pub pushed : List Pair → Pair → List Pair
+pushed l p = cond (among p l) l (l ++ (p ∷ []))

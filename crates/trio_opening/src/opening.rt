@@ -1,0 +1,90 @@
+// Opening a trio: its counts and weights, checked and laid into a part (docs/RULES.md, O1, T6).
+ghost use mathlib.Core.Path.{_≡_};
+ghost use Prim.Native.Nat.{_≤_};
+ghost use Rattle.floats.specs.F64.{nat};
+ghost use Rattle.lists.specs.Lists.{padded};
+ghost use Rattle.trio_parts.specs.Part.{freshPart, emptyPart, gives};
+ghost use Rattle.trio_opening.specs.Opening.{openStep};
+ghost use lib.ListN.{length};
+use trio_entries::held::Held;
+use limits::counts::counts_allowed;
+use limits::ranges::all_in;
+use trio_parts::part::Part;
+use trio_parts::part::Stepped;
+use refusals::Refusal;
+
+fn laid_counts(counts: &[u32]) -> [u32; 24]
+    requires { ⌜ length (now counts) ≤ 24 ⌝ }
+    ensures { λ r. ⌜ r ≡ padded 24 0 (now (counts .entry)) ⌝ }
+{
+    let mut laid = [0u32; 24];
+    let mut i: usize = 0;
+    while i < counts.len() {
+        laid[i] = counts[i];
+        i += 1;
+    }
+    laid
+}
+
+fn laid_weights(weights: &[f64]) -> [f64; 8]
+    requires { ⌜ length (now weights) ≤ 8 ⌝ }
+    ensures { λ r. ⌜ r ≡ padded 8 (nat 0) (now (weights .entry)) ⌝ }
+{
+    let mut laid = [0.0f64; 8];
+    let mut i: usize = 0;
+    while i < weights.len() {
+        laid[i] = weights[i];
+        i += 1;
+    }
+    laid
+}
+
+fn refused(refusal: Refusal) -> Stepped
+    ensures { λ r. ⌜ r ≡ gives refusal emptyPart ⌝ }
+{
+    Stepped {
+        refusal,
+        part: Part::empty(),
+    }
+}
+
+fn fresh_part(n: u64, counts: &[u32], weights: &[f64]) -> Part
+    requires { ⌜ (length (now counts) ≤ 24) × (length (now weights) ≤ 8) ⌝ }
+    ensures { λ r. ⌜ r ≡ freshPart n (now (counts .entry)) (now (weights .entry)) ⌝ }
+{
+    Part {
+        clusters: n,
+        counts: laid_counts(counts),
+        weights: laid_weights(weights),
+        marks: 0,
+        held: Held::nothing(),
+    }
+}
+
+// A part of n clusters with no row worked, or the first refusal that holds and a part of all zeros.
+pub fn open_part(n: u64, counts: &[u32], weights: &[f64]) -> Stepped
+    ensures { λ r. ⌜ r ≡ openStep n (now (counts .entry)) (now (weights .entry)) ⌝ }
+{
+    if n == 0 {
+        return refused(Refusal::NoCluster);
+    }
+    if 8 < n {
+        return refused(Refusal::TooMany);
+    }
+    if counts.len() as u64 != 3 * n {
+        return refused(Refusal::Shape);
+    }
+    if weights.len() as u64 != n {
+        return refused(Refusal::Shape);
+    }
+    if !counts_allowed(counts) {
+        return refused(Refusal::Count);
+    }
+    if !all_in(0.0, 1000.0, weights) {
+        return refused(Refusal::Weight);
+    }
+    Stepped {
+        refusal: Refusal::Done,
+        part: fresh_part(n, counts, weights),
+    }
+}

@@ -1,0 +1,20 @@
+-- What the right shape of a part gives.
+use Prim.Native.Nat.{_≤_}
+use mathlib.Core.Bool.{true}
+use mathlib.Core.Path.{_≡_}
+use mathlib.Mathlib.Data.Bool.Basic.{and-elim-left, and-elim-right}
+use borrow.Author.Tests.{leb-true}
+use lib.Dec.{leb}
+use Rattle.trio_search.specs.Shape.{workRight}
+use Rattle.trio_parts.specs.declared.part.Part.{Part}
+use Rattle.trio_parts.specs.Part.{rowCount}
+use Rattle.trio_parts.specs.Right.{inputRight, rightPart}
+
+module _ (p : Part) where
+  pub right-input : rightPart p ≡ true → inputRight p ≡ true
+  unfolding rightPart
+  right-input right = and-elim-left (inputRight p) (workRight (rowCount p) (p .marks) (p .held)) right
+
+  pub few-clusters : inputRight p ≡ true → p .clusters ≤ 8
+  unfolding inputRight
+  few-clusters right = leb-true (p .clusters) 8 (and-elim-left (leb (p .clusters) 8) _ (and-elim-right (leb 1 (p .clusters)) _ right))

@@ -1,0 +1,48 @@
+-- A part: its input and its work. Definitions only (RULES.md, S3, L3).
+use Prim.Native.Nat.{ℕ}
+use mathlib.Core.Bool.{Bool}
+use mathlib.Core.List.{List, []}
+use lib.Ieee.{Float}
+use Rattle.lists.specs.Lists.{padded}
+use Rattle.floats.specs.F64.{nat}
+use Rattle.limits.specs.Limits.{inRange}
+use Rattle.trio_entries.specs.Held.{heldOf, heldList}
+use Rattle.trio_search.specs.Work.{Work, noWork}
+use Rattle.trio_family.specs.Genotypes.{genotypeCount}
+use Rattle.refusals.specs.declared.Refusal.{Refusal}
+use Rattle.trio_parts.specs.declared.part.Part.{Part}
+use Rattle.trio_parts.specs.declared.part.Stepped.{Stepped}
+
+-- ---- the input
+
+-- L3
+unfoldable pub weightAllowed : Float → Bool
+weightAllowed x = inRange (nat 0) (nat 1000) x
+
+-- ---- the work
+
+-- a row is one genotype of the father
+abbrev pub rowCount : Part → ℕ
+rowCount p = genotypeCount (p .clusters)
+
+abbrev pub workIn : Part → Work
+workIn p = record { marks = p .marks; held = heldList (p .held) }
+
+-- the input of p with other work
+abbrev pub withWork : Part → Work → Part
+withWork p v = record { clusters = p .clusters; counts = p .counts; weights = p .weights; marks = v .marks; held = heldOf (v .held) }
+
+-- ---- parts of given lists
+
+-- an input with no row worked, for at most 24 counts and 8 weights
+abbrev pub freshPart : ℕ → List ℕ → List Float → Part
+freshPart n counts weights =
+    record { clusters = n; counts = padded 24 0 counts; weights = padded 8 (nat 0) weights; marks = noWork .marks; held = heldOf (noWork .held) }
+
+-- all zeros: what a refused opening gives
+abbrev pub emptyPart : Part
+emptyPart = freshPart 0 [] []
+
+-- what a step gives
+abbrev pub gives : Refusal → Part → Stepped
+gives r p = record { refusal = r; part = p }

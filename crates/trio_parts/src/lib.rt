@@ -1,0 +1,4 @@
+// Partial results of a trio's search: what they carry, their right shape, and whether two have the same input.
+pub mod input;
+pub mod part;
+pub mod shape;

@@ -1,0 +1,35 @@
+// A partial result: its input, the rows that have been worked, and the best two triples of those rows (docs/RULES.md, S3, F6).
+ghost use mathlib.Core.Path.{_≡_};
+ghost use Rattle.trio_parts.specs.Part.{emptyPart};
+use trio_entries::held::Held;
+use refusals::Refusal;
+
+// Each cluster has three counts, of child, father and mother, and one weight. Places beyond the clusters are zero.
+pub struct Part {
+    pub clusters: u64,
+    pub counts: [u32; 24],
+    pub weights: [f64; 8],
+    pub marks: u64,
+    pub held: Held,
+}
+
+// What a step gives: the part that it made, or a refusal and the part that it was given.
+pub struct Stepped {
+    pub refusal: Refusal,
+    pub part: Part,
+}
+
+impl Part {
+    // The part of all zeros, which every step refuses.
+    pub fn empty() -> Part
+        ensures { λ r. ⌜ r ≡ emptyPart ⌝ }
+    {
+        Part {
+            clusters: 0,
+            counts: [0u32; 24],
+            weights: [0.0f64; 8],
+            marks: 0,
+            held: Held::nothing(),
+        }
+    }
+}

@@ -1,3 +1,0 @@
--- The definitions of `triples`: which triple stands where, and a triple's score.
-pub mod Genotypes
-pub mod Score

@@ -1,2 +1,0 @@
--- The definitions of `writing`: texts laid into a buffer.
-pub mod Laying

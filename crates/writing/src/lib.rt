@@ -1,2 +1,0 @@
-// Text out: bytes laid into a buffer, numbers in decimal.
-pub mod laying;
