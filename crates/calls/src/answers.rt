@@ -1,11 +1,11 @@
 // Answers as text.
 use crate::sites::TAB;
-use trio_family::pair::Pair;
-use trio_family::pair::Triple;
-use text_reading::fields::field;
 use refusals::Refusal;
+use text_reading::fields::field;
 use text_writing::laying::lay;
 use text_writing::laying::lay_whole;
+use trio_family::pair::Pair;
+use trio_family::pair::Triple;
 
 pub fn unreadable(text: &mut [u8], at: usize, number: u64) -> usize {
     let numbered = lay(text, at, b"?\tline ");

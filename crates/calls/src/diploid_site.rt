@@ -8,10 +8,10 @@ use crate::sites::End;
 use crate::sites::TAB;
 use diploid::genotype::GenotypeResult;
 use diploid::genotype::genotype;
-use text_writing::figures::lay_figure;
 use diploid_models::model::Model;
 use diploid_models::state::State;
 use text_reading::fields::next_field;
+use text_writing::figures::lay_figure;
 use text_writing::laying::lay;
 
 // The name of a state between tabs.

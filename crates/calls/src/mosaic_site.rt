@@ -6,14 +6,14 @@ use crate::numbers::how_many;
 use crate::numbers::read_counts;
 use crate::sites::End;
 use crate::sites::TAB;
-use trio_family::pair::Pair;
-use text_writing::figures::lay_figure;
-use mosaic_params::params::Params;
 use mosaic::genotype::MosaicResult;
 use mosaic::genotype::genotype;
+use mosaic_params::params::Params;
 use text_reading::fields::next_field;
+use text_writing::figures::lay_figure;
 use text_writing::laying::lay;
 use text_writing::laying::lay_whole;
+use trio_family::pair::Pair;
 
 // One germline allele is written as a pair of itself.
 fn germline(ploidy: usize, alleles: [usize; 2]) -> Pair {

@@ -4,10 +4,10 @@ ghost use lib.ListN.{length};
 use crate::sites::TAB;
 use text_reading::decimals::Decimal;
 use text_reading::decimals::read_decimal;
-use text_reading::wholes::Whole;
-use text_reading::wholes::read_whole;
 use text_reading::fields::field;
 use text_reading::fields::next_field;
+use text_reading::wholes::Whole;
+use text_reading::wholes::read_whole;
 
 pub enum Count {
     Is(u32),

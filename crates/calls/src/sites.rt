@@ -2,9 +2,9 @@
 use crate::diploid_site::diploid;
 use crate::mosaic_site::mosaic;
 use crate::trio_site::trio;
-use text_reading::names::packed;
 use text_reading::fields::field;
 use text_reading::fields::next_field;
+use text_reading::names::packed;
 
 pub const TAB: u8 = b'\t';
 

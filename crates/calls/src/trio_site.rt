@@ -9,14 +9,14 @@ use crate::numbers::read_weights;
 use crate::numbers::short_whole;
 use crate::sites::End;
 use crate::sites::TAB;
+use text_reading::fields::field;
+use text_reading::fields::next_field;
+use text_reading::wholes::Whole;
+use text_writing::laying::lay;
 use trio_closings::closing::Closed;
 use trio_desks::call::call;
 use trio_family::ground::Ground;
-use text_reading::wholes::Whole;
-use text_reading::fields::field;
-use text_reading::fields::next_field;
 use trio_triples::genotypes::triple_of;
-use text_writing::laying::lay;
 
 // The name of a ground behind a tab, in a row of eight, zeros behind it.
 fn ground(g: Ground) -> [u8; 8] {

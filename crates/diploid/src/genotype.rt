@@ -3,16 +3,16 @@ ghost use mathlib.Core.Path.{_≡_};
 ghost use Rattle.floats.specs.MaxMin.{larger, smaller};
 ghost use Rattle.diploid.specs.Genotype.{winner, blank, called, answered, genotypeOf};
 use diploid_models::allowed::model_allowed;
-use floats::key::at_most;
 use diploid_models::model::Model;
 use diploid_models::state::State;
 use diploid_qualities::quality::genotype_quals;
 use diploid_qualities::scores::Scores;
-use refusals::Refusal;
 use diploid_scores::scores::Scored;
 use diploid_scores::scores::genotype_scores;
 use diploid_tables::allowed::table_allowed;
 use diploid_tables::calibration::calibrate_gq;
+use floats::key::at_most;
+use refusals::Refusal;
 
 // The state, its quality gq and the sample quality sq, or a refusal with zeros.
 pub struct GenotypeResult {

@@ -1,8 +1,8 @@
 // Whether a model is allowed.
 ghost use mathlib.Core.Path.{_≡_};
 ghost use Rattle.diploid_models.specs.Allowed.{modelAllowed};
-use limits::ranges::all_in;
 use crate::model::Model;
+use limits::ranges::all_in;
 
 pub fn model_allowed(model: Model) -> bool
     ensures { λ r. ⌜ r ≡ modelAllowed model ⌝ }

@@ -7,15 +7,15 @@ ghost use Rattle.kernels_gamma.specs.Binomial.{lnChoose, lnPmf};
 ghost use Rattle.floats.specs.MaxMin.{larger};
 ghost use Rattle.diploid_scores.specs.Scores.{fraction, betaLnPmf, betaScore, betaScores, binoScore, binoScores, fullLnFactorial, oneWay, eitherWay, phasedScores, scoresOf, scoredBy};
 use crate::counts::counts_allowed;
+use diploid_models::model::Mode;
+use diploid_models::model::Model;
+use diploid_qualities::scores::Scores;
+use floats::max_min::max;
+use kernels::exp::exp;
+use kernels::ln::ln;
 use kernels_gamma::binomial::ln_choose;
 use kernels_gamma::binomial::ln_pmf_by;
 use kernels_gamma::gamma::ln_gamma;
-use kernels::exp::exp;
-use kernels::ln::ln;
-use diploid_models::model::Mode;
-use diploid_models::model::Model;
-use floats::max_min::max;
-use diploid_qualities::scores::Scores;
 
 // What three counts score: nothing where one is beyond its limit, or where there are no reads.
 pub enum Scored {

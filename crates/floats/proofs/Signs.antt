@@ -149,4 +149,3 @@ mul-not-above (fin true m e) (fin false n d) h p f = round-below-zero (m * up e 
 mul-not-above (fin false m e) (fin false n d) h p f =
     nothing-not-above false (m * up e * (n * up d)) (down e * down d) (mul-pos (down-pos e) (down-pos d))
     (ap (λ (z : ℕ). z * up e * (n * up d)) (eqb→eq m 0 (h .not-above)) ∙ simp zero-mul)
-

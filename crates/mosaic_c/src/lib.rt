@@ -4,9 +4,9 @@ ghost use mathlib.Core.Path.{_≡_};
 ghost use Rattle.refusals.specs.Refusals.{numberOf};
 ghost use Rattle.mosaic.specs.Genotype.{genotypeOf};
 ghost use Rattle.mosaic_c.specs.Mosaic.{paramsOf, IsAnswer};
-use mosaic_params::params::Params;
 use mosaic::genotype;
 use mosaic::genotype::MosaicResult;
+use mosaic_params::params::Params;
 
 fn params_of(alpha: f64, beta: f64, highest: f64, depth: u32) -> Params
     ensures { λ r. ⌜ r ≡ paramsOf alpha beta highest depth ⌝ }

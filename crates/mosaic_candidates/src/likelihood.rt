@@ -5,10 +5,10 @@ ghost use lib.ListN.{length};
 ghost use Rattle.mosaic_candidates.specs.Shares.{massOf, germlineShare};
 ghost use Rattle.mosaic_candidates.specs.Kept.{termAt, likelihoodBy};
 use crate::order::gained;
+use floats::max_min::max;
 use mosaic_alleles::counts::somatic;
 use mosaic_alleles::pair::Pair;
 use mosaic_alleles::pair::alone;
-use floats::max_min::max;
 
 // The somatic VAFs, summed.
 pub(crate) fn mass(counts: &[u32], g: Pair, vafs: [f64; 8]) -> f64

@@ -5,9 +5,9 @@ ghost use lib.ListN.{length};
 ghost use Rattle.mosaic_candidates.specs.Shares.{gainBy};
 ghost use Rattle.mosaic_candidates.specs.Kept.{priorBy};
 use crate::order::gained;
+use kernels::ln::ln;
 use mosaic_alleles::counts::somatic;
 use mosaic_alleles::pair::Pair;
-use kernels::ln::ln;
 use mosaic_shared::priors::Density;
 
 // What a somatic VAF adds.

@@ -11,11 +11,11 @@ use crate::likelihood::mass;
 use crate::order::pick;
 use crate::prior::gain;
 use crate::prior::log_prior;
+use floats::key::below;
+use kernels::ln::ln;
 use mosaic_alleles::counts::somatic;
 use mosaic_alleles::pair::Pair;
 use mosaic_alleles::pair::alone;
-use floats::key::below;
-use kernels::ln::ln;
 use mosaic_shared::shared::Site;
 
 // The VAFs kept so far and their value; for each somatic allele its term of the likelihood and its gain in the prior.

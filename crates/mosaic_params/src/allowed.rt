@@ -1,8 +1,8 @@
 // Whether the parameters are allowed.
 ghost use mathlib.Core.Path.{_≡_};
 ghost use Rattle.mosaic_params.specs.Allowed.{paramsAllowed};
-use limits::ranges::in_range;
 use crate::params::Params;
+use limits::ranges::in_range;
 
 pub fn params_allowed(params: Params) -> bool
     ensures { λ r. ⌜ r ≡ paramsAllowed params ⌝ }

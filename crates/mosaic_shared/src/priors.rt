@@ -3,8 +3,8 @@ ghost use mathlib.Core.Path.{_≡_};
 ghost use Rattle.kernels_stirling.specs.Stirling.{stirlingOf};
 ghost use Rattle.mosaic_shared.specs.Shared.{densityOf, forOne, forTwo};
 use kernels::ln::ln;
-use mosaic_params::params::Params;
 use kernels_stirling::stirling::stirling;
+use mosaic_params::params::Params;
 
 // What a log beta density takes from the parameters, at whatever VAF: two factors and three log gammas.
 pub struct Density {

@@ -5,10 +5,10 @@ use crate::priors::Density;
 use crate::priors::density_of;
 use crate::priors::for_one;
 use crate::priors::for_two;
-use mosaic_alleles::counts::count;
 use kernels::ln::ln;
-use mosaic_params::params::Params;
 use kernels_stirling::stirling::ln_factorial;
+use mosaic_alleles::counts::count;
+use mosaic_params::params::Params;
 
 // The total, its log factorial, each count's log factorial, each count's term at the start, the density's numbers, the highest VAF, and what one
 // and what two germline alleles add to the prior.

@@ -1,5 +1,6 @@
 // The refusals: one enum for every crate, with its numbers and its names.
 pub mod names;
+
 ghost use mathlib.Core.Path.{_≡_};
 ghost use Rattle.refusals.specs.Refusals.{numberOf};
 

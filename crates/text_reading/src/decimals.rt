@@ -2,9 +2,9 @@
 ghost use mathlib.Core.Path.{_≡_};
 ghost use Prim.Native.Nat.{_^_, _≤_};
 ghost use Rattle.text_reading.specs.Decimals.{plainDecimal, pointDecimal, decimalOf};
+use crate::fields::field_end;
 use crate::wholes::Whole;
 use crate::wholes::read_whole;
-use crate::fields::field_end;
 
 pub enum Decimal {
     Is(f64),

@@ -1,5 +1,5 @@
 // Text in: fields, names as numbers, whole numbers, decimal numbers.
 pub mod decimals;
+pub mod fields;
 pub mod names;
 pub mod wholes;
-pub mod fields;

@@ -5,9 +5,9 @@ ghost use lib.ListN.{length};
 ghost use mathlib.Core.Bool.{cond};
 ghost use Rattle.text_writing.specs.Figures.{nearestHundredths, figureOf, figureText};
 ghost use Rattle.text_writing.specs.Laying.{laidEnd, laid, glyphOf};
-use floats::bits::bits;
 use crate::laying::lay;
 use crate::laying::lay_whole;
+use floats::bits::bits;
 
 // Whether the number is negative, and its hundredths; or that it is no number below 2^53 in size.
 pub enum Figure {

@@ -3,11 +3,11 @@ ghost use mathlib.Core.Path.{_≡_};
 ghost use Rattle.trio_search.specs.Work as work;
 ghost use Rattle.trio_parts.specs.Part.{withWork, workIn};
 ghost use Rattle.trio.specs.Steps.{mergeStep};
-use trio_parts::input::same_input;
+use refusals::Refusal;
 use trio_entries::merging::merge_held;
+use trio_parts::input::same_input;
 use trio_parts::part::Part;
 use trio_parts::part::Stepped;
-use refusals::Refusal;
 use trio_parts::shape::right_part;
 
 // The input of `a`, with the work of both.

@@ -7,15 +7,15 @@ ghost use Rattle.trio_parts.specs.Part.{withWork};
 ghost use Rattle.trio_triples.specs.Score.{scoreOf};
 ghost use Rattle.trio.specs.Steps.{rowsIn, rowStep};
 use crate::merging::joined;
+use refusals::Refusal;
 use trio_entries::entry::Entry;
 use trio_entries::held::Held;
 use trio_entries::held::offer;
 use trio_family::genotypes::genotype_count;
-use trio_search::marks::row_marked;
 use trio_parts::part::Part;
 use trio_parts::part::Stepped;
-use refusals::Refusal;
 use trio_parts::shape::right_part;
+use trio_search::marks::row_marked;
 use trio_triples::score::score_at;
 
 // The best two of `many` positions from `from` on.

@@ -1,12 +1,12 @@
 // The score of one animal of a part, for whoever checks a call by hand (docs/RULES.md, T2).
 ghost use mathlib.Core.Path.{_≡_};
 ghost use Rattle.trio_closings.specs.Animal.{sampleStep};
+use refusals::Refusal;
 use trio_family::pair::Pair;
 use trio_family::sample::Sample;
 use trio_parts::part::Part;
-use refusals::Refusal;
-use trio_samples::samples::compute_log_likelihood;
 use trio_parts::shape::right_part;
+use trio_samples::samples::compute_log_likelihood;
 
 // The log likelihood of an animal's reads under a genotype, or a refusal with zero.
 pub struct AnimalScore {

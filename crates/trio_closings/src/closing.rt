@@ -1,6 +1,8 @@
 // Closing a part: the call, its score, the runner-up and the ground (docs/RULES.md, T9, T10).
 ghost use mathlib.Core.Path.{_≡_};
 ghost use Rattle.trio_closings.specs.Closing.{groundOf, unread, refusedClosing, closedAs, closeStep};
+use floats::key::key;
+use refusals::Refusal;
 use trio_entries::entry::Entry;
 use trio_entries::held::Held;
 use trio_family::genotypes::genotype_count;
@@ -8,12 +10,10 @@ use trio_family::ground::Ground;
 use trio_family::pair::Pair;
 use trio_family::pair::Triple;
 use trio_family::sample::Sample;
-use floats::key::key;
-use trio_search::marks::all_marked;
 use trio_parts::part::Part;
-use refusals::Refusal;
-use trio_samples::samples::column_total;
 use trio_parts::shape::right_part;
+use trio_samples::samples::column_total;
+use trio_search::marks::all_marked;
 use trio_triples::genotypes::triple_of;
 
 // The call with its score, its ground and the runner-up, if there is one; or a refusal with zeros. The part is handed back in every case.

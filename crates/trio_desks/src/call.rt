@@ -2,13 +2,13 @@
 ghost use mathlib.Core.Path.{_≡_};
 ghost use Rattle.trio.specs.Steps.{rowsIn};
 ghost use Rattle.trio_desks.specs.Call.{callOf, workedTo};
+use trio::rows::row_count;
+use trio::rows::work_row;
 use trio_closings::closing::Closed;
 use trio_closings::closing::close;
 use trio_closings::closing::refused_closing;
 use trio_opening::opening::open_part;
 use trio_parts::part::Part;
-use trio::rows::row_count;
-use trio::rows::work_row;
 
 // The part with every row worked into it, in rising order.
 fn all_rows(p: Part) -> Part

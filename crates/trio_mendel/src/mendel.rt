@@ -3,8 +3,8 @@ ghost use mathlib.Core.Path.{_≡_};
 ghost use Prim.Native.Nat.{suc, _≤_, _<_};
 ghost use lib.ListN.{length};
 ghost use Rattle.trio_mendel.specs.Mendel.{ordered, samePair, among, childPairs, mendelTerm, pairsOf, pushed};
-use trio_family::pair::Pair;
 use kernels::ln::ln;
+use trio_family::pair::Pair;
 
 // Up to four different pairs: the first `count` of `pairs`.
 struct Possible {

@@ -6,12 +6,12 @@ ghost use Rattle.lists.specs.Lists.{padded};
 ghost use Rattle.trio_parts.specs.Part.{freshPart, emptyPart, gives};
 ghost use Rattle.trio_opening.specs.Opening.{openStep};
 ghost use lib.ListN.{length};
-use trio_entries::held::Held;
 use limits::counts::counts_allowed;
 use limits::ranges::all_in;
+use refusals::Refusal;
+use trio_entries::held::Held;
 use trio_parts::part::Part;
 use trio_parts::part::Stepped;
-use refusals::Refusal;
 
 fn laid_counts(counts: &[u32]) -> [u32; 24]
     requires { ⌜ length (now counts) ≤ 24 ⌝ }

@@ -3,8 +3,8 @@ ghost use mathlib.Core.Path.{_≡_};
 ghost use mathlib.Core.List.{map};
 ghost use lib.Ieee.{binary64, toBits};
 ghost use Rattle.trio_parts.specs.Same.{sameNumbers, sameInput};
-use floats::bits::bits;
 use crate::part::Part;
+use floats::bits::bits;
 
 fn same_counts(a: [u32; 24], b: [u32; 24]) -> bool
     ensures { λ r. ⌜ r ≡ sameNumbers a b ⌝ }

@@ -1,8 +1,8 @@
 // A partial result: its input, the rows that have been worked, and the best two triples of those rows (docs/RULES.md, S3, F6).
 ghost use mathlib.Core.Path.{_≡_};
 ghost use Rattle.trio_parts.specs.Part.{emptyPart};
-use trio_entries::held::Held;
 use refusals::Refusal;
+use trio_entries::held::Held;
 
 // Each cluster has three counts, of child, father and mother, and one weight. Places beyond the clusters are zero.
 pub struct Part {

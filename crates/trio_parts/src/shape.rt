@@ -4,11 +4,11 @@ ghost use mathlib.Core.Bool.{cond};
 ghost use Rattle.limits.specs.Limits.{countAllowed};
 ghost use Rattle.trio_parts.specs.Part.{weightAllowed};
 ghost use Rattle.trio_parts.specs.Right.{noCount, noWeight, placesRight, rightPart};
-use trio_family::genotypes::genotype_count;
+use crate::part::Part;
 use floats::bits::bits;
 use limits::counts::count_allowed;
 use limits::ranges::in_range;
-use crate::part::Part;
+use trio_family::genotypes::genotype_count;
 use trio_search::shape::work_right;
 
 fn count_right(x: u32, in_use: bool) -> bool

@@ -7,10 +7,10 @@ ghost use Rattle.floats.specs.F64.{_⊘_, nat, sumFrom};
 ghost use Rattle.lists.specs.Lists.{numbers};
 ghost use Rattle.trio_samples.specs.Samples.{inUse, reads, sum, columnTotal, impossibleAt, logBinomial, named, expectation};
 ghost use Rattle.trio_samples.specs.Samples.{sampleScore, withLogs};
+use kernels::ln::ln;
 use trio_family::pair::Pair;
 use trio_family::sample::Sample;
 use trio_family::sample::sample_number;
-use kernels::ln::ln;
 
 // How many of n clusters have a place.
 fn in_use(n: u64) -> u64

@@ -7,10 +7,10 @@ ghost use Rattle.trio_entries.specs.Rank.{beatsOf};
 ghost use Rattle.trio_entries.specs.Held.{heldList};
 ghost use Rattle.trio_search.specs.Marks.{isMarked};
 ghost use Rattle.trio_search.specs.Shape.{isNoEntry, unusedZero, heldCount, inMarked, scoredInMarked, listRight, heldRight, workRight};
+use floats::bits::bits;
 use trio_entries::entry::Entry;
 use trio_entries::entry::beats;
 use trio_entries::held::Held;
-use floats::bits::bits;
 
 // Is an unused place zero?
 fn is_no_entry(e: Entry) -> bool

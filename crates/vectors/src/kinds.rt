@@ -12,9 +12,9 @@ use crate::words::SPACE;
 use crate::write;
 use crate::write::Out;
 use crate::write::Text;
-use text_reading::names::packed;
 use text_reading::fields::field;
 use text_reading::fields::next_field;
+use text_reading::names::packed;
 
 // The names, as `packed` has them: their bytes in ASCII.
 const LN: u64 = 0x6c6e;

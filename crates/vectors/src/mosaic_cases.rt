@@ -6,9 +6,9 @@ use crate::words;
 use crate::write;
 use crate::write::Out;
 use crate::write::Text;
-use mosaic_params::params::Params;
 use mosaic::genotype;
 use mosaic::genotype::MosaicResult;
+use mosaic_params::params::Params;
 
 // The parameters, and where the next word starts.
 struct ReadParams {

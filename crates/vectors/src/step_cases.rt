@@ -7,11 +7,11 @@ use crate::words;
 use crate::write;
 use crate::write::Out;
 use crate::write::Text;
+use trio::merging;
+use trio::rows;
 use trio_closings::closing;
 use trio_parts::part::Part;
 use trio_parts::part::Stepped;
-use trio::merging;
-use trio::rows;
 
 // The number of the refusal; what came back from the step goes into register r.
 fn stepped(text: &mut Text, out: Out, registers: Registers, r: usize, step: Stepped) -> Answered {

@@ -1,9 +1,9 @@
 // The words of a line, which one space parts. A word that is not there is read as an empty one, which is no number and no name.
+use text_reading::fields::field;
+use text_reading::fields::next_field;
 use text_reading::names::packed;
 use text_reading::wholes::Whole;
 use text_reading::wholes::read_whole;
-use text_reading::fields::field;
-use text_reading::fields::next_field;
 
 // What parts two words.
 pub const SPACE: u8 = b' ';
