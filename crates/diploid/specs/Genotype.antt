@@ -17,7 +17,7 @@ use Rattle.diploid_tables.specs.Tables.{tableAllowed}
 use Rattle.diploid_models.specs.Allowed.{modelAllowed}
 use Rattle.floats.specs.MaxMin.{Pick, larger, smaller}
 use Rattle.diploid_scores.specs.declared.scores.Scored.{Scored}
-use Rattle.diploid_scores.specs.declared.scores.Scored.the-variants.{Beyond, Unread, Are}
+use Rattle.diploid_scores.specs.declared.scores.Scored.the-variants.{Beyond, NoReads, Are}
 use Rattle.diploid_scores.specs.Scores.{scoredBy}
 use Rattle.diploid_qualities.specs.Quality.{qualsOf}
 use Rattle.diploid_tables.specs.Calibration.{calibrated}
@@ -29,27 +29,27 @@ pub data Wins (s : Scores) : State → Type 0 where
   hom-wins : keyOf (s .homref) ≤ℤ keyOf (s .homalt) → keyOf (s .het) ≤ℤ keyOf (s .homalt) → Wins s Hom
 
 -- the state that wins
-unfoldable pub winner : Scores → State
-winner s =
+unfoldable pub winningState : Scores → State
+winningState s =
     let k0 = keyOf (s .homref) in
     let k1 = keyOf (s .het) in
     let k2 = keyOf (s .homalt) in
     cond (leZ k0 k2 && leZ k1 k2) Hom (cond (leZ k0 k1) Het Ref)
 
 -- a refusal, and a total of zero, carry zeros
-abbrev pub blank : Refusal → GenotypeResult
-blank r = record { refusal = r; state = Non; gq = nat 0; sq = nat 0 }
+abbrev pub blankDiploid : Refusal → GenotypeResult
+blankDiploid r = record { refusal = r; state = Non; gq = nat 0; sq = nat 0 }
 
 -- what the scores make
 unfoldable pub called : Pick → Pick → List Float → Scores → GenotypeResult
 called max min table s =
     let q = qualsOf max min s in
-    record { refusal = Done; state = winner s; gq = calibrated table (q .gq); sq = q .sq }
+    record { refusal = Done; state = winningState s; gq = calibrated table (q .gq); sq = q .sq }
 
 -- R4: a count beyond its limit is refused; G1: without reads the answer is blank; else it is what the scores make
 unfoldable pub answered : Pick → Pick → List Float → Scored → GenotypeResult
-answered max min table Beyond = blank Count
-answered max min table Unread = blank Done
+answered max min table Beyond = blankDiploid Count
+answered max min table NoReads = blankDiploid Done
 answered max min table (Are s) = called max min table s
 
 -- O1: the model is checked first, then the table, then the counts
@@ -58,8 +58,8 @@ genotypeBy max min m table ref alt1 alt2 =
     cond (modelAllowed m)
     (cond (tableAllowed table)
     (answered max min table (scoredBy max m ref alt1 alt2))
-    (blank Table))
-    (blank BadModel)
+    (blankDiploid Table))
+    (blankDiploid BadModel)
 
 -- the answer, by `larger` and `smaller`
 abbrev pub genotypeOf : Model → List Float → ℕ → ℕ → ℕ → GenotypeResult

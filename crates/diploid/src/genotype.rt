@@ -1,7 +1,7 @@
 // The diploid genotype at every input.
 ghost use mathlib.Core.Path.{_≡_};
 ghost use Rattle.floats.specs.MaxMin.{larger, smaller};
-ghost use Rattle.diploid.specs.Genotype.{winner, blank, called, answered, genotypeOf};
+ghost use Rattle.diploid.specs.Genotype.{winningState, blankDiploid, called, answered, genotypeOf};
 use diploid_models::allowed::model_allowed;
 use diploid_models::model::Model;
 use diploid_models::state::State;
@@ -24,7 +24,7 @@ pub struct GenotypeResult {
 
 // The state of the largest score, the later on equality.
 fn best_state(s: Scores) -> State
-    ensures { λ r. ⌜ r ≡ winner s ⌝ }
+    ensures { λ r. ⌜ r ≡ winningState s ⌝ }
 {
     if at_most(s.homref, s.homalt) && at_most(s.het, s.homalt) {
         return State::Hom;
@@ -36,7 +36,7 @@ fn best_state(s: Scores) -> State
 }
 
 fn blank_answer(refusal: Refusal) -> GenotypeResult
-    ensures { λ r. ⌜ r ≡ blank refusal ⌝ }
+    ensures { λ r. ⌜ r ≡ blankDiploid refusal ⌝ }
 {
     GenotypeResult {
         refusal,
@@ -65,7 +65,7 @@ fn answer(table: &[f64], scored: Scored) -> GenotypeResult
 {
     match scored {
         Scored::Beyond => blank_answer(Refusal::Count),
-        Scored::Unread => blank_answer(Refusal::Done),
+        Scored::NoReads => blank_answer(Refusal::Done),
         Scored::Are(scores) => scored_answer(table, scores),
     }
 }

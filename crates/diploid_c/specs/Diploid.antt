@@ -13,7 +13,7 @@ use Rattle.diploid_models.specs.declared.model.Mode.the-variants.{Beta, Bino, P
 use Rattle.diploid_models.specs.declared.model.Model.{Model}
 use Rattle.diploid.specs.declared.genotype.GenotypeResult.{GenotypeResult}
 use Rattle.diploid_models.specs.Models.{stateNumber}
-use Rattle.diploid.specs.Genotype.{blank, genotypeOf}
+use Rattle.diploid.specs.Genotype.{blankDiploid, genotypeOf}
 
 -- the mode of a number; what is above 2 makes no model
 abbrev pub modeOf : ℕ → Mode
@@ -32,7 +32,7 @@ unfoldable pub diploidOf : ℕ → List Float → List Float → List Float → 
 diploidOf mode fractions means precisions table ref alt1 alt2 =
     cond (makesModel mode fractions means precisions)
     (genotypeOf (modelOf mode fractions means precisions) table ref alt1 alt2)
-    (blank BadModel)
+    (blankDiploid BadModel)
 
 -- an answer as four numbers: the refusal's, the state's, gq and sq
 abbrev pub IsNumbers : GenotypeResult → ℕ → ℕ → Float → Float → Type 0

@@ -14,7 +14,7 @@ use Rattle.kernels_tens.specs.Normalised.{wholeOver}
 use Rattle.floats.specs.MaxMin.{Pick, IsMax, IsMin, larger, smaller}
 use Rattle.diploid_qualities.specs.declared.scores.Scores.{Scores}
 use Rattle.diploid_scores.specs.Scores.{EachScore}
-use Rattle.diploid_qualities.specs.Quality.{eachInTens, wholeOf, normalised}
+use Rattle.diploid_qualities.specs.Quality.{eachInTens, wholeOfThree, normalised}
 use Rattle.diploid_laws.proofs.QualityBounds.{in-tens-within, in-tens-fit, whole-steps, whole-within, less-whole}
 use Rattle.floats.proofs.MaxMinLaws.{zero-number, max-alike, min-alike, larger-alike, smaller-alike, larger-number, smaller-number}
 use Rattle.kernels_laws.proofs.TenAtMost.{pow10-alike}
@@ -70,27 +70,27 @@ module _ (max min : Pick) (is-max : IsMax max) (is-min : IsMin min) where
       is-f64 = unfold log10Of in div-fits binary64 (lnOf total) (lnOf (nat 10));
     }
 
-    pub wholes : Alike (wholeOf max l) (wholeOf larger l)
-    unfolding wholeOf wholeOver
+    pub wholes : Alike (wholeOfThree max l) (wholeOfThree larger l)
+    unfolding wholeOfThree wholeOver
     wholes =
         rw (power-same (l .homref) (tens .for-homref), power-same (l .het) (tens .for-het), power-same (l .homalt) (tens .for-homalt))
         (add-alike tops same top-number′ log-number)
 
-    pub whole-number : Number (wholeOf larger l)
+    pub whole-number : Number (wholeOfThree larger l)
     whole-number = record {
       is-finite = whole-within s given .is-finite;
-      is-f64 = unfold wholeOf wholeOver in add-fits binary64 top (log10Of total);
+      is-f64 = unfold wholeOfThree wholeOver in add-fits binary64 top (log10Of total);
     }
 
-    less-number : (x : Float) → Within (2 ^ 45) x → Number (x ⊖ wholeOf larger l)
-    less-number x w = record { is-finite = less-whole s given x w .is-finite; is-f64 = sub-fits binary64 x (wholeOf larger l) }
+    less-number : (x : Float) → Within (2 ^ 45) x → Number (x ⊖ wholeOfThree larger l)
+    less-number x w = record { is-finite = less-whole s given x w .is-finite; is-f64 = sub-fits binary64 x (wholeOfThree larger l) }
 
     normal-alike : (x : Float) → Number x → Within (2 ^ 45) x
-        → Alike (min (x ⊖ wholeOf max l) (nat 0)) (smaller (x ⊖ wholeOf larger l) (nat 0))
+        → Alike (min (x ⊖ wholeOfThree max l) (nat 0)) (smaller (x ⊖ wholeOfThree larger l) (nat 0))
     normal-alike x n w =
         let h = sub-alike same wholes n (alike-number (alike-sym wholes) whole-number) in
         let k = less-number x w in
-        alike-trans (min-alike min is-min (x ⊖ wholeOf max l) (nat 0) (alike-number (alike-sym h) k) zero-number) (smaller-alike h same)
+        alike-trans (min-alike min is-min (x ⊖ wholeOfThree max l) (nat 0) (alike-number (alike-sym h) k) zero-number) (smaller-alike h same)
 
     abbrev n′ : Scores
     n′ = normalised max min l
@@ -108,8 +108,8 @@ module _ (max min : Pick) (is-max : IsMax max) (is-min : IsMin min) where
           hom-alike = alike-sym (normal-alike (l .homalt) (tens .for-homalt) (w .for-homalt));
         }
 
-    normal-number : (x : Float) → Within (2 ^ 45) x → Number (smaller (x ⊖ wholeOf larger l) (nat 0))
-    normal-number x w = smaller-number (x ⊖ wholeOf larger l) (nat 0) (less-number x w) zero-number
+    normal-number : (x : Float) → Within (2 ^ 45) x → Number (smaller (x ⊖ wholeOfThree larger l) (nat 0))
+    normal-number x w = smaller-number (x ⊖ wholeOfThree larger l) (nat 0) (less-number x w) zero-number
 
     pub normal-numbers : EachScore Number n
     unfolding normalised

@@ -24,12 +24,12 @@ use Rattle.diploid_models.specs.declared.model.Model.{Model}
 use Rattle.floats.specs.MaxMin.{larger, smaller}
 use Rattle.diploid_qualities.specs.declared.scores.Scores.{Scores}
 use Rattle.diploid_qualities.specs.declared.quality.Quals.{Quals}
-use Rattle.diploid_qualities.specs.Quality.{listed, eachInTens, wholeOf, normalised, qualsOf}
+use Rattle.diploid_qualities.specs.Quality.{scoreList, eachInTens, wholeOfThree, normalised, qualsOf}
 use Rattle.diploid_scores.specs.declared.scores.Scored.{Scored}
-use Rattle.diploid_scores.specs.declared.scores.Scored.the-variants.{Beyond, Unread, Are}
+use Rattle.diploid_scores.specs.declared.scores.Scored.the-variants.{Beyond, NoReads, Are}
 use Rattle.diploid_scores.specs.Scores.{oneWay, eitherWay, phasedScores, scoresBy, scoredBy}
 use Rattle.diploid_tables.specs.Calibration.{calibrated}
-use Rattle.diploid.specs.Genotype.{winner, called, answered, genotypeBy, genotypeOf}
+use Rattle.diploid.specs.Genotype.{winningState, called, answered, genotypeBy, genotypeOf}
 use Rattle.diploid_laws.specs.Tails.{eitherWayWith, scoresWith, scoredWith, qualsWith, calledWith, genotypeWith}
 
 -- ---- at `expOf` the definitions over an exponential are the rules' own
@@ -45,9 +45,9 @@ unfolding scoredBy
 scored-by-exp m ref alt1 alt2 = rw (scores-by-exp (m .mode) m ref alt1 alt2)
 
 called-by-exp : (table : List Float) (s : Scored) → calledWith expOf table s ≡ answered larger smaller table s
-unfolding answered called qualsOf normalised wholeOf wholeOver pow10Of
+unfolding answered called qualsOf normalised wholeOfThree wholeOver pow10Of
 called-by-exp table Beyond = refl
-called-by-exp table Unread = refl
+called-by-exp table NoReads = refl
 called-by-exp table (Are s) = refl
 
 pub genotype-by-exp : (m : Model) (table : List Float) (ref alt1 alt2 : ℕ)
@@ -79,13 +79,13 @@ module _ (e : Float → Float) (tail : Tail e) where
       rw (either-way-tail (oneWay m ref alt1 alt2 total) (oneWay m ref alt2 alt1 total))
 
   quals-tail : (s : Scores) → qualsWith e s ≡ qualsWith expOf s
-  quals-tail s = rw (whole-tail e tail (listed (eachInTens s)) (lit≤ tt))
+  quals-tail s = rw (whole-tail e tail (scoreList (eachInTens s)) (lit≤ tt))
 
   called-tail : (table : List Float) (s : Scored) → calledWith e table s ≡ calledWith expOf table s
   called-tail table Beyond = refl
-  called-tail table Unread = refl
+  called-tail table NoReads = refl
   called-tail table (Are s) =
-      ap (λ (q : Quals). record { refusal = Done; state = winner s; gq = calibrated table (q .gq); sq = q .sq }) (quals-tail s)
+      ap (λ (q : Quals). record { refusal = Done; state = winningState s; gq = calibrated table (q .gq); sq = q .sq }) (quals-tail s)
 
   pub genotype-tail : (m : Model) (table : List Float) (ref alt1 alt2 : ℕ)
       → genotypeWith e m table ref alt1 alt2 ≡ genotypeOf m table ref alt1 alt2

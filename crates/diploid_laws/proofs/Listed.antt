@@ -4,9 +4,9 @@ use mathlib.Core.List.{map}
 use Rattle.kernels_tens.specs.Normalised.{inTens, normalisedOver}
 use Rattle.floats.specs.MaxMin.{Pick}
 use Rattle.diploid_qualities.specs.declared.scores.Scores.{Scores}
-use Rattle.diploid_qualities.specs.Quality.{listed, eachInTens, wholeOf, normalised}
+use Rattle.diploid_qualities.specs.Quality.{scoreList, eachInTens, wholeOfThree, normalised}
 
 pub normalised-list : (max min : Pick) (s : Scores)
-    → listed (normalised max min (eachInTens s)) ≡ normalisedOver max min (map inTens (listed s))
-unfolding normalised wholeOf eachInTens
+    → scoreList (normalised max min (eachInTens s)) ≡ normalisedOver max min (map inTens (scoreList s))
+unfolding normalised wholeOfThree eachInTens
 normalised-list max min s = refl

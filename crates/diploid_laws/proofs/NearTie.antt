@@ -19,14 +19,14 @@ use Rattle.kernels_tens.specs.Normalised.{wholeOver}
 use Rattle.floats.specs.MaxMin.{larger, smaller}
 use Rattle.diploid_models.specs.declared.state.State.the-variants.{Ref}
 use Rattle.diploid_qualities.specs.declared.scores.Scores.{Scores}
-use Rattle.diploid_qualities.specs.Quality.{qualsOf, gapOf, normalised, wholeOf, eachInTens}
+use Rattle.diploid_qualities.specs.Quality.{qualsOf, gapOf, normalised, wholeOfThree, eachInTens}
 use Rattle.diploid_scores.specs.Scores.{scoresOf, scoresBy, scoredBy, binoScore}
 use Rattle.diploid_models.specs.Allowed.{modelAllowed}
 use Rattle.diploid_tables.specs.Tables.{entries, neverFalling, tableAllowed}
 use Rattle.diploid_tables.specs.Calibration.{calibratedBy}
 use Rattle.diploid.specs.Genotype.{Wins, ref-wins, called, answered, genotypeBy, genotypeOf}
 use Rattle.diploid_laws.specs.Tied.{TiedBest, ref-and-het, ref-and-hom, het-and-hom, nearTie}
-use Rattle.diploid_laws.proofs.WinnerLaws.{winner-only}
+use Rattle.diploid_laws.proofs.WinnerLaws.{state-only}
 
 abbrev scores : Scores
 scores = scoresOf larger nearTie 1 1 0
@@ -41,7 +41,7 @@ unfolding scoresBy binoScore lnPmfBy lnChoose lnGammaOf lnGammaAt gammaSeries ra
 near-won = ref-wins (record { lt = tt }) (record { lt = tt })
 
 pub near-gq : qualsOf larger smaller scores .gq ≡ zeroOf true
-unfolding qualsOf gapOf normalised wholeOf wholeOver eachInTens pow10Of log10Of expOf expBetween expParts expReduced expSeries scoresBy
+unfolding qualsOf gapOf normalised wholeOfThree wholeOver eachInTens pow10Of log10Of expOf expBetween expParts expReduced expSeries scoresBy
     binoScore lnPmfBy lnChoose lnGammaOf lnGammaAt gammaSeries raised lnOf lnPositive lnReduced lnParts lnNearOne exponent significand size
     neg sum add sub mul div round lt le isNan ofInt ofBits
 near-gq = refl
@@ -52,7 +52,7 @@ unfolding genotypeBy answered scoredBy tableAllowed entries neverFalling
 near-answer = rw near-allowed
 
 pub near-state : genotypeOf nearTie [] 1 1 0 .state ≡ Ref
-near-state = rw near-answer (unfold called in winner-only near-won)
+near-state = rw near-answer (unfold called in state-only near-won)
 
 pub near-call : genotypeOf nearTie [] 1 1 0 .gq ≡ zeroOf true
 near-call = rw near-answer (unfold called calibratedBy entries in near-gq)

@@ -10,7 +10,7 @@ use Rattle.floats.specs.Key.{keyOf}
 use Rattle.diploid_qualities.specs.declared.scores.Scores.{Scores}
 use Rattle.diploid_models.specs.declared.state.State.{State}
 use Rattle.diploid_models.specs.declared.state.State.the-variants.{Ref, Het, Hom}
-use Rattle.diploid.specs.Genotype.{winner, Wins, ref-wins, het-wins, hom-wins}
+use Rattle.diploid.specs.Genotype.{winningState, Wins, ref-wins, het-wins, hom-wins}
 use Rattle.floats.proofs.Signed.{above, below-at-most}
 
 -- ---- the tests of whole numbers
@@ -29,9 +29,9 @@ test-fails (negsuc a) (negsuc b) h = lt-leb b a (ltb→lt a b (h .lt))
 
 -- ---- the winner wins, and it alone
 
-pub winner-wins : (s : Scores) → Wins s (winner s)
-unfolding winner
-winner-wins s = go (leZ k0 k2) (leZ k1 k2) (leZ k0 k1) (at-most k0 k2) (above k0 k2) (at-most k1 k2) (above k1 k2) (at-most k0 k1) (above k0 k1)
+pub state-wins : (s : Scores) → Wins s (winningState s)
+unfolding winningState
+state-wins s = go (leZ k0 k2) (leZ k1 k2) (leZ k0 k1) (at-most k0 k2) (above k0 k2) (at-most k1 k2) (above k1 k2) (at-most k0 k1) (above k0 k1)
   where
     k0 : ℤ
     k0 = keyOf (s .homref)
@@ -50,14 +50,14 @@ winner-wins s = go (leZ k0 k2) (leZ k1 k2) (leZ k0 k1) (at-most k0 k2) (above k0
     go false v true a b c d e f = het-wins (e tt) (<ℤ-≤ℤ-trans (b tt) (e tt))
     go false v false a b c d e f = ref-wins (f tt) (b tt)
 
-pub winner-only : {s : Scores} {t : State} → Wins s t → winner s ≡ t
-unfolding winner
-winner-only {s} (ref-wins h k) = rw (test-fails (keyOf (s .homref)) (keyOf (s .homalt)) k, test-fails (keyOf (s .homref)) (keyOf (s .het)) h)
-winner-only {s} (het-wins h k) = rw (test-fails (keyOf (s .het)) (keyOf (s .homalt)) k, and-false, test-holds (keyOf (s .homref)) (keyOf (s .het)) h)
-winner-only {s} (hom-wins h k) = rw (test-holds (keyOf (s .homref)) (keyOf (s .homalt)) h, test-holds (keyOf (s .het)) (keyOf (s .homalt)) k)
+pub state-only : {s : Scores} {t : State} → Wins s t → winningState s ≡ t
+unfolding winningState
+state-only {s} (ref-wins h k) = rw (test-fails (keyOf (s .homref)) (keyOf (s .homalt)) k, test-fails (keyOf (s .homref)) (keyOf (s .het)) h)
+state-only {s} (het-wins h k) = rw (test-fails (keyOf (s .het)) (keyOf (s .homalt)) k, and-false, test-holds (keyOf (s .homref)) (keyOf (s .het)) h)
+state-only {s} (hom-wins h k) = rw (test-holds (keyOf (s .homref)) (keyOf (s .homalt)) h, test-holds (keyOf (s .het)) (keyOf (s .homalt)) k)
 
 -- three equal scores give Hom (RULES.md, X10)
-pub equal-scores : (s : Scores) → keyOf (s .homref) ≡ keyOf (s .homalt) → keyOf (s .het) ≡ keyOf (s .homalt) → winner s ≡ Hom
+pub equal-scores : (s : Scores) → keyOf (s .homref) ≡ keyOf (s .homalt) → keyOf (s .het) ≡ keyOf (s .homalt) → winningState s ≡ Hom
 equal-scores s p q =
     let top = keyOf (s .homalt) in
-    winner-only (hom-wins (subst (λ (k : ℤ). k ≤ℤ top) (sym p) (≤ℤ-refl top)) (subst (λ (k : ℤ). k ≤ℤ top) (sym q) (≤ℤ-refl top)))
+    state-only (hom-wins (subst (λ (k : ℤ). k ≤ℤ top) (sym p) (≤ℤ-refl top)) (subst (λ (k : ℤ). k ≤ℤ top) (sym q) (≤ℤ-refl top)))

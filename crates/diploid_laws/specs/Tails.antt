@@ -17,14 +17,14 @@ use Rattle.limits.specs.Limits.{countAllowed}
 use Rattle.floats.specs.MaxMin.{larger, smaller}
 use Rattle.diploid_qualities.specs.declared.scores.Scores.{Scores}
 use Rattle.diploid_qualities.specs.declared.quality.Quals.{Quals}
-use Rattle.diploid_qualities.specs.Quality.{absolute, listed, eachInTens, minusTen, gapOf}
+use Rattle.diploid_qualities.specs.Quality.{absolute, scoreList, eachInTens, minusTen, gapOf}
 use Rattle.diploid_scores.specs.declared.scores.Scored.{Scored}
-use Rattle.diploid_scores.specs.declared.scores.Scored.the-variants.{Beyond, Unread, Are}
+use Rattle.diploid_scores.specs.declared.scores.Scored.the-variants.{Beyond, NoReads, Are}
 use Rattle.diploid_scores.specs.Scores.{fraction, oneWay, phasedScores, scoresBy}
 use Rattle.diploid_tables.specs.Tables.{tableAllowed}
 use Rattle.diploid_tables.specs.Calibration.{calibrated}
 use Rattle.diploid_models.specs.Allowed.{modelAllowed}
-use Rattle.diploid.specs.Genotype.{winner, blank}
+use Rattle.diploid.specs.Genotype.{winningState, blankDiploid}
 use Rattle.diploid.specs.declared.genotype.GenotypeResult.{GenotypeResult}
 
 -- G2: ln (exp a + exp b), by way of the larger
@@ -48,13 +48,13 @@ scoresWith e Phased m ref alt1 alt2 =
 abbrev pub scoredWith : (Float → Float) → Model → ℕ → ℕ → ℕ → Scored
 scoredWith e m ref alt1 alt2 =
     cond (countAllowed ref && (countAllowed alt1 && countAllowed alt2))
-    (cond (eqb (ref + alt1 + alt2) 0) Unread (Are (scoresWith e (m .mode) m ref alt1 alt2)))
+    (cond (eqb (ref + alt1 + alt2) 0) NoReads (Are (scoresWith e (m .mode) m ref alt1 alt2)))
     Beyond
 
 -- G4: the three less that, and at most 0
 abbrev pub normalisedWith : (Float → Float) → Scores → Scores
 normalisedWith e l =
-    let w = wholeWith e (listed l) in
+    let w = wholeWith e (scoreList l) in
     record { homref = lessWhole smaller w (l .homref); het = lessWhole smaller w (l .het); homalt = lessWhole smaller w (l .homalt) }
 
 -- G4: raw gq and sq
@@ -65,10 +65,10 @@ qualsWith e s =
 
 -- G3, G5: what the scores make
 abbrev pub calledWith : (Float → Float) → List Float → Scored → GenotypeResult
-calledWith e table Beyond = blank Count
-calledWith e table Unread = blank Done
+calledWith e table Beyond = blankDiploid Count
+calledWith e table NoReads = blankDiploid Done
 calledWith e table (Are s) =
-    let q = qualsWith e s in record { refusal = Done; state = winner s; gq = calibrated table (q .gq); sq = q .sq }
+    let q = qualsWith e s in record { refusal = Done; state = winningState s; gq = calibrated table (q .gq); sq = q .sq }
 
 -- O1: the model is checked first, then the table, then the counts
 abbrev pub genotypeWith : (Float → Float) → Model → List Float → ℕ → ℕ → ℕ → GenotypeResult
@@ -76,5 +76,5 @@ genotypeWith e m table ref alt1 alt2 =
     cond (modelAllowed m)
     (cond (tableAllowed table)
     (calledWith e table (scoredWith e m ref alt1 alt2))
-    (blank Table))
-    (blank BadModel)
+    (blankDiploid Table))
+    (blankDiploid BadModel)

@@ -18,21 +18,21 @@ absolute (inf s) = inf false
 absolute (fin s m e) = fin false m e
 
 -- G4: the three, in the order of the states
-abbrev pub listed : Scores → List Float
-listed l = l .homref ∷ l .het ∷ l .homalt ∷ []
+abbrev pub scoreList : Scores → List Float
+scoreList l = l .homref ∷ l .het ∷ l .homalt ∷ []
 
 -- G4: each as a decimal logarithm
 unfoldable pub eachInTens : Scores → Scores
 eachInTens s = record { homref = inTens (s .homref); het = inTens (s .het); homalt = inTens (s .homalt) }
 
 -- G4: log10 of the sum of the three probabilities
-unfoldable pub wholeOf : Pick → Scores → Float
-wholeOf max l = wholeOver max (listed l)
+unfoldable pub wholeOfThree : Pick → Scores → Float
+wholeOfThree max l = wholeOver max (scoreList l)
 
 -- G4: each less that, and at most 0: as a list, the three normalised over a list (`normalised-list`, diploid_laws/proofs/Listed.antt)
 unfoldable pub normalised : Pick → Pick → Scores → Scores
 normalised max min l =
-    let w = wholeOf max l in
+    let w = wholeOfThree max l in
     record { homref = lessWhole min w (l .homref); het = lessWhole min w (l .het); homalt = lessWhole min w (l .homalt) }
 
 -- G4: a quality is −10 times a decimal logarithm
@@ -52,7 +52,7 @@ sorted (x ∷ xs) = insert x (sorted xs)
 
 -- G4: of the three sorted, the second less the first
 unfoldable pub gapOf : Scores → Float
-gapOf n = let best = sorted (listed n) in getD best 1 nan ⊖ getD best 0 nan
+gapOf n = let best = sorted (scoreList n) in getD best 1 nan ⊖ getD best 0 nan
 
 -- G4: sq from the first, raw gq from that difference, both capped at 1000
 unfoldable pub qualsOf : Pick → Pick → Scores → Quals

@@ -1,7 +1,7 @@
 // The qualities gq and sq, from the three scores.
 ghost use mathlib.Core.Path.{_≡_};
 ghost use Rattle.floats.specs.MaxMin.{larger, smaller};
-ghost use Rattle.diploid_qualities.specs.Quality.{absolute, eachInTens, wholeOf, normalised, gapOf, qualsOf};
+ghost use Rattle.diploid_qualities.specs.Quality.{absolute, eachInTens, wholeOfThree, normalised, gapOf, qualsOf};
 use crate::scores::Scores;
 use floats::max_min::max;
 use floats::max_min::min;
@@ -33,7 +33,7 @@ fn in_tens(s: Scores) -> Scores
 
 // log10 of the sum of the three probabilities, by way of the largest, so that no power overflows.
 fn whole(l: Scores) -> f64
-    ensures { λ r. ⌜ r ≡ wholeOf larger l ⌝ }
+    ensures { λ r. ⌜ r ≡ wholeOfThree larger l ⌝ }
 {
     let max_lp = max(max(l.homref, l.het), l.homalt);
     let sum_exp = pow10(l.homref - max_lp) + pow10(l.het - max_lp) + pow10(l.homalt - max_lp);

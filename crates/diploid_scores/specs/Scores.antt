@@ -17,7 +17,7 @@ use Rattle.diploid_models.specs.declared.model.Model.{Model}
 use Rattle.diploid_qualities.specs.declared.scores.Scores.{Scores}
 use Rattle.floats.specs.MaxMin.{Pick}
 use Rattle.diploid_scores.specs.declared.scores.Scored.{Scored}
-use Rattle.diploid_scores.specs.declared.scores.Scored.the-variants.{Beyond, Unread, Are}
+use Rattle.diploid_scores.specs.declared.scores.Scored.the-variants.{Beyond, NoReads, Are}
 
 -- the parameters of a state, 0 Ref, 1 Het, 2 Hom
 abbrev pub fraction : Model → ℕ → Float
@@ -83,7 +83,7 @@ scoresOf max m ref alt1 alt2 = scoresBy max (m .mode) m ref alt1 alt2
 unfoldable pub scoredBy : Pick → Model → ℕ → ℕ → ℕ → Scored
 scoredBy max m ref alt1 alt2 =
     cond (countAllowed ref && (countAllowed alt1 && countAllowed alt2))
-    (cond (eqb (ref + alt1 + alt2) 0) Unread (Are (scoresOf max m ref alt1 alt2)))
+    (cond (eqb (ref + alt1 + alt2) 0) NoReads (Are (scoresOf max m ref alt1 alt2)))
     Beyond
 
 -- ---- for the code

@@ -20,7 +20,7 @@ use kernels_gamma::gamma::ln_gamma;
 // What three counts score: nothing where one is beyond its limit, or where there are no reads.
 pub enum Scored {
     Beyond,
-    Unread,
+    NoReads,
     Are(Scores),
 }
 
@@ -198,7 +198,7 @@ pub fn genotype_scores(model: Model, reference: u32, alt1: u32, alt2: u32) -> Sc
         return Scored::Beyond;
     }
     if reference + alt1 + alt2 == 0 {
-        return Scored::Unread;
+        return Scored::NoReads;
     }
     Scored::Are(scores_by_mode(model, reference, alt1, alt2))
 }

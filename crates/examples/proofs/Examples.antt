@@ -22,7 +22,7 @@ use Rattle.trio_opening.specs.Opening.{openStep}
 use Rattle.trio_desks.specs.Call.{callOf}
 use Rattle.mosaic_params.specs.declared.params.Params.{Params}
 use Rattle.mosaic_params.specs.Allowed.{paramsAllowed}
-use Rattle.mosaic.specs.Genotype.{genotypeBy as mosaicBy, genotypeOf as mosaicOf}
+use Rattle.mosaic.specs.Genotype.{mosaicBy as mosaicBy, mosaicOf as mosaicOf}
 use Rattle.trio_laws.proofs.ChildPairLaws.{one-pair, three-pairs, two-pairs, four-pairs}
 use Rattle.trio_laws.proofs.TripleLaws.{genotype-counts, triple-counts}
 use Rattle.trio_desks.proofs.UnreadCalls.{unread-of, unread-call}

@@ -64,7 +64,7 @@ use Rattle.mosaic_alleles.proofs.counts.count.Reads as allele-count
 use Rattle.mosaic_alleles.proofs.counts.somatic.Reads as somatic
 use Rattle.mosaic_alleles.proofs.counts.total.Reads as total
 use Rattle.mosaic_alleles.proofs.pair.alone.Reads as alone
-use Rattle.mosaic_shared.proofs.shared.site_of.Reads as site-of
+use Rattle.mosaic_shared.proofs.shared.shared_of.Reads as shared-of
 use Rattle.mosaic_candidates.proofs.search.find.Reads as find
 use Rattle.mosaic_hypotheses.proofs.choice.choose.Reads as choose
 use Rattle.mosaic_params.proofs.params.Params.default.Reads as params-default
@@ -324,8 +324,8 @@ total-once κ a v w e f = only
 pub alone-once : OneAnswer alone.Post
 alone-once κ a v w e f = only
 
-pub site-of-once : OneAnswer site-of.Post
-site-of-once κ a v w e f = only
+pub shared-of-once : OneAnswer shared-of.Post
+shared-of-once κ a v w e f = only
 
 pub find-once : OneAnswer find.Post
 find-once κ a v w e f = only

@@ -22,11 +22,11 @@ use Rattle.trio_opening.specs.Opening.{openStep}
 use Rattle.trio_desks.specs.Call.{callOf}
 use Rattle.mosaic_params.specs.declared.params.Params.{Params}
 use Rattle.mosaic_params.specs.Allowed.{paramsAllowed}
-use Rattle.mosaic.specs.Genotype.{genotypeOf as mosaicOf}
+use Rattle.mosaic.specs.Genotype.{mosaicOf as mosaicOf}
 use Rattle.diploid_models.specs.declared.state.State.the-variants.{Hom}
 use Rattle.diploid_qualities.specs.declared.scores.Scores.{Scores}
 use Rattle.diploid_models.specs.Models.{defaultModel}
-use Rattle.diploid.specs.Genotype.{winner, blank, genotypeOf}
+use Rattle.diploid.specs.Genotype.{winningState, blankDiploid, genotypeOf}
 
 -- the call of two clusters whose mother was not read: at the last position, every pair (1,1), and Unread
 pub record LastOfTwo (c : Closed) : Type 0 where
@@ -53,8 +53,8 @@ pub record Examples : Type 0 where
   pub ln-of-one : lnOf (nat 1) ≡ nat 0
   pub exp-of-zero : expOf (nat 0) ≡ nat 1
   -- X9: diploid 0, 0, 0 with the default model and no table is `Non`, with zeros and no refusal
-  pub no-reads : genotypeOf defaultModel [] 0 0 0 ≡ blank Done
+  pub no-reads : genotypeOf defaultModel [] 0 0 0 ≡ blankDiploid Done
   -- X10: three scores of equal keys make Hom
-  pub equal-scores : (s : Scores) → keyOf (s .homref) ≡ keyOf (s .homalt) → keyOf (s .het) ≡ keyOf (s .homalt) → winner s ≡ Hom
+  pub equal-scores : (s : Scores) → keyOf (s .homref) ≡ keyOf (s .homalt) → keyOf (s .het) ≡ keyOf (s .homalt) → winningState s ≡ Hom
   -- X11: mosaic without alleles, at a least depth of 0, has refusal 11
   pub no-alleles : (p : Params) → paramsAllowed p ≡ true → p .depth ≡ 0 → numberOf (mosaicOf p [] .refusal) ≡ 11

@@ -24,7 +24,7 @@ use Rattle.floats.proofs.Zeros.{zero-plus}
 use Rattle.floats.specs.Zeros.{zeroOf}
 use Rattle.kernels.specs.Exp.{nearestWhole, expSeries, expReduced, expParts, expDeep, expBetween, expOf}
 use Rattle.kernels.specs.Ln.{hi, lo}
-use Rattle.kernels.proofs.ExpSteps.{digits, kOf, steps, product-is, steps-at-most, size-by-tests, few-steps, scaled-within, nearest-is}
+use Rattle.kernels.proofs.ExpSteps.{exp-digits, kOf, steps, product-is, steps-at-most, size-by-tests, few-steps, scaled-within, nearest-is}
 use Rattle.kernels.proofs.ExpSteps.{exponent-in-reach, exponent-deep}
 use Rattle.kernels_laws.proofs.ExpReduced.{reduced-under, reduced-over}
 use Rattle.kernels_laws.proofs.ExpSeries.{series-under, series-over, series-more, series-fits}
@@ -265,8 +265,8 @@ module _ (j : ℕ) (l : j ≤ 50) where
       rw (product-is false m e, nearest-is false (m * up e) (down e) (down-pos e) (size-by-tests false m e k (not-most (fin false m e) h)))
       (steps-at-most false (m * up e) (down e) (down-pos e) j (le-trans l (lit≤ tt)) (few (m * up e) (down e) (half-size m e h)))
     where
-      few : (p d : ℕ) → p * 2 ≤ j * d → p * digits * 32 ≤ (32 * j + 15) * (d * 2 ^ 51)
-      few p d h = unfold digits in omega arith
+      few : (p d : ℕ) → p * 2 ≤ j * d → p * exp-digits * 32 ≤ (32 * j + 15) * (d * 2 ^ 51)
+      few p d h = unfold exp-digits in omega arith
 
   parts-within : (x : Float) → isNan x ≡ false → T (le x (ratio j 2)) → lt x least ≡ false → lt most x ≡ false
       → Within (2 ^ suc j) (expParts (kOf x) x)

@@ -14,9 +14,9 @@ use Rattle.lists.specs.Over.{placed}
 use Rattle.floats.specs.MaxMin.{Pick, larger, smaller}
 use Rattle.mosaic_probabilities.specs.Quality.{probabilities, qualityOf}
 use Rattle.mosaic_alleles.specs.Alleles.{totalOf, alone, somaticIn}
-use Rattle.mosaic_alleles.specs.declared.pair.Pair.{Pair}
+use Rattle.mosaic_alleles.specs.declared.pair.GermlinePair.{GermlinePair}
 use Rattle.lists.specs.Lists.{padded}
-use Rattle.mosaic_hypotheses.specs.Edition.{Edition, first}
+use Rattle.mosaic_hypotheses.specs.Edition.{Edition, firstEdition}
 use Rattle.mosaic_hypotheses.specs.Hypotheses.{seenAlleles}
 use Rattle.mosaic_hypotheses.specs.Choice.{chosen}
 use Rattle.mosaic_hypotheses.specs.declared.choice.Choice.{Choice}
@@ -24,8 +24,8 @@ use Rattle.mosaic_params.specs.Allowed.{paramsAllowed}
 use Rattle.mosaic.specs.declared.genotype.MosaicResult.{MosaicResult}
 
 -- a refusal carries zeros
-abbrev pub blank : Refusal → MosaicResult
-blank r = record {
+abbrev pub blankMosaic : Refusal → MosaicResult
+blankMosaic r = record {
   refusal = r;
   ploidy = 0;
   germline = replicate 2 0;
@@ -40,17 +40,17 @@ blank r = record {
 }
 
 -- the germline alleles of a pair: how many, and which
-abbrev pub ploidyOf : Pair → ℕ
+abbrev pub ploidyOf : GermlinePair → ℕ
 ploidyOf g = cond (alone g) 1 2
 
-abbrev pub germlineOf : Pair → List ℕ
+abbrev pub germlineOf : GermlinePair → List ℕ
 germlineOf g = cond (alone g) (g .first ∷ 0 ∷ []) (g .first ∷ g .second ∷ [])
 
 -- which alleles are somatic
-abbrev pub flagsOver : List ℕ → Pair → ℕ → List Bool
+abbrev pub flagsOver : List ℕ → GermlinePair → ℕ → List Bool
 flagsOver counts g = placed (replicate 8 false) (somaticIn counts g)
 
-unfoldable pub flagsOf : List ℕ → Pair → List Bool
+unfoldable pub flagsOf : List ℕ → GermlinePair → List Bool
 flagsOf counts g = flagsOver counts g (length counts)
 
 -- what is read off the hypothesis that wins, beside the probabilities
@@ -73,25 +73,25 @@ answerFrom min counts choice probs = record {
 abbrev pub answerOf : Pick → Pick → List ℕ → Choice → MosaicResult
 answerOf max min counts choice = answerFrom min counts choice (probabilities max min (choice .posteriors) (choice .count))
 
-unfoldable pub calledOf : Pick → Pick → Edition → Params → List ℕ → MosaicResult
-calledOf max min e p counts = answerOf max min counts (chosen e p counts)
+unfoldable pub mosaicCalled : Pick → Pick → Edition → Params → List ℕ → MosaicResult
+mosaicCalled max min e p counts = answerOf max min counts (chosen e p counts)
 
 -- R11: no call of a total below the least depth, or where no allele is seen, which is a total of 0 (`none-seen`,
 -- mosaic_laws/proofs/Answers.antt)
-abbrev pub callOf : Pick → Pick → Edition → Params → List ℕ → MosaicResult
-callOf max min e p counts = cond (ltb (totalOf counts) (p .depth) || eqb (totalOf counts) 0) (blank NoCall) (calledOf max min e p counts)
+abbrev pub mosaicCall : Pick → Pick → Edition → Params → List ℕ → MosaicResult
+mosaicCall max min e p counts = cond (ltb (totalOf counts) (p .depth) || eqb (totalOf counts) 0) (blankMosaic NoCall) (mosaicCalled max min e p counts)
 
 -- O1: too many alleles, then the parameters, then the counts, then R11
-unfoldable pub genotypeBy : Pick → Pick → Edition → Params → List ℕ → MosaicResult
-genotypeBy max min e p counts =
+unfoldable pub mosaicBy : Pick → Pick → Edition → Params → List ℕ → MosaicResult
+mosaicBy max min e p counts =
     cond (leb (length counts) 8)
     (cond (paramsAllowed p)
     (cond (countsAllowed counts)
-    (callOf max min e p counts)
-    (blank Count))
-    (blank Model))
-    (blank TooMany)
+    (mosaicCall max min e p counts)
+    (blankMosaic Count))
+    (blankMosaic Model))
+    (blankMosaic TooMany)
 
 -- the first edition's, by `larger` and `smaller`
-abbrev pub genotypeOf : Params → List ℕ → MosaicResult
-genotypeOf = genotypeBy larger smaller first
+abbrev pub mosaicOf : Params → List ℕ → MosaicResult
+mosaicOf = mosaicBy larger smaller firstEdition

@@ -5,14 +5,14 @@ ghost use Prim.Native.Nat.{_≤_, _<_};
 ghost use lib.ListN.{length};
 ghost use Rattle.limits.specs.Limits.{countsAllowed};
 ghost use Rattle.floats.specs.MaxMin.{larger, smaller};
-ghost use Rattle.mosaic_hypotheses.specs.Edition.{first};
-ghost use Rattle.mosaic.specs.Genotype.{blank, ploidyOf, germlineOf, flagsOf, answerOf, callOf, genotypeOf};
+ghost use Rattle.mosaic_hypotheses.specs.Edition.{firstEdition};
+ghost use Rattle.mosaic.specs.Genotype.{blankMosaic, ploidyOf, germlineOf, flagsOf, answerOf, mosaicCall, mosaicOf};
 ghost use Rattle.mosaic.specs.Inner.{listStep, listedBy};
 use limits::counts::counts_allowed;
 use mosaic_alleles::counts::count;
 use mosaic_alleles::counts::somatic;
 use mosaic_alleles::counts::total;
-use mosaic_alleles::pair::Pair;
+use mosaic_alleles::pair::GermlinePair;
 use mosaic_alleles::pair::alone;
 use mosaic_hypotheses::choice::Choice;
 use mosaic_hypotheses::choice::choose;
@@ -45,7 +45,7 @@ pub struct MosaicResult {
 }
 
 fn blank_answer(refusal: Refusal) -> MosaicResult
-    ensures { λ r. ⌜ r ≡ blank refusal ⌝ }
+    ensures { λ r. ⌜ r ≡ blankMosaic refusal ⌝ }
 {
     MosaicResult {
         refusal,
@@ -63,7 +63,7 @@ fn blank_answer(refusal: Refusal) -> MosaicResult
 }
 
 // How many germline alleles a pair has, and which.
-fn ploidy(g: Pair) -> usize
+fn ploidy(g: GermlinePair) -> usize
     ensures { λ r. ⌜ r ≡ ploidyOf g ⌝ }
 {
     if alone(g) {
@@ -72,7 +72,7 @@ fn ploidy(g: Pair) -> usize
     2
 }
 
-fn germline_alleles(g: Pair) -> [usize; 2]
+fn germline_alleles(g: GermlinePair) -> [usize; 2]
     ensures { λ r. ⌜ r ≡ germlineOf g ⌝ }
 {
     if alone(g) {
@@ -81,7 +81,7 @@ fn germline_alleles(g: Pair) -> [usize; 2]
     [g.first, g.second]
 }
 
-fn flags(counts: &[u32], g: Pair) -> [bool; 8]
+fn flags(counts: &[u32], g: GermlinePair) -> [bool; 8]
     requires { ⌜ length (now counts) ≤ 8 ⌝ }
     ensures { λ r. ⌜ r ≡ flagsOf (now (counts .entry)) g ⌝ }
 {
@@ -157,7 +157,7 @@ fn answer(counts: &[u32], choice: Choice) -> MosaicResult
 
 fn call(params: Params, counts: &[u32]) -> MosaicResult
     requires { ⌜ (length (now counts) ≤ 8) × (countsAllowed (now counts) ≡ true) ⌝ }
-    ensures { λ r. ⌜ r ≡ callOf larger smaller first params (now (counts .entry)) ⌝ }
+    ensures { λ r. ⌜ r ≡ mosaicCall larger smaller firstEdition params (now (counts .entry)) ⌝ }
 {
     let depth = total(counts);
     if depth < params.depth {
@@ -171,7 +171,7 @@ fn call(params: Params, counts: &[u32]) -> MosaicResult
 
 // The germline alleles, somatic VAFs and quality of up to eight counts, or the first refusal that holds.
 pub fn genotype(params: Params, counts: &[u32]) -> MosaicResult
-    ensures { λ r. ⌜ r ≡ genotypeOf params (now (counts .entry)) ⌝ }
+    ensures { λ r. ⌜ r ≡ mosaicOf params (now (counts .entry)) ⌝ }
 {
     if counts.len() > 8 {
         return blank_answer(Refusal::TooMany);

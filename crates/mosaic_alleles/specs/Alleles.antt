@@ -6,7 +6,7 @@ use lib.Dec.{leb, ltb, eqb}
 use lib.ListN.{length, getD}
 use Rattle.limits.specs.Limits.{countsAllowed}
 use Rattle.lists.specs.Over.{over}
-use Rattle.mosaic_alleles.specs.declared.pair.Pair.{Pair}
+use Rattle.mosaic_alleles.specs.declared.pair.GermlinePair.{GermlinePair}
 
 -- the count of an allele; an allele beyond the counts has none
 abbrev pub countAt : List ℕ → ℕ → ℕ
@@ -28,15 +28,15 @@ abbrev pub seenIn : List ℕ → ℕ → Bool
 seenIn counts i = ltb 0 (countAt counts i)
 
 -- the germline alleles of a hypothesis: two, or one where both numbers are its own
-abbrev pub pair : ℕ → ℕ → Pair
-pair i j = record { first = i; second = j }
+abbrev pub twoAlleles : ℕ → ℕ → GermlinePair
+twoAlleles i j = record { first = i; second = j }
 
-abbrev pub alone : Pair → Bool
+abbrev pub alone : GermlinePair → Bool
 alone g = eqb (g .first) (g .second)
 
-abbrev pub germlineIn : Pair → ℕ → Bool
+abbrev pub germlineIn : GermlinePair → ℕ → Bool
 germlineIn g i = eqb i (g .first) || eqb i (g .second)
 
 -- every other allele that is seen is somatic
-abbrev pub somaticIn : List ℕ → Pair → ℕ → Bool
+abbrev pub somaticIn : List ℕ → GermlinePair → ℕ → Bool
 somaticIn counts g i = seenIn counts i && not (germlineIn g i)

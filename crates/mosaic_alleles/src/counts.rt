@@ -5,7 +5,7 @@ ghost use Prim.Native.Nat.{_≤_};
 ghost use lib.ListN.{length};
 ghost use Rattle.limits.specs.Limits.{countsAllowed};
 ghost use Rattle.mosaic_alleles.specs.Alleles.{countAt, totalOf, totalAllowed, germlineIn, somaticIn};
-use crate::pair::Pair;
+use crate::pair::GermlinePair;
 use limits::counts::counts_allowed;
 
 // The count of an allele, 0 beyond the counts.
@@ -18,14 +18,14 @@ pub fn count(counts: &[u32], i: usize) -> u32
     0
 }
 
-fn germline(g: Pair, i: usize) -> bool
+fn germline(g: GermlinePair, i: usize) -> bool
     ensures { λ r. ⌜ r ≡ germlineIn g i ⌝ }
 {
     i == g.first || i == g.second
 }
 
 // Seen, and not one of the germline alleles.
-pub fn somatic(counts: &[u32], g: Pair, i: usize) -> bool
+pub fn somatic(counts: &[u32], g: GermlinePair, i: usize) -> bool
     ensures { λ r. ⌜ r ≡ somaticIn (now (counts .entry)) g i ⌝ }
 {
     count(counts, i) > 0 && !germline(g, i)

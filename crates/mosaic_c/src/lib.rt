@@ -2,7 +2,7 @@
 // It answers every argument; what the foreign caller answers for is in docs/TRUST.md.
 ghost use mathlib.Core.Path.{_≡_};
 ghost use Rattle.refusals.specs.Refusals.{numberOf};
-ghost use Rattle.mosaic.specs.Genotype.{genotypeOf};
+ghost use Rattle.mosaic.specs.Genotype.{mosaicOf};
 ghost use Rattle.mosaic_c.specs.Mosaic.{paramsOf, IsAnswer};
 use mosaic::genotype;
 use mosaic::genotype::MosaicResult;
@@ -45,7 +45,7 @@ pub extern "C" fn admulfas_mosaic(
     hypotheses: &mut usize,
     probabilities: &mut [f64; 36],
 ) -> u32
-    ensures { λ r. ⌜ IsAnswer (genotypeOf (paramsOf alpha beta highest depth) (now (counts .entry))) r
+    ensures { λ r. ⌜ IsAnswer (mosaicOf (paramsOf alpha beta highest depth) (now (counts .entry))) r
         (now (ploidy .exit)) (now (germline .exit)) (now (somatic .exit)) (now (vafs .exit)) (now (seen .exit)) (now (observed .exit))
         (now (posterior .exit)) (now (quality .exit)) (now (hypotheses .exit)) (now (probabilities .exit)) ⌝ }
 {

@@ -10,21 +10,21 @@ use Rattle.kernels.specs.Ln.{lnOf}
 use Rattle.floats.specs.MaxMin.{larger}
 use Rattle.lists.specs.Over.{over, placed}
 use Rattle.mosaic_alleles.specs.Alleles.{somaticIn, alone}
-use Rattle.mosaic_alleles.specs.declared.pair.Pair.{Pair}
+use Rattle.mosaic_alleles.specs.declared.pair.GermlinePair.{GermlinePair}
 use Rattle.mosaic_shared.specs.declared.priors.Density.{Density}
 
 -- M1: whether one of the first k alleles is somatic, and whether any is
-abbrev pub anyOver : List ℕ → Pair → ℕ → Bool
+abbrev pub anyOver : List ℕ → GermlinePair → ℕ → Bool
 anyOver counts g = over (λ i b. b || somaticIn counts g i) false
 
-abbrev pub anySomatic : List ℕ → Pair → Bool
+abbrev pub anySomatic : List ℕ → GermlinePair → Bool
 anySomatic counts g = anyOver counts g (length counts)
 
 -- M1: a somatic allele starts at 0.05; the place of any other allele is zero
-abbrev pub startOver : List ℕ → Pair → ℕ → List Float
+abbrev pub startOver : List ℕ → GermlinePair → ℕ → List Float
 startOver counts g = placed (replicate 8 (nat 0)) (λ i. cond (somaticIn counts g i) (decimal 5 2) (nat 0))
 
-unfoldable pub startVafs : List ℕ → Pair → List Float
+unfoldable pub startVafs : List ℕ → GermlinePair → List Float
 startVafs counts g = startOver counts g (length counts)
 
 -- the VAF of a somatic allele
@@ -32,14 +32,14 @@ abbrev pub vafAt : List Float → ℕ → Float
 vafAt vafs i = getD vafs i nan
 
 -- M3: the VAFs of the somatic alleles, summed: over the first k alleles, and over all
-abbrev pub massOver : List ℕ → Pair → List Float → ℕ → Float
+abbrev pub massOver : List ℕ → GermlinePair → List Float → ℕ → Float
 massOver counts g vafs = over (λ i s. cond (somaticIn counts g i) (s ⊕ vafAt vafs i) s) (nat 0)
 
-abbrev pub massOf : List ℕ → Pair → List Float → Float
+abbrev pub massOf : List ℕ → GermlinePair → List Float → Float
 massOf counts g vafs = massOver counts g vafs (length counts)
 
 -- M3: the larger of 1 − sum and 0.01, halved between two alleles
-unfoldable pub germlineShare : Pair → Float → Float
+unfoldable pub germlineShare : GermlinePair → Float → Float
 germlineShare g mass = let rest = larger (nat 1 ⊖ mass) (decimal 1 2) in cond (alone g) rest (rest ⊘ nat 2)
 
 -- for the code: M4's gain of a VAF (`gainOf`, mosaic_hypotheses/specs/Prior.antt), by the numbers of the density that are kept;

@@ -3,15 +3,15 @@ ghost use mathlib.Core.Path.{_≡_};
 ghost use Prim.Native.Nat.{_≤_, _<_};
 ghost use lib.ListN.{length};
 ghost use Rattle.mosaic_candidates.specs.Shares.{massOf, germlineShare};
-ghost use Rattle.mosaic_candidates.specs.Kept.{termAt, likelihoodBy};
+ghost use Rattle.mosaic_candidates.specs.Progress.{termAt, likelihoodBy};
 use crate::order::gained;
 use floats::max_min::max;
 use mosaic_alleles::counts::somatic;
-use mosaic_alleles::pair::Pair;
+use mosaic_alleles::pair::GermlinePair;
 use mosaic_alleles::pair::alone;
 
 // The somatic VAFs, summed.
-pub(crate) fn mass(counts: &[u32], g: Pair, vafs: [f64; 8]) -> f64
+pub(crate) fn mass(counts: &[u32], g: GermlinePair, vafs: [f64; 8]) -> f64
     requires { ⌜ length (now counts) ≤ 8 ⌝ }
     ensures { λ r. ⌜ r ≡ massOf (now (counts .entry)) g vafs ⌝ }
 {
@@ -25,7 +25,7 @@ pub(crate) fn mass(counts: &[u32], g: Pair, vafs: [f64; 8]) -> f64
 }
 
 // What is left for each germline allele.
-pub(crate) fn germline_share(g: Pair, mass: f64) -> f64
+pub(crate) fn germline_share(g: GermlinePair, mass: f64) -> f64
     ensures { λ r. ⌜ r ≡ germlineShare g mass ⌝ }
 {
     let rest = max(1.0 - mass, 0.01);
@@ -36,7 +36,7 @@ pub(crate) fn germline_share(g: Pair, mass: f64) -> f64
 }
 
 // count·ln(share) of one allele: a somatic allele's is kept, a germline allele's is made with the logarithm of the germline share.
-fn term_at(counts: &[u32], g: Pair, terms: [f64; 8], ln_share: f64, i: usize) -> f64
+fn term_at(counts: &[u32], g: GermlinePair, terms: [f64; 8], ln_share: f64, i: usize) -> f64
     requires { ⌜ (length (now counts) ≤ 8) × (i < length (now counts)) ⌝ }
     ensures { λ r. ⌜ r ≡ termAt (now (counts .entry)) g terms «ln_share» i ⌝ }
 {
@@ -49,7 +49,7 @@ fn term_at(counts: &[u32], g: Pair, terms: [f64; 8], ln_share: f64, i: usize) ->
 // From the log factorial of the total, each allele's log factorial taken off and then its term added.
 pub(crate) fn likelihood(
     counts: &[u32],
-    g: Pair,
+    g: GermlinePair,
     of_total: f64,
     factorials: [f64; 8],
     terms: [f64; 8],

@@ -3,11 +3,11 @@ ghost use mathlib.Core.Path.{_≡_};
 ghost use Prim.Native.Nat.{_≤_};
 ghost use lib.ListN.{length};
 ghost use Rattle.mosaic_candidates.specs.Shares.{gainBy};
-ghost use Rattle.mosaic_candidates.specs.Kept.{priorBy};
+ghost use Rattle.mosaic_candidates.specs.Progress.{priorBy};
 use crate::order::gained;
 use kernels::ln::ln;
 use mosaic_alleles::counts::somatic;
-use mosaic_alleles::pair::Pair;
+use mosaic_alleles::pair::GermlinePair;
 use mosaic_shared::priors::Density;
 
 // What a somatic VAF adds.
@@ -24,7 +24,7 @@ pub(crate) fn gain(d: Density, vaf: f64) -> f64
 }
 
 // The gains of the somatic alleles, and then what the germline alleles add.
-pub(crate) fn log_prior(counts: &[u32], g: Pair, gains: [f64; 8], of_germline: f64) -> f64
+pub(crate) fn log_prior(counts: &[u32], g: GermlinePair, gains: [f64; 8], of_germline: f64) -> f64
     requires { ⌜ length (now counts) ≤ 8 ⌝ }
     ensures { λ r. ⌜ r ≡ priorBy (now (counts .entry)) g gains «of_germline» ⌝ }
 {

@@ -4,7 +4,7 @@ ghost use mathlib.Core.Path.{_≡_};
 ghost use Prim.Native.Nat.{_≤_, _<_};
 ghost use lib.ListN.{length};
 ghost use Rattle.mosaic_candidates.specs.Shares.{anySomatic, startVafs};
-ghost use Rattle.mosaic_candidates.specs.Kept.{ofGermline, likelihoodHere, priorHere, startValue, started, attempted, stepTried, alleleSearched, offered, searched, foundBy, foundAt};
+ghost use Rattle.mosaic_candidates.specs.Progress.{ofGermline, likelihoodHere, priorHere, startValue, progressStart, progressTried, progressStep, progressAllele, progressOffered, progressAll, progressFound, foundOfEight};
 use crate::likelihood::germline_share;
 use crate::likelihood::likelihood;
 use crate::likelihood::mass;
@@ -14,12 +14,12 @@ use crate::prior::log_prior;
 use floats::key::below;
 use kernels::ln::ln;
 use mosaic_alleles::counts::somatic;
-use mosaic_alleles::pair::Pair;
+use mosaic_alleles::pair::GermlinePair;
 use mosaic_alleles::pair::alone;
-use mosaic_shared::shared::Site;
+use mosaic_shared::shared::Shared;
 
 // The VAFs kept so far and their value; for each somatic allele its term of the likelihood and its gain in the prior.
-pub struct Kept {
+pub struct Progress {
     pub vafs: [f64; 8],
     pub terms: [f64; 8],
     pub gains: [f64; 8],
@@ -32,7 +32,7 @@ pub struct Found {
     pub posterior: f64,
 }
 
-fn any_somatic(counts: &[u32], g: Pair) -> bool
+fn any_somatic(counts: &[u32], g: GermlinePair) -> bool
     ensures { λ r. ⌜ r ≡ anySomatic (now (counts .entry)) g ⌝ }
 {
     let mut any = false;
@@ -45,7 +45,7 @@ fn any_somatic(counts: &[u32], g: Pair) -> bool
 }
 
 // Every somatic allele starts at 0.05.
-fn start_vafs(counts: &[u32], g: Pair) -> [f64; 8]
+fn start_vafs(counts: &[u32], g: GermlinePair) -> [f64; 8]
     requires { ⌜ length (now counts) ≤ 8 ⌝ }
     ensures { λ r. ⌜ r ≡ startVafs (now (counts .entry)) g ⌝ }
 {
@@ -59,75 +59,89 @@ fn start_vafs(counts: &[u32], g: Pair) -> [f64; 8]
 }
 
 // What the germline alleles add to the prior.
-fn of_germline(site: Site, g: Pair) -> f64
-    ensures { λ r. ⌜ r ≡ ofGermline site g ⌝ }
+fn of_germline(shared: Shared, g: GermlinePair) -> f64
+    ensures { λ r. ⌜ r ≡ ofGermline shared g ⌝ }
 {
     if alone(g) {
-        return site.for_one;
+        return shared.for_one;
     }
-    site.for_two
+    shared.for_two
 }
 
 // The likelihood of VAFs whose terms are given, and the prior of gains.
-fn likelihood_here(counts: &[u32], g: Pair, site: Site, vafs: [f64; 8], terms: [f64; 8]) -> f64
+fn likelihood_here(
+    counts: &[u32],
+    g: GermlinePair,
+    shared: Shared,
+    vafs: [f64; 8],
+    terms: [f64; 8],
+) -> f64
     requires { ⌜ length (now counts) ≤ 8 ⌝ }
-    ensures { λ r. ⌜ r ≡ likelihoodHere (now (counts .entry)) g site vafs terms ⌝ }
+    ensures { λ r. ⌜ r ≡ likelihoodHere (now (counts .entry)) g shared vafs terms ⌝ }
 {
-    let factorials = site.factorials;
+    let factorials = shared.factorials;
     let ln_share = ln(germline_share(g, mass(counts, g, vafs)));
-    likelihood(counts, g, site.of_total, factorials, terms, ln_share)
+    likelihood(counts, g, shared.of_total, factorials, terms, ln_share)
 }
 
-fn prior_here(counts: &[u32], g: Pair, site: Site, gains: [f64; 8]) -> f64
+fn prior_here(counts: &[u32], g: GermlinePair, shared: Shared, gains: [f64; 8]) -> f64
     requires { ⌜ length (now counts) ≤ 8 ⌝ }
-    ensures { λ r. ⌜ r ≡ priorHere (now (counts .entry)) g site gains ⌝ }
+    ensures { λ r. ⌜ r ≡ priorHere (now (counts .entry)) g shared gains ⌝ }
 {
-    log_prior(counts, g, gains, of_germline(site, g))
+    log_prior(counts, g, gains, of_germline(shared, g))
 }
 
 // A search starts at minus infinity; where there is nothing to search the value is the likelihood.
-fn start_value(counts: &[u32], g: Pair, site: Site, vafs: [f64; 8]) -> f64
+fn start_value(counts: &[u32], g: GermlinePair, shared: Shared, vafs: [f64; 8]) -> f64
     requires { ⌜ length (now counts) ≤ 8 ⌝ }
-    ensures { λ r. ⌜ r ≡ startValue (now (counts .entry)) g site vafs ⌝ }
+    ensures { λ r. ⌜ r ≡ startValue (now (counts .entry)) g shared vafs ⌝ }
 {
     if any_somatic(counts, g) {
         return -1.0 / 0.0;
     }
-    let terms = site.starts;
-    likelihood_here(counts, g, site, vafs, terms)
+    let terms = shared.starts;
+    likelihood_here(counts, g, shared, vafs, terms)
 }
 
-fn start(counts: &[u32], g: Pair, site: Site) -> Kept
+fn start(counts: &[u32], g: GermlinePair, shared: Shared) -> Progress
     requires { ⌜ length (now counts) ≤ 8 ⌝ }
-    ensures { λ r. ⌜ r ≡ started (now (counts .entry)) g site ⌝ }
+    ensures { λ r. ⌜ r ≡ progressStart (now (counts .entry)) g shared ⌝ }
 {
-    let density = site.density;
+    let density = shared.density;
     let vafs = start_vafs(counts, g);
-    let terms = site.starts;
+    let terms = shared.starts;
     let gains = [gain(density, 0.05); 8];
-    Kept {
+    Progress {
         vafs,
         terms,
         gains,
-        value: start_value(counts, g, site, vafs),
+        value: start_value(counts, g, shared, vafs),
     }
 }
 
 // The candidate x of allele i, in what has been kept so far: it replaces that only where its value is strictly larger.
-fn attempt(counts: &[u32], g: Pair, site: Site, kept: Kept, i: usize, x: f64) -> Kept
+fn attempt(
+    counts: &[u32],
+    g: GermlinePair,
+    shared: Shared,
+    kept: Progress,
+    i: usize,
+    x: f64,
+) -> Progress
     requires { ⌜ (length (now counts) ≤ 8) × (i < length (now counts)) ⌝ }
-    ensures { λ r. ⌜ r ≡ attempted (now (counts .entry)) g site kept i x ⌝ }
+    ensures { λ r. ⌜ r ≡ progressTried (now (counts .entry)) g shared kept i x ⌝ }
 {
-    let density = site.density;
+    let density = shared.density;
     let mut vafs = kept.vafs;
     let mut terms = kept.terms;
     let mut gains = kept.gains;
     vafs[i] = x;
     terms[i] = counts[i] as f64 * ln(x);
     gains[i] = gain(density, x);
-    let value = likelihood_here(counts, g, site, vafs, terms) + prior_here(counts, g, site, gains);
+    let value = likelihood_here(counts, g, shared, vafs, terms)
+        + prior_here(counts, g, shared, gains);
     if below(kept.value, value) {
-        return Kept {
+        return Progress {
             vafs,
             terms,
             gains,
@@ -138,72 +152,91 @@ fn attempt(counts: &[u32], g: Pair, site: Site, kept: Kept, i: usize, x: f64) ->
 }
 
 // The candidate of one step of the highest VAF, where it is above 0.001.
-fn attempt_step(counts: &[u32], g: Pair, site: Site, kept: Kept, i: usize, step: u32) -> Kept
+fn attempt_step(
+    counts: &[u32],
+    g: GermlinePair,
+    shared: Shared,
+    kept: Progress,
+    i: usize,
+    step: u32,
+) -> Progress
     requires { ⌜ (length (now counts) ≤ 8) × (i < length (now counts)) ⌝ }
-    ensures { λ r. ⌜ r ≡ stepTried (now (counts .entry)) g site i step kept ⌝ }
+    ensures { λ r. ⌜ r ≡ progressStep (now (counts .entry)) g shared i step kept ⌝ }
 {
-    let x = site.highest * (step as f64 / 20.0);
+    let x = shared.highest * (step as f64 / 20.0);
     if x > 0.001 {
-        return attempt(counts, g, site, kept, i, x);
+        return attempt(counts, g, shared, kept, i, x);
     }
     kept
 }
 
 // The candidates of one allele: its observed share, then the steps.
-fn search_allele(counts: &[u32], g: Pair, site: Site, kept: Kept, i: usize) -> Kept
+fn search_allele(
+    counts: &[u32],
+    g: GermlinePair,
+    shared: Shared,
+    kept: Progress,
+    i: usize,
+) -> Progress
     requires { ⌜ (length (now counts) ≤ 8) × (i < length (now counts)) ⌝ }
-    ensures { λ r. ⌜ r ≡ alleleSearched (now (counts .entry)) g site i kept ⌝ }
+    ensures { λ r. ⌜ r ≡ progressAllele (now (counts .entry)) g shared i kept ⌝ }
 {
-    let observed = counts[i] as f64 / site.total;
-    let mut best = attempt(counts, g, site, kept, i, observed);
+    let observed = counts[i] as f64 / shared.total;
+    let mut best = attempt(counts, g, shared, kept, i, observed);
     let mut step: u32 = 0;
     while step < 21 {
-        best = attempt_step(counts, g, site, best, i, step);
+        best = attempt_step(counts, g, shared, best, i, step);
         step += 1;
     }
     best
 }
 
 // An allele that is not somatic has no candidates.
-fn offer_allele(counts: &[u32], g: Pair, site: Site, kept: Kept, i: usize) -> Kept
+fn offer_allele(
+    counts: &[u32],
+    g: GermlinePair,
+    shared: Shared,
+    kept: Progress,
+    i: usize,
+) -> Progress
     requires { ⌜ (length (now counts) ≤ 8) × (i < length (now counts)) ⌝ }
-    ensures { λ r. ⌜ r ≡ offered (now (counts .entry)) g site i kept ⌝ }
+    ensures { λ r. ⌜ r ≡ progressOffered (now (counts .entry)) g shared i kept ⌝ }
 {
     if somatic(counts, g, i) {
-        return search_allele(counts, g, site, kept, i);
+        return search_allele(counts, g, shared, kept, i);
     }
     kept
 }
 
 // The alleles in rising order, each from what the earlier ones left.
-fn search_vafs(counts: &[u32], g: Pair, site: Site, kept: Kept) -> Kept
+fn search_vafs(counts: &[u32], g: GermlinePair, shared: Shared, kept: Progress) -> Progress
     requires { ⌜ length (now counts) ≤ 8 ⌝ }
-    ensures { λ r. ⌜ r ≡ searched (now (counts .entry)) g site kept ⌝ }
+    ensures { λ r. ⌜ r ≡ progressAll (now (counts .entry)) g shared kept ⌝ }
 {
     let mut best = kept;
     let mut i = 0;
     while i < counts.len() {
-        best = offer_allele(counts, g, site, best, i);
+        best = offer_allele(counts, g, shared, best, i);
         i += 1;
     }
     best
 }
 
 // The hypothesis with the VAFs that were found, and its posterior: the prior is added here, though the value of a search has it already.
-fn search_all(counts: &[u32], g: Pair, site: Site) -> Found
+fn search_all(counts: &[u32], g: GermlinePair, shared: Shared) -> Found
     requires { ⌜ length (now counts) ≤ 8 ⌝ }
-    ensures { λ r. ⌜ r ≡ foundBy (now (counts .entry)) g site ⌝ }
+    ensures { λ r. ⌜ r ≡ progressFound (now (counts .entry)) g shared ⌝ }
 {
-    let best = search_vafs(counts, g, site, start(counts, g, site));
+    let best = search_vafs(counts, g, shared, start(counts, g, shared));
     let vafs = best.vafs;
     let gains = best.gains;
-    let posterior = best.value + prior_here(counts, g, site, gains);
+    let posterior = best.value + prior_here(counts, g, shared, gains);
     Found { vafs, posterior }
 }
 
 // Of at most eight counts; zeros for more.
-pub fn find(counts: &[u32], g: Pair, site: Site) -> Found
-    ensures { λ r. ⌜ r ≡ foundAt (now (counts .entry)) g site ⌝ }
+pub fn find(counts: &[u32], g: GermlinePair, shared: Shared) -> Found
+    ensures { λ r. ⌜ r ≡ foundOfEight (now (counts .entry)) g shared ⌝ }
 {
     if counts.len() > 8 {
         return Found {
@@ -211,5 +244,5 @@ pub fn find(counts: &[u32], g: Pair, site: Site) -> Found
             posterior: 0.0,
         };
     }
-    search_all(counts, g, site)
+    search_all(counts, g, shared)
 }

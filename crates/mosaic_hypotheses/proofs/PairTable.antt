@@ -5,9 +5,9 @@ use Prim.Native.Nat.{ℕ, zero, suc}
 use native.Mathlib.Nat.{suc-inj}
 use native.Mathlib.Omega.{arith}
 use lib.ListN.{length, getD}
-use Rattle.mosaic_alleles.specs.Alleles.{pair}
+use Rattle.mosaic_alleles.specs.Alleles.{twoAlleles}
 use Rattle.mosaic_hypotheses.specs.Hypotheses.{allPairs}
-use Rattle.mosaic_alleles.specs.declared.pair.Pair.{Pair}
+use Rattle.mosaic_alleles.specs.declared.pair.GermlinePair.{GermlinePair}
 
 abbrev firsts : List ℕ
 firsts =
@@ -18,12 +18,12 @@ seconds =
     0 ∷ 1 ∷ 2 ∷ 3 ∷ 4 ∷ 5 ∷ 6 ∷ 7 ∷ 1 ∷ 2 ∷ 3 ∷ 4 ∷ 5 ∷ 6 ∷ 7 ∷ 2 ∷ 3 ∷ 4 ∷ 5 ∷ 6 ∷ 7 ∷ 3 ∷ 4 ∷ 5 ∷ 6 ∷ 7 ∷ 4 ∷ 5 ∷ 6 ∷ 7 ∷ 5 ∷ 6 ∷ 7 ∷ 6 ∷ 7 ∷ 7 ∷ []
 
 -- two lists side by side
-both : List ℕ → List ℕ → List Pair
+both : List ℕ → List ℕ → List GermlinePair
 both [] ys = []
 both (x ∷ xs) [] = []
-both (x ∷ xs) (y ∷ ys) = pair x y ∷ both xs ys
+both (x ∷ xs) (y ∷ ys) = twoAlleles x y ∷ both xs ys
 
-at-both : (xs ys : List ℕ) → length xs ≡ length ys → (t : ℕ) → pair (getD xs t 0) (getD ys t 0) ≡ getD (both xs ys) t (pair 0 0)
+at-both : (xs ys : List ℕ) → length xs ≡ length ys → (t : ℕ) → twoAlleles (getD xs t 0) (getD ys t 0) ≡ getD (both xs ys) t (twoAlleles 0 0)
 unfolding both
 at-both [] [] h t = refl
 at-both [] (y ∷ ys) h t = absurd (none (length ys) h)
@@ -37,6 +37,6 @@ at-both (x ∷ xs) [] h t = absurd (none (length xs) h)
 at-both (x ∷ xs) (y ∷ ys) h zero = refl
 at-both (x ∷ xs) (y ∷ ys) h (suc t) = at-both xs ys (suc-inj h) t
 
-pub pair-table : (t : ℕ) → pair (getD firsts t 0) (getD seconds t 0) ≡ getD allPairs t (pair 0 0)
+pub pair-table : (t : ℕ) → twoAlleles (getD firsts t 0) (getD seconds t 0) ≡ getD allPairs t (twoAlleles 0 0)
 unfolding both
 pair-table t = at-both firsts seconds refl t

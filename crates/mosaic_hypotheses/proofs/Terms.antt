@@ -14,19 +14,19 @@ use Rattle.floats.specs.F64.{_⊕_, _⊖_, _⊗_, nat, decimal}
 use Rattle.floats.specs.Key.{keyOf}
 use Rattle.kernels.specs.Ln.{lnOf}
 use Rattle.kernels_stirling.specs.Stirling.{stirlingOf, lnFactorial}
-use Rattle.mosaic_hypotheses.specs.Edition.{first}
+use Rattle.mosaic_hypotheses.specs.Edition.{firstEdition}
 use Rattle.mosaic_alleles.specs.Alleles.{countAt, seenIn, germlineIn, somaticIn, alone, totalOf}
 use Rattle.mosaic_candidates.specs.Shares.{anyOver, anySomatic, vafAt, massOf, germlineShare, gainBy, startVafs, stepOf, observedShare}
-use Rattle.mosaic_hypotheses.specs.Likelihood.{shareOf, likelihoodOf}
-use Rattle.mosaic_shared.specs.Shared.{densityOf, forOne, forTwo, factorialsOf, startsOf, siteOf}
+use Rattle.mosaic_hypotheses.specs.Likelihood.{alleleShare, likelihoodOf}
+use Rattle.mosaic_shared.specs.Shared.{densityOf, forOne, forTwo, factorialsOf, startsOf, sharedOf}
 use Rattle.mosaic_hypotheses.specs.Prior.{gainOf, gainsOver, forGermline, priorOf}
 use Rattle.mosaic_hypotheses.specs.Search.{Best, valueOf, tried, triedStep, searchedAllele, searchedAll, foundOf}
-use Rattle.mosaic_candidates.specs.Kept.{termAt, likelihoodBy, priorByOver, priorBy, likelihoodHere, priorHere, startValue, started, changed}
-use Rattle.mosaic_candidates.specs.Kept.{attempted, stepTried, alleleSearched, offered, searched, foundBy, foundAt}
+use Rattle.mosaic_candidates.specs.Progress.{termAt, likelihoodBy, priorByOver, priorBy, likelihoodHere, priorHere, startValue, progressStart, progressWith}
+use Rattle.mosaic_candidates.specs.Progress.{progressTried, progressStep, progressAllele, progressOffered, progressAll, progressFound, foundOfEight}
 use Rattle.mosaic_params.specs.declared.params.Params.{Params}
-use Rattle.mosaic_alleles.specs.declared.pair.Pair.{Pair}
-use Rattle.mosaic_shared.specs.declared.shared.Site.{Site}
-use Rattle.mosaic_candidates.specs.declared.search.Kept.{Kept}
+use Rattle.mosaic_alleles.specs.declared.pair.GermlinePair.{GermlinePair}
+use Rattle.mosaic_shared.specs.declared.shared.Shared.{Shared}
+use Rattle.mosaic_candidates.specs.declared.search.Progress.{Progress}
 use Rattle.mosaic_candidates.specs.declared.search.Found.{Found}
 use Rattle.lists.specs.Over.{over}
 use Rattle.lists.proofs.OverLaws.{over-related, over-same, length-placed, at-set, placed-at}
@@ -37,7 +37,7 @@ unfolding gainBy densityOf gainOf
 gain-by lnGamma p v = refl
 
 -- M4: and so it is with what the germline alleles add
-pub germline-by : (a : ℕ) (g : Pair) → cond (alone g) (forOne a) (forTwo a) ≡ forGermline a g
+pub germline-by : (a : ℕ) (g : GermlinePair) → cond (alone g) (forOne a) (forTwo a) ≡ forGermline a g
 unfolding forOne forTwo forGermline
 germline-by a g = refl
 
@@ -56,12 +56,12 @@ prior-step : (somatic : Bool) (s t v : Float) → (somatic ≡ true → t ≡ v)
 prior-step true s t v h = rw (h refl)
 prior-step false s t v h = refl
 
-module _ (p : Params) (counts : List ℕ) (few : length counts ≤ 8) (g : Pair) where
-  abbrev site : Site
-  site = siteOf p counts (length counts) (totalOf counts)
+module _ (p : Params) (counts : List ℕ) (few : length counts ≤ 8) (g : GermlinePair) where
+  abbrev shared : Shared
+  shared = sharedOf p counts (length counts) (totalOf counts)
 
   -- for each somatic allele the term and the gain that are kept are those of its VAF
-  record Caches (k : Kept) : Type 0 where
+  record Caches (k : Progress) : Type 0 where
     pub eight-vafs : length (k .vafs) ≡ 8
     pub eight-terms : length (k .terms) ≡ 8
     pub eight-gains : length (k .gains) ≡ 8
@@ -73,20 +73,20 @@ module _ (p : Params) (counts : List ℕ) (few : length counts ≤ 8) (g : Pair)
   unfolding factorialsOf
   factorial-at i l = placed-at (replicate 8 (nat 0)) (λ i. lnFactorial stirlingOf (countAt counts i)) nan 8 (rw length-replicate (lit≤ tt)) i (omega arith)
 
-  likelihood-same : (k : Kept) → Caches k → likelihoodHere counts g site (k .vafs) (k .terms) ≡ likelihoodOf first counts g (k .vafs)
-  unfolding siteOf likelihoodBy likelihoodOf termAt
+  likelihood-same : (k : Progress) → Caches k → likelihoodHere counts g shared (k .vafs) (k .terms) ≡ likelihoodOf firstEdition counts g (k .vafs)
+  unfolding sharedOf likelihoodBy likelihoodOf termAt
   likelihood-same k h =
       over-same
       (λ i s. cond (seenIn counts i) (s ⊖ getD (factorialsOf counts) i nan ⊕ termAt counts g (k .terms) (lnOf (germlineShare g (massOf counts g (k .vafs)))) i) (s ⊖ getD (factorialsOf counts) i nan))
-      (λ i s. cond (seenIn counts i) (s ⊖ lnFactorial stirlingOf (countAt counts i) ⊕ nat (countAt counts i) ⊗ lnOf (shareOf counts g (k .vafs) i)) (s ⊖ lnFactorial stirlingOf (countAt counts i)))
+      (λ i s. cond (seenIn counts i) (s ⊖ lnFactorial stirlingOf (countAt counts i) ⊕ nat (countAt counts i) ⊗ lnOf (alleleShare counts g (k .vafs) i)) (s ⊖ lnFactorial stirlingOf (countAt counts i)))
       (lnFactorial stirlingOf (totalOf counts))
       (length counts)
       (λ i l s. rw (factorial-at i l) (likelihood-step (seenIn counts i) (germlineIn g i) s (lnFactorial stirlingOf (countAt counts i)) (nat (countAt counts i)) (germlineShare g (massOf counts g (k .vafs))) (getD (k .terms) i nan) (vafAt (k .vafs) i) (h .term-is i l)))
 
-  prior-same : (k : Kept) → Caches k → priorHere counts g site (k .gains) ≡ priorOf first p counts g (k .vafs)
-  unfolding siteOf priorBy priorOf
+  prior-same : (k : Progress) → Caches k → priorHere counts g shared (k .gains) ≡ priorOf firstEdition p counts g (k .vafs)
+  unfolding sharedOf priorBy priorOf
   prior-same k h =
-      let gains : priorByOver counts g (k .gains) (length counts) ≡ gainsOver first p counts g (k .vafs) (length counts) =
+      let gains : priorByOver counts g (k .gains) (length counts) ≡ gainsOver firstEdition p counts g (k .vafs) (length counts) =
       over-same
       (λ i s. cond (somaticIn counts g i) (s ⊕ getD (k .gains) i nan) s)
       (λ i s. cond (somaticIn counts g i) (s ⊕ gainOf stirlingOf p (vafAt (k .vafs) i)) s)
@@ -96,10 +96,10 @@ module _ (p : Params) (counts : List ℕ) (few : length counts ≤ 8) (g : Pair)
       rw (gains, germline-by (length counts) g)
 
   -- what is kept stands for VAFs and a value of the definition
-  abbrev best : Kept → Best
+  abbrev best : Progress → Best
   best k = record { vafs = k .vafs; value = k .value }
 
-  record Follows (k : Kept) (b : Best) : Type 0 where
+  record Follows (k : Progress) (b : Best) : Type 0 where
     pub same : best k ≡ b
     pub caches : Caches k
 
@@ -114,8 +114,8 @@ module _ (p : Params) (counts : List ℕ) (few : length counts ≤ 8) (g : Pair)
   in-eight : (i : ℕ) → i < length counts → (l : List Float) → length l ≡ 8 → i < length l
   in-eight i h l e = omega arith
 
-  changed-caches : (k : Kept) (i : ℕ) (x : Float) → i < length counts → Caches k → Caches (changed counts g site k i x)
-  unfolding siteOf
+  changed-caches : (k : Progress) (i : ℕ) (x : Float) → i < length counts → Caches k → Caches (progressWith counts g shared k i x)
+  unfolding sharedOf
   changed-caches k i x l h = record {
     eight-vafs = length-set (k .vafs) i x ∙ h .eight-vafs;
     eight-terms = length-set (k .terms) i (nat (countAt counts i) ⊗ lnOf x) ∙ h .eight-terms;
@@ -127,46 +127,46 @@ module _ (p : Params) (counts : List ℕ) (few : length counts ≤ 8) (g : Pair)
         (in-eight i l (k .gains) (h .eight-gains)) (h .gain-is j m s));
   }
 
-  follows-cond : (t : Bool) (k m : Kept) (b c : Best) → Follows k b → Follows m c → Follows (cond t k m) (cond t b c)
+  follows-cond : (t : Bool) (k m : Progress) (b c : Best) → Follows k b → Follows m c → Follows (cond t k m) (cond t b c)
   follows-cond true k m b c h q = h
   follows-cond false k m b c h q = q
 
-  attempt-follows : (i : ℕ) → i < length counts → (x : Float) (k : Kept) (b : Best) → Follows k b → Follows (attempted counts g site k i x) (tried first p counts g i x b)
-  unfolding attempted tried
+  attempt-follows : (i : ℕ) → i < length counts → (x : Float) (k : Progress) (b : Best) → Follows k b → Follows (progressTried counts g shared k i x) (tried firstEdition p counts g i x b)
+  unfolding progressTried tried
   attempt-follows i l x k b h =
-      let d = changed counts g site k i x in
+      let d = progressWith counts g shared k i x in
       let cs = changed-caches k i x l (h .caches) in
-      let value : d .value ≡ valueOf first p counts g (d .vafs) = rw (likelihood-same d cs, prior-same d cs) in
-      subst (λ (b : Best). Follows (attempted counts g site k i x) (tried first p counts g i x b)) (h .same)
+      let value : d .value ≡ valueOf firstEdition p counts g (d .vafs) = rw (likelihood-same d cs, prior-same d cs) in
+      subst (λ (b : Best). Follows (progressTried counts g shared k i x) (tried firstEdition p counts g i x b)) (h .same)
       (subst (λ (v : Float). Follows (cond (ltZ (keyOf (k .value)) (keyOf (d .value))) d k) (cond (ltZ (keyOf (k .value)) (keyOf v)) (record { vafs = d .vafs; value = v }) (best k))) value
       (follows-cond (ltZ (keyOf (k .value)) (keyOf (d .value))) d k (best d) (best k) (record { same = refl; caches = cs }) (record { same = refl; caches = h .caches })))
 
-  step-follows : (i : ℕ) → i < length counts → (s : ℕ) (k : Kept) (b : Best) → Follows k b → Follows (stepTried counts g site i s k) (triedStep first p counts g i s b)
-  unfolding siteOf stepTried
+  step-follows : (i : ℕ) → i < length counts → (s : ℕ) (k : Progress) (b : Best) → Follows k b → Follows (progressStep counts g shared i s k) (triedStep firstEdition p counts g i s b)
+  unfolding sharedOf progressStep
   step-follows i l s k b h =
       let x = stepOf (p .highest) s in
-      follows-cond (lt (decimal 1 3) x) (attempted counts g site k i x) k (tried first p counts g i x b) b (attempt-follows i l x k b h) h
+      follows-cond (lt (decimal 1 3) x) (progressTried counts g shared k i x) k (tried firstEdition p counts g i x b) b (attempt-follows i l x k b h) h
 
-  allele-follows : (i : ℕ) → i < length counts → (k : Kept) (b : Best) → Follows k b → Follows (alleleSearched counts g site i k) (searchedAllele first p counts g i b)
-  unfolding siteOf alleleSearched searchedAllele
+  allele-follows : (i : ℕ) → i < length counts → (k : Progress) (b : Best) → Follows k b → Follows (progressAllele counts g shared i k) (searchedAllele firstEdition p counts g i b)
+  unfolding sharedOf progressAllele searchedAllele
   allele-follows i l k b h =
       let x = observedShare (countAt counts i) (nat (totalOf counts)) in
-      over-related Follows (stepTried counts g site i) (triedStep first p counts g i) (attempted counts g site k i x) (tried first p counts g i x b) 21
+      over-related Follows (progressStep counts g shared i) (triedStep firstEdition p counts g i) (progressTried counts g shared k i x) (tried firstEdition p counts g i x b) 21
       (λ s m k b h. step-follows i l s k b h)
       (attempt-follows i l x k b h)
 
-  offer-follows : (i : ℕ) → i < length counts → (k : Kept) (b : Best) → Follows k b → Follows (offered counts g site i k) (cond (somaticIn counts g i) (searchedAllele first p counts g i b) b)
-  unfolding offered
+  offer-follows : (i : ℕ) → i < length counts → (k : Progress) (b : Best) → Follows k b → Follows (progressOffered counts g shared i k) (cond (somaticIn counts g i) (searchedAllele firstEdition p counts g i b) b)
+  unfolding progressOffered
   offer-follows i l k b h =
-      follows-cond (somaticIn counts g i) (alleleSearched counts g site i k) k (searchedAllele first p counts g i b) b (allele-follows i l k b h) h
+      follows-cond (somaticIn counts g i) (progressAllele counts g shared i k) k (searchedAllele firstEdition p counts g i b) b (allele-follows i l k b h) h
 
   pub start-at : (i : ℕ) → i < length counts → somaticIn counts g i ≡ true → vafAt (startVafs counts g) i ≡ decimal 5 2
   unfolding startVafs
   start-at i l s =
       placed-at (replicate 8 (nat 0)) (λ i. cond (somaticIn counts g i) (decimal 5 2) (nat 0)) nan (length counts) (rw length-replicate few) i l ∙ rw s
 
-  start-caches : Caches (started counts g site)
-  unfolding started siteOf startsOf
+  start-caches : Caches (progressStart counts g shared)
+  unfolding progressStart sharedOf startsOf
   start-caches = record {
     eight-vafs = unfold startVafs in (length-placed (replicate 8 (nat 0)) (λ i. cond (somaticIn counts g i) (decimal 5 2) (nat 0)) (length counts));
     eight-terms = length-placed (replicate 8 (nat 0)) (λ i. nat (countAt counts i) ⊗ lnOf (decimal 5 2)) 8;
@@ -177,14 +177,14 @@ module _ (p : Params) (counts : List ℕ) (few : length counts ≤ 8) (g : Pair)
         (getD-replicate 8 i (gainBy (densityOf stirlingOf p) (decimal 5 2)) nan (omega arith) ∙ gain-by stirlingOf p (decimal 5 2));
   }
 
-  search-follows : anySomatic counts g ≡ true → Follows (searched counts g site (started counts g site)) (searchedAll first p counts g)
-  unfolding started startValue searched searchedAll
+  search-follows : anySomatic counts g ≡ true → Follows (progressAll counts g shared (progressStart counts g shared)) (searchedAll firstEdition p counts g)
+  unfolding progressStart startValue progressAll searchedAll
   search-follows h =
-      over-related Follows (offered counts g site) (λ i b. cond (somaticIn counts g i) (searchedAllele first p counts g i b) b) (started counts g site) (record { vafs = startVafs counts g; value = inf true }) (length counts) offer-follows (record { same = rw h; caches = start-caches })
+      over-related Follows (progressOffered counts g shared) (λ i b. cond (somaticIn counts g i) (searchedAllele firstEdition p counts g i b) b) (progressStart counts g shared) (record { vafs = startVafs counts g; value = inf true }) (length counts) offer-follows (record { same = rw h; caches = start-caches })
 
   -- without somatic alleles nothing is searched
-  none-offered : (n : ℕ) → anyOver counts g n ≡ false → (k : Kept) → over (offered counts g site) k n ≡ k
-  unfolding offered
+  none-offered : (n : ℕ) → anyOver counts g n ≡ false → (k : Progress) → over (progressOffered counts g shared) k n ≡ k
+  unfolding progressOffered
   none-offered zero h k = refl
   none-offered (suc n) h k =
       let e = or-false (anyOver counts g n) (somaticIn counts g n) h in
@@ -192,14 +192,14 @@ module _ (p : Params) (counts : List ℕ) (few : length counts ≤ 8) (g : Pair)
 
   -- the VAFs that were found, and the posterior made of them, by the first edition
   abbrev made : Best → Found
-  made b = record { vafs = b .vafs; posterior = b .value ⊕ priorOf first p counts g (b .vafs) }
+  made b = record { vafs = b .vafs; posterior = b .value ⊕ priorOf firstEdition p counts g (b .vafs) }
 
-  pub found-by : foundAt counts g site ≡ foundOf first p counts g
-  unfolding foundAt foundBy foundOf
+  pub found-by : foundOfEight counts g shared ≡ foundOf firstEdition p counts g
+  unfolding foundOfEight progressFound foundOf
   found-by = rw (le-leb (length counts) 8 few) (go (anySomatic counts g) refl)
     where
-      go : (b : Bool) → anySomatic counts g ≡ b → foundBy counts g site ≡ foundOf first p counts g
-      go true h = let k = searched counts g site (started counts g site) in rw (h, prior-same k (search-follows h .caches)) (ap made (search-follows h .same))
+      go : (b : Bool) → anySomatic counts g ≡ b → progressFound counts g shared ≡ foundOf firstEdition p counts g
+      go true h = let k = progressAll counts g shared (progressStart counts g shared) in rw (h, prior-same k (search-follows h .caches)) (ap made (search-follows h .same))
       go false h =
-          let s = started counts g site in
-          unfold searched started startValue in (rw (none-offered (length counts) h s, h, likelihood-same s start-caches, prior-same s start-caches))
+          let s = progressStart counts g shared in
+          unfold progressAll progressStart startValue in (rw (none-offered (length counts) h s, h, likelihood-same s start-caches, prior-same s start-caches))

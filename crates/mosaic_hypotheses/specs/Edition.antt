@@ -9,5 +9,5 @@ pub record Edition : Type 0 where
   pub again : Bool
 
 -- the short log gamma, and the prior counts twice where there are somatic alleles
-abbrev pub first : Edition
-first = record { lnGamma = stirlingOf; again = true }
+abbrev pub firstEdition : Edition
+firstEdition = record { lnGamma = stirlingOf; again = true }

@@ -2,8 +2,8 @@
 use Prim.Native.Nat.{ℕ}
 use mathlib.Core.Bool.{Bool, _&&_}
 use mathlib.Core.List.{List, [], _∷_, _++_, map}
-use Rattle.mosaic_alleles.specs.Alleles.{seenIn, pair}
-use Rattle.mosaic_alleles.specs.declared.pair.Pair.{Pair}
+use Rattle.mosaic_alleles.specs.Alleles.{seenIn, twoAlleles}
+use Rattle.mosaic_alleles.specs.declared.pair.GermlinePair.{GermlinePair}
 use Rattle.lists.specs.Lists.{numbers, passing}
 
 -- the alleles that are seen, of eight at most
@@ -11,24 +11,24 @@ abbrev pub seenAlleles : List ℕ → List ℕ
 seenAlleles counts = passing (seenIn counts) (numbers 0 8)
 
 -- a hypothesis has germline alleles that are seen
-abbrev pub bothSeen : List ℕ → Pair → Bool
+abbrev pub bothSeen : List ℕ → GermlinePair → Bool
 bothSeen counts g = seenIn counts (g .first) && seenIn counts (g .second)
 
 -- each allele of a list alone, then each pair of them, an earlier with a later
-abbrev pub singles : List ℕ → List Pair
-singles l = map (λ i. pair i i) l
+abbrev pub singles : List ℕ → List GermlinePair
+singles l = map (λ i. twoAlleles i i) l
 
-abbrev pub pairs : List ℕ → List Pair
+abbrev pub pairs : List ℕ → List GermlinePair
 pairs [] = []
-pairs (i ∷ l) = map (pair i) l ++ pairs l
+pairs (i ∷ l) = map (twoAlleles i) l ++ pairs l
 
-abbrev pub pairsOf : List ℕ → List Pair
-pairsOf l = singles l ++ pairs l
+abbrev pub hypothesesOf : List ℕ → List GermlinePair
+hypothesesOf l = singles l ++ pairs l
 
 -- the hypotheses are those of the alleles that are seen
-unfoldable pub hypotheses : List ℕ → List Pair
-hypotheses counts = pairsOf (seenAlleles counts)
+unfoldable pub hypotheses : List ℕ → List GermlinePair
+hypotheses counts = hypothesesOf (seenAlleles counts)
 
 -- those of eight alleles that are all seen: 36
-abbrev pub allPairs : List Pair
-allPairs = pairsOf (numbers 0 8)
+abbrev pub allPairs : List GermlinePair
+allPairs = hypothesesOf (numbers 0 8)

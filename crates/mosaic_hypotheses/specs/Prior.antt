@@ -9,7 +9,7 @@ use Rattle.kernels.specs.Ln.{lnOf}
 use Rattle.lists.specs.Over.{over}
 use Rattle.mosaic_params.specs.declared.params.Params.{Params}
 use Rattle.mosaic_alleles.specs.Alleles.{somaticIn, alone}
-use Rattle.mosaic_alleles.specs.declared.pair.Pair.{Pair}
+use Rattle.mosaic_alleles.specs.declared.pair.GermlinePair.{GermlinePair}
 use Rattle.mosaic_candidates.specs.Shares.{vafAt}
 use Rattle.mosaic_hypotheses.specs.Edition.{Edition}
 
@@ -26,13 +26,13 @@ unfoldable pub gainOf : (Float → Float) → Params → Float → Float
 gainOf lnGamma p v = cond (le (nat 1) v) (inf true) (cond (lt (nat 0) v) (lnDensity lnGamma p v) (nat 0))
 
 -- M4: the gains of the somatic alleles in rising order, from 0.0
-abbrev pub gainsOver : Edition → Params → List ℕ → Pair → List Float → ℕ → Float
+abbrev pub gainsOver : Edition → Params → List ℕ → GermlinePair → List Float → ℕ → Float
 gainsOver e p counts g vafs = over (λ i s. cond (somaticIn counts g i) (s ⊕ gainOf (e .lnGamma) p (vafAt vafs i)) s) (nat 0)
 
 -- M4: what the germline alleles add, of a alleles, unseen ones included: −ln(a) for one, −ln(a(a−1)/2) for two
-unfoldable pub forGermline : ℕ → Pair → Float
+unfoldable pub forGermline : ℕ → GermlinePair → Float
 forGermline a g = cond (alone g) (neg (lnOf (nat a))) (neg (lnOf (nat (a * (a - 1) / 2))))
 
 -- M4: the prior: the gains of all somatic alleles, and then what the germline alleles add
-unfoldable pub priorOf : Edition → Params → List ℕ → Pair → List Float → Float
+unfoldable pub priorOf : Edition → Params → List ℕ → GermlinePair → List Float → Float
 priorOf e p counts g vafs = gainsOver e p counts g vafs (length counts) ⊕ forGermline (length counts) g

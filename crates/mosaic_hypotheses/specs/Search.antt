@@ -14,7 +14,7 @@ use Rattle.mosaic_alleles.specs.Alleles.{countAt, somaticIn, totalOf}
 use Rattle.mosaic_hypotheses.specs.Likelihood.{likelihoodOf}
 use Rattle.mosaic_hypotheses.specs.Prior.{priorOf}
 use Rattle.mosaic_params.specs.declared.params.Params.{Params}
-use Rattle.mosaic_alleles.specs.declared.pair.Pair.{Pair}
+use Rattle.mosaic_alleles.specs.declared.pair.GermlinePair.{GermlinePair}
 use Rattle.mosaic_candidates.specs.declared.search.Found.{Found}
 
 -- the VAFs kept so far, by allele, and their value
@@ -22,7 +22,7 @@ pub record Best : Type 0 where
   pub vafs : List Float
   pub value : Float
 
-module _ (e : Edition) (p : Params) (counts : List ℕ) (g : Pair) where
+module _ (e : Edition) (p : Params) (counts : List ℕ) (g : GermlinePair) where
   -- likelihood plus prior
   abbrev pub valueOf : List Float → Float
   valueOf vafs = likelihoodOf e counts g vafs ⊕ priorOf e p counts g vafs

@@ -1,30 +1,30 @@
 // Every hypothesis with its posterior, and the one that wins (docs/RULES.md, M6).
 ghost use mathlib.Core.Path.{_≡_};
-ghost use Rattle.mosaic_hypotheses.specs.Choice.{nothing, choiceOf};
+ghost use Rattle.mosaic_hypotheses.specs.Choice.{noChoice, choiceOf};
 ghost use Rattle.mosaic_hypotheses.specs.Inner.{chosenBy};
 use crate::scan::scan_all;
 use mosaic_alleles::counts::total;
-use mosaic_alleles::pair::Pair;
+use mosaic_alleles::pair::GermlinePair;
 use mosaic_candidates::search::find;
 use mosaic_params::params::Params;
 use mosaic_probabilities::winner::best_place;
-use mosaic_shared::shared::Site;
-use mosaic_shared::shared::site_of;
+use mosaic_shared::shared::Shared;
+use mosaic_shared::shared::shared_of;
 
 // How many hypotheses there are and the log posterior of each, in their order; the place of the winner, its germline alleles, its VAFs and its posterior.
 pub struct Choice {
     pub count: usize,
     pub posteriors: [f64; 36],
     pub best: usize,
-    pub pair: Pair,
+    pub pair: GermlinePair,
     pub vafs: [f64; 8],
     pub posterior: f64,
 }
 
 fn no_choice() -> Choice
-    ensures { λ r. ⌜ r ≡ nothing ⌝ }
+    ensures { λ r. ⌜ r ≡ noChoice ⌝ }
 {
-    let pair = Pair {
+    let pair = GermlinePair {
         first: 0,
         second: 0,
     };
@@ -39,16 +39,16 @@ fn no_choice() -> Choice
 }
 
 // The search of the winner is made once more, for its VAFs.
-fn choose_at(counts: &[u32], site: Site) -> Choice
-    ensures { λ r. ⌜ r ≡ chosenBy (now (counts .entry)) site ⌝ }
+fn choose_at(counts: &[u32], shared: Shared) -> Choice
+    ensures { λ r. ⌜ r ≡ chosenBy (now (counts .entry)) shared ⌝ }
 {
-    let scan = scan_all(counts, site);
+    let scan = scan_all(counts, shared);
     let count = scan.count;
     let pairs = scan.pairs;
     let posteriors = scan.posteriors;
     let best = best_place(posteriors, count);
     let pair = pairs[best];
-    let found = find(counts, pair, site);
+    let found = find(counts, pair, shared);
     let vafs = found.vafs;
     Choice {
         count,
@@ -68,6 +68,6 @@ pub fn choose(params: Params, counts: &[u32]) -> Choice
     if depth == 0 {
         return no_choice();
     }
-    let site = site_of(params, counts, counts.len() as u8, depth);
-    choose_at(counts, site)
+    let shared = shared_of(params, counts, counts.len() as u8, depth);
+    choose_at(counts, shared)
 }

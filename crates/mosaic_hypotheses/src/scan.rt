@@ -6,18 +6,18 @@ ghost use Rattle.mosaic_hypotheses.specs.Inner.{pushed, scannedBy};
 use crate::pairs::FIRSTS;
 use crate::pairs::SECONDS;
 use mosaic_alleles::counts::count;
-use mosaic_alleles::pair::Pair;
+use mosaic_alleles::pair::GermlinePair;
 use mosaic_candidates::search::find;
-use mosaic_shared::shared::Site;
+use mosaic_shared::shared::Shared;
 
 // The hypotheses so far, each with its posterior.
 pub(crate) struct Scan {
     pub count: usize,
-    pub pairs: [Pair; 36],
+    pub pairs: [GermlinePair; 36],
     pub posteriors: [f64; 36],
 }
 
-fn push(scan: Scan, g: Pair, posterior: f64) -> Scan
+fn push(scan: Scan, g: GermlinePair, posterior: f64) -> Scan
     requires { ⌜ scan .count < 36 ⌝ }
     ensures { λ r. ⌜ r ≡ pushed scan g posterior ⌝ }
 {
@@ -33,7 +33,7 @@ fn push(scan: Scan, g: Pair, posterior: f64) -> Scan
     }
 }
 
-fn both_seen(counts: &[u32], g: Pair) -> bool
+fn both_seen(counts: &[u32], g: GermlinePair) -> bool
     ensures { λ r. ⌜ r ≡ bothSeen (now (counts .entry)) g ⌝ }
 {
     count(counts, g.first) > 0 && count(counts, g.second) > 0
@@ -41,12 +41,12 @@ fn both_seen(counts: &[u32], g: Pair) -> bool
 
 // Each pair whose alleles are seen is a hypothesis. The others are passed by here and not in a function of their own, to which the scan would be
 // copied for each.
-pub(crate) fn scan_all(counts: &[u32], site: Site) -> Scan
-    ensures { λ r. ⌜ r ≡ scannedBy (now (counts .entry)) site ⌝ }
+pub(crate) fn scan_all(counts: &[u32], shared: Shared) -> Scan
+    ensures { λ r. ⌜ r ≡ scannedBy (now (counts .entry)) shared ⌝ }
 {
     let firsts = FIRSTS;
     let seconds = SECONDS;
-    let none = Pair {
+    let none = GermlinePair {
         first: 0,
         second: 0,
     };
@@ -57,12 +57,12 @@ pub(crate) fn scan_all(counts: &[u32], site: Site) -> Scan
     };
     let mut t = 0;
     while t < 36 {
-        let g = Pair {
+        let g = GermlinePair {
             first: firsts[t],
             second: seconds[t],
         };
         if both_seen(counts, g) {
-            let found = find(counts, g, site);
+            let found = find(counts, g, shared);
             scan = push(scan, g, found.posterior);
         }
         t += 1;

@@ -1,5 +1,5 @@
 -- On accepted inputs with a read there is a hypothesis, nothing in the answer is a NaN or an infinity, each probability lies from 0 to 1
--- and the quality from −2 to 100: `finite-answer`. With the refusals, the same of every answer: `every-answer`. Assumes nothing.
+-- and the quality from −2 to 100: `finite-answer`. With the refusals, the same of every answer: `every-mosaic-answer`. Assumes nothing.
 use mathlib.Core.Path.{_≡_, refl, sym, ap, _∙_, subst}
 use mathlib.Core.Logic.{inr}
 use mathlib.Core.Bool.{Bool, true, false, not, cond, true≢false}
@@ -26,20 +26,20 @@ use Rattle.mosaic_probabilities.proofs.InUse.{in-use-all}
 use Rattle.lists.specs.Every.{Each}
 use Rattle.lists.specs.Lists.{numbers, passing}
 use Rattle.lists.proofs.PlaceLaws.{number-at, map-at}
-use Rattle.mosaic_hypotheses.specs.Edition.{first}
-use Rattle.mosaic_alleles.specs.Alleles.{countAt, seenIn, germlineIn, somaticIn, totalOver, totalOf, pair}
+use Rattle.mosaic_hypotheses.specs.Edition.{firstEdition}
+use Rattle.mosaic_alleles.specs.Alleles.{countAt, seenIn, germlineIn, somaticIn, totalOver, totalOf, twoAlleles}
 use Rattle.mosaic_hypotheses.specs.Hypotheses.{seenAlleles, singles, pairs, hypotheses, allPairs, bothSeen}
 use Rattle.mosaic_candidates.specs.Shares.{vafAt}
 use Rattle.mosaic_hypotheses.specs.Search.{foundOf}
-use Rattle.mosaic_probabilities.specs.Winner.{winner}
+use Rattle.mosaic_probabilities.specs.Winner.{winningPlace}
 use Rattle.mosaic_hypotheses.specs.Choice.{posteriors}
-use Rattle.mosaic.specs.Genotype.{blank, flagsOf, calledOf, genotypeBy, genotypeOf}
+use Rattle.mosaic.specs.Genotype.{blankMosaic, flagsOf, mosaicCalled, mosaicBy, mosaicOf}
 use Rattle.mosaic_params.specs.declared.params.Params.{Params}
-use Rattle.mosaic_alleles.specs.declared.pair.Pair.{Pair}
+use Rattle.mosaic_alleles.specs.declared.pair.GermlinePair.{GermlinePair}
 use Rattle.lists.proofs.PaddedLaws.{padded-length}
 use Rattle.mosaic_probabilities.proofs.WinnerLaws.{winner-low}
 use Rattle.mosaic_hypotheses.proofs.Scanned.{all-seen, at-most-36}
-use Rattle.mosaic_laws.specs.Accepted.{Accepted}
+use Rattle.mosaic_laws.specs.Accepted.{AcceptedMosaic}
 use Rattle.mosaic_laws.specs.Answers.{VafOf, FiniteAnswer}
 use Rattle.mosaic_laws.proofs.Seen.{seen-some, seen-in, count-in}
 use Rattle.mosaic_laws.proofs.Places.{flag-at, found-rest}
@@ -75,10 +75,10 @@ module _ {A : Type 0} (t : A → Bool) (d : A) where
 
 -- ---- the hypotheses
 
-both-seen : (counts : List ℕ) (i : ℕ) → i < length (hypotheses counts) → bothSeen counts (getD (hypotheses counts) i (pair 0 0)) ≡ true
+both-seen : (counts : List ℕ) (i : ℕ) → i < length (hypotheses counts) → bothSeen counts (getD (hypotheses counts) i (twoAlleles 0 0)) ≡ true
 both-seen counts =
-    subst (λ (l : List Pair). (i : ℕ) → i < length l → bothSeen counts (getD l i (pair 0 0)) ≡ true) (all-seen counts)
-    (passed (bothSeen counts) (pair 0 0) allPairs)
+    subst (λ (l : List GermlinePair). (i : ℕ) → i < length l → bothSeen counts (getD l i (twoAlleles 0 0)) ≡ true) (all-seen counts)
+    (passed (bothSeen counts) (twoAlleles 0 0) allPairs)
 
 -- where there is a read, an allele is seen
 record Read (counts : List ℕ) (k : ℕ) : Type 0 where
@@ -125,25 +125,25 @@ pub some-hypothesis : (counts : List ℕ) → length counts ≤ 8 → 0 < totalO
 unfolding hypotheses
 some-hypothesis counts few h =
     let l = seenAlleles counts in
-    omega (arith, some-seen counts few h, length-append (singles l) (pairs l), length-map l (λ i. pair i i))
+    omega (arith, some-seen counts few h, length-append (singles l) (pairs l), length-map l (λ i. twoAlleles i i))
 
 -- ---- the answer
 
 nothing-here : VafOf false (nat 0)
 nothing-here = record { not-negative = nothing .not-negative; of-somatic = λ e. absurd (true≢false (sym e)); of-other = λ e. refl }
 
-module _ (p : Params) (counts : List ℕ) (ok : Accepted p counts) where
+module _ (p : Params) (counts : List ℕ) (ok : AcceptedMosaic p counts) where
   abbrev n : ℕ
   n = length (hypotheses counts)
 
   abbrev posts : List Float
-  posts = posteriors first p counts
+  posts = posteriors firstEdition p counts
 
-  abbrev posterior : Pair → Float
-  posterior g = foundOf first p counts g .posterior
+  abbrev posterior : GermlinePair → Float
+  posterior g = foundOf firstEdition p counts g .posterior
 
-  each-within : (i : ℕ) → i < n → Within (2 ^ 47) (posterior (getD (hypotheses counts) i (pair 0 0)))
-  each-within i h = posterior-within p counts ok (getD (hypotheses counts) i (pair 0 0)) (both-seen counts i h)
+  each-within : (i : ℕ) → i < n → Within (2 ^ 47) (posterior (getD (hypotheses counts) i (twoAlleles 0 0)))
+  each-within i h = posterior-within p counts ok (getD (hypotheses counts) i (twoAlleles 0 0)) (both-seen counts i h)
 
   -- no posterior is a NaN or an infinity
   pub posteriors-within : (i : ℕ) → i < n → Within (2 ^ 47) (getD posts i nan)
@@ -152,7 +152,7 @@ module _ (p : Params) (counts : List ℕ) (ok : Accepted p counts) where
       let m = map posterior (hypotheses counts) in
       subst (Within (2 ^ 47))
       (sym (List·getD-append m (replicate (36 - length m) (nat 0)) nan i (rw (length-map (hypotheses counts) posterior) h)
-      ∙ map-at posterior (hypotheses counts) (pair 0 0) nan i h))
+      ∙ map-at posterior (hypotheses counts) (twoAlleles 0 0) nan i h))
       (each-within i h)
 
   posts-length : length posts ≡ 36
@@ -209,44 +209,44 @@ module _ (p : Params) (counts : List ℕ) (ok : Accepted p counts) where
       go false e = subst (UpTo 1) (sym (chance-beyond i (ltb-false i n e) m)) (chance-more nothing (lit≤ tt))
 
   -- the probabilities of all but the winner, and the quality that they make
-  best-there : 0 < n → winner posts n < n
-  best-there some = low n (winner posts n) some (winner-low posts n (pred n) (omega arith))
+  best-there : 0 < n → winningPlace posts n < n
+  best-there some = low n (winningPlace posts n) some (winner-low posts n (pred n) (omega arith))
     where
       low : (n b : ℕ) → 0 < n → b ≤ pred n → b < n
       low n b h k = omega arith
 
   abbrev pub wrong : Float
-  wrong = wrongOf probs (winner posts n) n
+  wrong = wrongOf probs (winningPlace posts n) n
 
   wrong-there : 0 < n → UpTo (pred n) wrong
-  wrong-there some = wrong-chance probs n (at-most-36 counts) (chance-there some) (winner posts n) n (omega arith) (best-there some)
+  wrong-there some = wrong-chance probs n (at-most-36 counts) (chance-there some) (winningPlace posts n) n (omega arith) (best-there some)
 
   pub wrong-within : 0 < n → UpTo 35 wrong
   wrong-within some = chance-more (wrong-there some) (omega (arith, at-most-36 counts))
 
   pub wrong-number : 0 < n → T (fits binary64 wrong)
-  wrong-number some = wrong-fits probs n (at-most-36 counts) (chance-there some) (winner posts n) n
+  wrong-number some = wrong-fits probs n (at-most-36 counts) (chance-there some) (winningPlace posts n) n
 
-  vaf-each : (g : Pair) → bothSeen counts g ≡ true → (i : ℕ) → i < 8
-      → VafOf (getD (flagsOf counts g) i false) (vafAt (foundOf first p counts g .vafs) i)
+  vaf-each : (g : GermlinePair) → bothSeen counts g ≡ true → (i : ℕ) → i < 8
+      → VafOf (getD (flagsOf counts g) i false) (vafAt (foundOf firstEdition p counts g .vafs) i)
   vaf-each g both i m = rw (flag-at counts (ok .few) g i m) (go (somaticIn counts g i) refl)
     where
-      go : (t : Bool) → somaticIn counts g i ≡ t → VafOf t (vafAt (foundOf first p counts g .vafs) i)
+      go : (t : Bool) → somaticIn counts g i ≡ t → VafOf t (vafAt (foundOf firstEdition p counts g .vafs) i)
       go true e =
           let f = found-vafs p counts ok g both i (seen-in counts i (and-elim-left (seenIn counts i) (not (germlineIn g i)) e)) e in
           record {
-            not-negative = positive-not-below (vafAt (foundOf first p counts g .vafs) i) (f .0 .above-zero);
+            not-negative = positive-not-below (vafAt (foundOf firstEdition p counts g .vafs) i) (f .0 .above-zero);
             of-somatic = λ q. (f .0 .above-zero, f .1);
             of-other = λ q. absurd (true≢false q);
           }
-      go false e = subst (VafOf false) (sym (found-rest counts (ok .few) g first p i m e)) nothing-here
+      go false e = subst (VafOf false) (sym (found-rest counts (ok .few) g firstEdition p i m e)) nothing-here
 
-  pub finite-answer : 0 < totalOf counts → FiniteAnswer (calledOf larger smaller first p counts)
-  unfolding calledOf
+  pub finite-answer : 0 < totalOf counts → FiniteAnswer (mosaicCalled larger smaller firstEdition p counts)
+  unfolding mosaicCalled
   finite-answer read =
       let some = some-hypothesis counts (ok .few) read in
       let few = at-most-36 counts in
-      let best = winner posts n in
+      let best = winningPlace posts n in
       let m = best-there some in
       let q = bounded wrong (wrong-number some) (wrong-within some) in
       let e = in-use-all n few in
@@ -255,7 +255,7 @@ module _ (p : Params) (counts : List ℕ) (ok : Accepted p counts) where
         quality-is = rw e (q .at-most-hundred);
         quality-least = rw e (minus-two (qualityBy smaller wrong) (q .at-most-hundred .is-finite) (q .at-least));
         quality-of-two = λ l. rw e (q .not-negative (within-more (wrong-there some .within) (one-other n l)));
-        vafs-are = vaf-each (getD (hypotheses counts) best (pair 0 0)) (both-seen counts best m);
+        vafs-are = vaf-each (getD (hypotheses counts) best (twoAlleles 0 0)) (both-seen counts best m);
         chances-are = chance-each some;
         beyond-are = chance-beyond;
       }
@@ -265,7 +265,7 @@ module _ (p : Params) (counts : List ℕ) (ok : Accepted p counts) where
 
 -- ---- every answer
 
-blank-finite : (r : Refusal) → FiniteAnswer (blank r)
+blank-finite : (r : Refusal) → FiniteAnswer (blankMosaic r)
 blank-finite r = record {
   posterior-is = within-more (nothing .within) (lit≤ tt);
   quality-is = within-more (nothing .within) (lit≤ tt);
@@ -277,10 +277,10 @@ blank-finite r = record {
 }
 
 -- a call or a refusal, whatever the counts and the parameters, which are f64
-pub every-answer : (p : Params) (counts : List ℕ) → T (fits binary64 (p .alpha)) → T (fits binary64 (p .beta))
-    → FiniteAnswer (genotypeOf p counts)
-unfolding genotypeBy
-every-answer p counts f h =
-    let call = calledOf larger smaller first p counts in
+pub every-mosaic-answer : (p : Params) (counts : List ℕ) → T (fits binary64 (p .alpha)) → T (fits binary64 (p .beta))
+    → FiniteAnswer (mosaicOf p counts)
+unfolding mosaicBy
+every-mosaic-answer p counts f h =
+    let call = mosaicCalled larger smaller firstEdition p counts in
     by-refusals (λ _ a. FiniteAnswer a) blank-finite p counts call call (λ ok.
     finite-answer p counts (passed-accepted ok f h) (ok .read))

@@ -28,12 +28,12 @@ use Rattle.kernels_laws.proofs.TenAtMost.{pow10-alike}
 use Rattle.mosaic_probabilities.specs.Quality.{tensOf, probabilities, qualityBy}
 use Rattle.mosaic_probabilities.proofs.InUse.{in-use-all}
 use Rattle.mosaic_alleles.specs.Alleles.{totalOf}
-use Rattle.mosaic_hypotheses.specs.Edition.{first}
+use Rattle.mosaic_hypotheses.specs.Edition.{firstEdition}
 use Rattle.mosaic_hypotheses.specs.Hypotheses.{hypotheses}
 use Rattle.mosaic_hypotheses.specs.Choice.{posteriors}
 use Rattle.mosaic_hypotheses.proofs.Scanned.{at-most-36}
-use Rattle.mosaic.specs.Genotype.{calledOf, genotypeBy, genotypeOf}
-use Rattle.mosaic_laws.specs.Accepted.{Accepted}
+use Rattle.mosaic.specs.Genotype.{mosaicCalled, mosaicBy, mosaicOf}
+use Rattle.mosaic_laws.specs.Accepted.{AcceptedMosaic}
 use Rattle.mosaic_laws.proofs.OneLess.{one-less}
 use Rattle.mosaic_laws.proofs.Chances.{DecimalPosterior, log-within, whole-within}
 use Rattle.mosaic_laws.proofs.Qualities.{rawOf, raw-within}
@@ -145,12 +145,12 @@ module _ (max min : Pick) (is-max : IsMax max) (is-min : IsMin min) where
 
   -- ---- the answer
 
-  module _ (p : Params) (counts : List ℕ) (ok : Accepted p counts) (some : 0 < length (hypotheses counts)) where
+  module _ (p : Params) (counts : List ℕ) (ok : AcceptedMosaic p counts) (some : 0 < length (hypotheses counts)) where
     abbrev n : ℕ
     n = length (hypotheses counts)
 
     abbrev posts : List Float
-    posts = posteriors first p counts
+    posts = posteriors firstEdition p counts
 
     probabilities-any : probabilities max min posts n ≡ probabilities larger smaller posts n
     unfolding probabilities
@@ -161,9 +161,9 @@ module _ (max min : Pick) (is-max : IsMax max) (is-min : IsMin min) where
     wrong-any : qualityBy min (wrong p counts ok) ≡ qualityBy smaller (wrong p counts ok)
     wrong-any = quality-any (wrong p counts ok) (wrong-number p counts ok some) (wrong-within p counts ok some)
 
-  called-any : (p : Params) (counts : List ℕ) → Accepted p counts → 0 < totalOf counts
-      → calledOf max min first p counts ≡ calledOf larger smaller first p counts
-  unfolding calledOf
+  called-any : (p : Params) (counts : List ℕ) → AcceptedMosaic p counts → 0 < totalOf counts
+      → mosaicCalled max min firstEdition p counts ≡ mosaicCalled larger smaller firstEdition p counts
+  unfolding mosaicCalled
   called-any p counts ok read =
       let some = some-hypothesis counts (ok .few) read in
       let all = in-use-all (length (hypotheses counts)) (at-most-36 counts) in
@@ -171,10 +171,10 @@ module _ (max min : Pick) (is-max : IsMax max) (is-min : IsMin min) where
 
   -- of any counts and of parameters that are f64, as the struct's fields are; refusals do not come to a pick
   pub mosaic-any : (p : Params) (counts : List ℕ) → T (fits binary64 (p .alpha)) → T (fits binary64 (p .beta))
-      → genotypeBy max min first p counts ≡ genotypeOf p counts
-  unfolding genotypeBy
+      → mosaicBy max min firstEdition p counts ≡ mosaicOf p counts
+  unfolding mosaicBy
   mosaic-any p counts f h =
-      by-refusals (λ a b. a ≡ b) (λ _. refl) p counts (calledOf max min first p counts) (calledOf larger smaller first p counts)
+      by-refusals (λ a b. a ≡ b) (λ _. refl) p counts (mosaicCalled max min firstEdition p counts) (mosaicCalled larger smaller firstEdition p counts)
       (λ ok. called-any p counts (passed-accepted ok f h) (ok .read))
 
 -- ---- M3: what the somatic VAFs leave, for any mass that is a number

@@ -26,38 +26,38 @@ use Rattle.refusals.specs.declared.Refusal.{Refusal}
 use Rattle.mosaic_params.specs.declared.params.Params.{Params}
 use Rattle.floats.specs.MaxMin.{larger, smaller}
 use Rattle.lists.specs.Lists.{padded}
-use Rattle.mosaic_probabilities.specs.Quality.{inUse, tensOf, probabilities}
+use Rattle.mosaic_probabilities.specs.Quality.{upToThirtySix, tensOf, probabilities}
 use Rattle.mosaic_probabilities.proofs.InUse.{in-use-all}
-use Rattle.mosaic_hypotheses.specs.Edition.{first}
+use Rattle.mosaic_hypotheses.specs.Edition.{firstEdition}
 use Rattle.mosaic_hypotheses.specs.Hypotheses.{seenAlleles, hypotheses}
 use Rattle.mosaic_hypotheses.specs.Choice.{posteriors}
-use Rattle.mosaic_probabilities.specs.Winner.{winner}
-use Rattle.mosaic.specs.Genotype.{blank, calledOf, genotypeBy, genotypeOf}
+use Rattle.mosaic_probabilities.specs.Winner.{winningPlace}
+use Rattle.mosaic.specs.Genotype.{blankMosaic, mosaicCalled, mosaicBy, mosaicOf}
 use Rattle.mosaic.specs.declared.genotype.MosaicResult.{MosaicResult}
-use Rattle.mosaic_laws.specs.Tails.{probabilitiesWith, calledWith, genotypeWith, withoutChances, SameButTiny}
+use Rattle.mosaic_laws.specs.Tails.{probabilitiesWith, mosaicCalledWith, mosaicWith, withoutChances, SameButTiny}
 use Rattle.mosaic_laws.specs.Tails.{KeptOrRisen, kept, risen}
 use Rattle.mosaic_laws.proofs.Count.{hypothesis-count}
 use Rattle.mosaic_laws.proofs.TinyWrong.{nothing-summand, quality-same}
-use Rattle.mosaic_laws.proofs.Cases.{Passed, by-refusals}
+use Rattle.mosaic_laws.proofs.Cases.{NoneRefused, by-refusals}
 
 -- ---- at `expOf` the definitions over an exponential are the rules' own
 
 by-exp : (l : List Float) (n : ℕ) → probabilitiesWith expOf l n ≡ probabilities larger smaller l n
 unfolding probabilitiesWith probabilities pow10Of
-by-exp l n = rw (whole-by-exp (tensOf l (inUse n)))
+by-exp l n = rw (whole-by-exp (tensOf l (upToThirtySix n)))
 
-pub mosaic-by-exp : (p : Params) (counts : List ℕ) → genotypeWith expOf p counts ≡ genotypeOf p counts
-unfolding genotypeBy calledOf
-mosaic-by-exp p counts = rw (by-exp (posteriors first p counts) (length (hypotheses counts)))
+pub mosaic-by-exp : (p : Params) (counts : List ℕ) → mosaicWith expOf p counts ≡ mosaicOf p counts
+unfolding mosaicBy mosaicCalled
+mosaic-by-exp p counts = rw (by-exp (posteriors firstEdition p counts) (length (hypotheses counts)))
 
 -- what holds of two like refusals and of a call beside the one by `expOf` holds of an answer beside the rules' own
-pub beside-own : (R : MosaicResult → MosaicResult → Type 0) → ((r : Refusal) → R (blank r) (blank r))
+pub beside-own : (R : MosaicResult → MosaicResult → Type 0) → ((r : Refusal) → R (blankMosaic r) (blankMosaic r))
     → (e : Float → Float) (p : Params) (counts : List ℕ)
-    → (Passed p counts → R (calledWith e p counts) (calledWith expOf p counts))
-    → R (genotypeWith e p counts) (genotypeOf p counts)
+    → (NoneRefused p counts → R (mosaicCalledWith e p counts) (mosaicCalledWith expOf p counts))
+    → R (mosaicWith e p counts) (mosaicOf p counts)
 beside-own R refused e p counts called =
-    subst (R (genotypeWith e p counts)) (mosaic-by-exp p counts)
-    (by-refusals R refused p counts (calledWith e p counts) (calledWith expOf p counts) called)
+    subst (R (mosaicWith e p counts)) (mosaic-by-exp p counts)
+    (by-refusals R refused p counts (mosaicCalledWith e p counts) (mosaicCalledWith expOf p counts) called)
 
 -- ---- what two functions give of one list, place by place, filled up
 
@@ -80,7 +80,7 @@ take-few zero l = omega arith
 take-few (suc n) [] = omega arith
 take-few (suc n) (x ∷ l) = omega (arith, take-few n l)
 
-tens-at-most : (n : ℕ) (l : List Float) → n ≤ 18 → length (tensOf l (inUse n)) ≤ 18
+tens-at-most : (n : ℕ) (l : List Float) → n ≤ 18 → length (tensOf l (upToThirtySix n)) ≤ 18
 tens-at-most n l h =
     let few : length (take n l) ≤ n = take-few n l in
     rw (in-use-all n (omega arith)) (rw (length-map (take n l) inTens) (omega arith))
@@ -92,7 +92,7 @@ module _ (e : Float → Float) (tail : Tail e) where
   chance-summand : (l : List Float) (n i : ℕ) → Summand (getD (probabilitiesWith e l n) i nan)
   unfolding probabilitiesWith
   chance-summand l n i =
-      let tens = tensOf l (inUse n) in
+      let tens = tensOf l (upToThirtySix n) in
       let normal = map (lessWhole smaller (wholeWith e tens)) tens in
       let each : (x : Float) → Summand (tenWith e x) = λ x. tail-summand e tail (x ⊗ lnOf (nat 10)) in
       padded-of (λ x y. Summand x) nan-summand (nat 0) nothing-summand (tenWith e) (tenWith e) each 36 normal i
@@ -101,7 +101,7 @@ module _ (e : Float → Float) (tail : Tail e) where
       → SameOrTiny 1000 (getD (probabilitiesWith e l n) i nan) (getD (probabilitiesWith expOf l n) i nan)
   unfolding probabilitiesWith
   chance-either l n i h =
-      let tens = tensOf l (inUse n) in
+      let tens = tensOf l (upToThirtySix n) in
       let normal = map (lessWhole smaller (wholeWith expOf tens)) tens in
       let each : (x : Float) → SameOrTiny 1000 (tenWith e x) (tenWith expOf x) = λ x. tail-same e tail (x ⊗ lnOf (nat 10)) in
       rw (whole-tail e tail tens (tens-at-most n l h))
@@ -116,7 +116,7 @@ count-few k s n h e = let less : s - 1 ≤ k - 1 = omega arith in omega (arith, 
 
 -- whatever the exponential is, all over
 pub call-tail : (e : Float → Float) (p : Params) (counts : List ℕ)
-    → withoutChances (genotypeWith e p counts) ≡ withoutChances (genotypeOf p counts)
+    → withoutChances (mosaicWith e p counts) ≡ withoutChances (mosaicOf p counts)
 call-tail e p counts = beside-own (λ a b. withoutChances a ≡ withoutChances b) (λ _. refl) e p counts (λ _. refl)
 
 module _ (e : Float → Float) (tail : Tail e) (p : Params) (counts : List ℕ) where
@@ -124,15 +124,15 @@ module _ (e : Float → Float) (tail : Tail e) (p : Params) (counts : List ℕ) 
   n = length (hypotheses counts)
 
   abbrev posts : List Float
-  posts = posteriors first p counts
+  posts = posteriors firstEdition p counts
 
   abbrev s : ℕ
   s = length (seenAlleles counts)
 
-  called-quality : s ≤ 4 → calledWith e p counts .quality ≡ calledWith expOf p counts .quality
+  called-quality : s ≤ 4 → mosaicCalledWith e p counts .quality ≡ mosaicCalledWith expOf p counts .quality
   called-quality h =
       let few : n ≤ 10 = count-few 4 s n h (hypothesis-count counts) in
-      quality-same (probabilitiesWith e posts n) (probabilitiesWith expOf posts n) n (winner posts n) (omega arith)
+      quality-same (probabilitiesWith e posts n) (probabilitiesWith expOf posts n) n (winningPlace posts n) (omega arith)
       (λ i _. chance-summand e tail posts n i) (λ i _. chance-summand expOf exp-is-tail posts n i)
       (λ i _. chance-either e tail posts n i (omega arith))
 
@@ -142,13 +142,13 @@ module _ (e : Float → Float) (tail : Tail e) (p : Params) (counts : List ℕ) 
       let few : n ≤ 15 = count-few 5 s n h (hypothesis-count counts) in
       chance-either e tail posts n i (omega arith)
 
-  pub chances-tail : genotypeOf p counts .seen ≤ 5 → (i : ℕ) → i < 36
-      → SameOrTiny 1000 (getD (genotypeWith e p counts .probabilities) i nan) (getD (genotypeOf p counts .probabilities) i nan)
+  pub chances-tail : mosaicOf p counts .seen ≤ 5 → (i : ℕ) → i < 36
+      → SameOrTiny 1000 (getD (mosaicWith e p counts .probabilities) i nan) (getD (mosaicOf p counts .probabilities) i nan)
   chances-tail h i l =
       beside-own (λ a b. b .seen ≤ 5 → SameOrTiny 1000 (getD (a .probabilities) i nan) (getD (b .probabilities) i nan))
       (λ _ _. same refl) e p counts (λ _ k. called-chances k i) h
 
-  pub mosaic-tail : genotypeOf p counts .seen ≤ 4 → SameButTiny (genotypeWith e p counts) (genotypeOf p counts)
+  pub mosaic-tail : mosaicOf p counts .seen ≤ 4 → SameButTiny (mosaicWith e p counts) (mosaicOf p counts)
   mosaic-tail h = record {
     same-call = call-tail e p counts;
     same-quality = beside-own (λ a b. b .seen ≤ 4 → a .quality ≡ b .quality) (λ _ _. refl) e p counts (λ _. called-quality) h;
@@ -168,18 +168,18 @@ chance-kept : (l : List Float) (n i : ℕ) → n ≤ 18
     → KeptOrRisen (getD (probabilitiesWith expFlushed l n) i nan) (getD (probabilitiesWith expOf l n) i nan)
 unfolding probabilitiesWith
 chance-kept l n i h =
-    let tens = tensOf l (inUse n) in
+    let tens = tensOf l (upToThirtySix n) in
     let normal = map (lessWhole smaller (wholeWith expOf tens)) tens in
     let each : (x : Float) → KeptOrRisen (tenWith expFlushed x) (tenWith expOf x) = λ x. kept-or-risen (x ⊗ lnOf (nat 10)) in
     rw (whole-tail expFlushed flushed-is-tail tens (tens-at-most n l h))
     (padded-of KeptOrRisen (kept refl) (nat 0) (kept refl) (tenWith expFlushed) (tenWith expOf) each 36 normal i)
 
 module _ (p : Params) (counts : List ℕ) where
-  pub call-unchanged : withoutChances (genotypeWith expFlushed p counts) ≡ withoutChances (genotypeOf p counts)
+  pub call-unchanged : withoutChances (mosaicWith expFlushed p counts) ≡ withoutChances (mosaicOf p counts)
   call-unchanged = call-tail expFlushed p counts
 
-  pub chances-unchanged : genotypeOf p counts .seen ≤ 5 → (i : ℕ) → i < 36
-      → KeptOrRisen (getD (genotypeWith expFlushed p counts .probabilities) i nan) (getD (genotypeOf p counts .probabilities) i nan)
+  pub chances-unchanged : mosaicOf p counts .seen ≤ 5 → (i : ℕ) → i < 36
+      → KeptOrRisen (getD (mosaicWith expFlushed p counts .probabilities) i nan) (getD (mosaicOf p counts .probabilities) i nan)
   chances-unchanged h i l =
       beside-own (λ a b. b .seen ≤ 5 → KeptOrRisen (getD (a .probabilities) i nan) (getD (b .probabilities) i nan))
       (λ _ _. kept refl) expFlushed p counts (λ _ k. called-kept k) h
@@ -188,7 +188,7 @@ module _ (p : Params) (counts : List ℕ) where
       n = length (hypotheses counts)
 
       posts : List Float
-      posts = posteriors first p counts
+      posts = posteriors firstEdition p counts
 
       called-kept : length (seenAlleles counts) ≤ 5
           → KeptOrRisen (getD (probabilitiesWith expFlushed posts n) i nan) (getD (probabilitiesWith expOf posts n) i nan)
@@ -196,5 +196,5 @@ module _ (p : Params) (counts : List ℕ) where
           let few : n ≤ 15 = count-few 5 (length (seenAlleles counts)) n k (hypothesis-count counts) in
           chance-kept posts n i (omega arith)
 
-  pub mosaic-unchanged : genotypeOf p counts .seen ≤ 4 → SameButTiny (genotypeWith expFlushed p counts) (genotypeOf p counts)
+  pub mosaic-unchanged : mosaicOf p counts .seen ≤ 4 → SameButTiny (mosaicWith expFlushed p counts) (mosaicOf p counts)
   mosaic-unchanged = mosaic-tail expFlushed flushed-is-tail p counts

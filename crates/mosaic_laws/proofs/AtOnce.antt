@@ -32,11 +32,11 @@ use Rattle.kernels_stirling.specs.Stirling.{stirlingOf, lnFactorial}
 use Rattle.limits.specs.Limits.{countsAllowed}
 use Rattle.lists.specs.Over.{over}
 use Rattle.mosaic_alleles.specs.Alleles.{countAt, seenIn, germlineIn, somaticIn, totalOf}
-use Rattle.mosaic_alleles.specs.declared.pair.Pair.{Pair}
+use Rattle.mosaic_alleles.specs.declared.pair.GermlinePair.{GermlinePair}
 use Rattle.mosaic_alleles.proofs.CountLaws.{count-bound, total-bound}
 use Rattle.mosaic_candidates.specs.Shares.{vafAt, massOf, germlineShare}
-use Rattle.mosaic_hypotheses.specs.Edition.{first}
-use Rattle.mosaic_hypotheses.specs.Likelihood.{shareOf, likelihoodOf}
+use Rattle.mosaic_hypotheses.specs.Edition.{firstEdition}
+use Rattle.mosaic_hypotheses.specs.Likelihood.{alleleShare, likelihoodOf}
 use Rattle.mosaic_laws.specs.AtOnce.{FromZero, VafsFromZero, impossible, someImpossible, likelihoodAtOnce}
 use Rattle.mosaic_laws.proofs.Terms.{either, within-factorial, share-ln-within}
 use Rattle.mosaic_laws.proofs.OneLess.{one-less}
@@ -75,7 +75,7 @@ mass-add {y = fin true n d} (clear-mass m e) k =
 -- ---- the logarithm of the germline share, whatever the sum
 
 -- a sum above 1 leaves 0.01, as a sum of 1 does
-least-share : (g : Pair) (mass : Float) → lt (nat 1 ⊖ mass) (decimal 1 2) ≡ true → germlineShare g mass ≡ germlineShare g (nat 1)
+least-share : (g : GermlinePair) (mass : Float) → lt (nat 1 ⊖ mass) (decimal 1 2) ≡ true → germlineShare g mass ≡ germlineShare g (nat 1)
 unfolding germlineShare
 least-share g mass h =
     let one : lt (nat 1 ⊖ nat 1) (decimal 1 2) ≡ true = unfold round lt ofInt sub add neg sum in refl in
@@ -95,7 +95,7 @@ low-test x f h = go (lt x (decimal 1 2)) refl
         let up = above-finite x (above-of-le (decimal 1 2) x (low .is-positive) most) f in
         absurd (true≢false (sym (zero-below x up) ∙ (unfold ofInt in le-not-lt x nought h)))
 
-module _ (g : Pair) where
+module _ (g : GermlinePair) where
   abbrev Bounded : Float → Type 0
   Bounded mass = Within (2 ^ 12) (lnOf (germlineShare g mass))
 
@@ -144,7 +144,7 @@ times-least (fin false m e) p = rw (eqb-zero m (ltb→lt 0 m p))
 -- ---- the running sum
 
 module _ (counts : List ℕ) (allowed : countsAllowed counts ≡ true) (few : length counts ≤ 8)
-    (g : Pair) (vafs : List Float) (from-zero : VafsFromZero counts g vafs) where
+    (g : GermlinePair) (vafs : List Float) (from-zero : VafsFromZero counts g vafs) where
   abbrev n : ℕ
   n = length counts
 
@@ -169,21 +169,21 @@ module _ (counts : List ℕ) (allowed : countsAllowed counts ≡ true) (few : le
       IsF64 : Float → Type 0
       IsF64 s = T (fits binary64 s)
 
-  share-low : (i : ℕ) → i < n → seenIn counts i ≡ true → Low (2 ^ 12) (lnOf (shareOf counts g vafs i))
+  share-low : (i : ℕ) → i < n → seenIn counts i ≡ true → Low (2 ^ 12) (lnOf (alleleShare counts g vafs i))
   share-low i l seen =
       either (λ v. Low (2 ^ 12) (lnOf v)) (germlineIn g i) (germlineShare g mass) (vafAt vafs i)
       (λ e. finite-low (share-bounded g mass mass-is mass-fits))
       (λ e. let v = from-zero i l (rw (seen, e)) in low-ln (vafAt vafs i) (v .is-f64) (v .not-below))
 
   abbrev term : ℕ → Float
-  term i = nat (countAt counts i) ⊗ lnOf (shareOf counts g vafs i)
+  term i = nat (countAt counts i) ⊗ lnOf (alleleShare counts g vafs i)
 
   count-positive : (i : ℕ) → seenIn counts i ≡ true → T (positive (nat (countAt counts i)))
   count-positive i seen =
       above-whole (countAt counts i) (seen-some counts i seen) (omega (arith, count-bound counts allowed i)) .is-positive
 
   term-low : (i : ℕ) → i < n → seenIn counts i ≡ true → Low (1000000 * 2 ^ 12) (term i)
-  term-low i l seen = go (lnOf (shareOf counts g vafs i)) (share-low i l seen)
+  term-low i l seen = go (lnOf (alleleShare counts g vafs i)) (share-low i l seen)
     where
       go : (x : Float) → Low (2 ^ 12) x → Low (1000000 * 2 ^ 12) (nat (countAt counts i) ⊗ x)
       go x least = rw (times-least (nat (countAt counts i)) (count-positive i seen)) least
@@ -232,17 +232,17 @@ module _ (counts : List ℕ) (allowed : countsAllowed counts ≡ true) (few : le
   -- and it is so from an impossible allele on
   sunk : (j : ℕ) → j < n → impossible counts g vafs j ≡ true → sumStep j (over sumStep whole j) ≡ inf true
   sunk j l h =
-      let seen = and-elim-left (seenIn counts j) (eq (shareOf counts g vafs j) (nat 0)) h in
-      let nothing = zero-ln (shareOf counts g vafs j) (and-elim-right (seenIn counts j) (eq (shareOf counts g vafs j) (nat 0)) h) in
+      let seen = and-elim-left (seenIn counts j) (eq (alleleShare counts g vafs j) (nat 0)) h in
+      let nothing = zero-ln (alleleShare counts g vafs j) (and-elim-right (seenIn counts j) (eq (alleleShare counts g vafs j) (nat 0)) h) in
       let s = over sumStep whole j in
       let less = less-low j (2 ^ 38 + j * 2 ^ 39) s (sum-low j (omega arith)) (omega (arith, steps j (2 ^ 39) l)) in
       rw (seen, nothing, times-least (nat (countAt counts j)) (count-positive j seen)) (low-least less)
 
-  pub likelihood-at-once : likelihoodOf first counts g vafs ≡ likelihoodAtOnce first counts g vafs
+  pub likelihood-at-once : likelihoodOf firstEdition counts g vafs ≡ likelihoodAtOnce firstEdition counts g vafs
   likelihood-at-once = go (someImpossible counts g vafs) refl
     where
       go : (t : Bool) → someImpossible counts g vafs ≡ t
-          → likelihoodOf first counts g vafs ≡ cond t (inf true) (likelihoodOf first counts g vafs)
+          → likelihoodOf firstEdition counts g vafs ≡ cond t (inf true) (likelihoodOf firstEdition counts g vafs)
       go true e =
           let one = some-at (impossible counts g vafs) n e in
           let there = sunk (one .at) (one .in-use) (one .passes) in

@@ -15,19 +15,19 @@ use Rattle.limits.specs.Limits.{countsAllowed}
 use Rattle.mosaic_params.specs.declared.params.Params.{Params}
 use Rattle.mosaic_alleles.specs.Alleles.{totalOf}
 use Rattle.mosaic_params.specs.Allowed.{paramsAllowed}
-use Rattle.mosaic.specs.Genotype.{blank}
+use Rattle.mosaic.specs.Genotype.{blankMosaic}
 use Rattle.mosaic.specs.declared.genotype.MosaicResult.{MosaicResult}
-use Rattle.mosaic_laws.specs.Accepted.{Accepted}
+use Rattle.mosaic_laws.specs.Accepted.{AcceptedMosaic}
 
 -- what the tests said of inputs that are not refused
-pub record Passed (p : Params) (counts : List ℕ) : Type 0 where
+pub record NoneRefused (p : Params) (counts : List ℕ) : Type 0 where
   pub few : length counts ≤ 8
   pub params-are : paramsAllowed p ≡ true
   pub counts-are : countsAllowed counts ≡ true
   pub read : 0 < totalOf counts
 
-pub passed-accepted : {p : Params} {counts : List ℕ} → Passed p counts → T (fits binary64 (p .alpha)) → T (fits binary64 (p .beta))
-    → Accepted p counts
+pub passed-accepted : {p : Params} {counts : List ℕ} → NoneRefused p counts → T (fits binary64 (p .alpha)) → T (fits binary64 (p .beta))
+    → AcceptedMosaic p counts
 passed-accepted h alpha beta = record {
   params-are = h .params-are;
   alpha-is-f64 = alpha;
@@ -39,15 +39,15 @@ passed-accepted h alpha beta = record {
 -- O1, R11: the answer by what the four tests say, in their order
 abbrev pub afterTests : Bool → Bool → Bool → Bool → MosaicResult → MosaicResult
 afterTests few params allowed none call =
-    cond few (cond params (cond allowed (cond none (blank NoCall) call) (blank Count)) (blank Model)) (blank TooMany)
+    cond few (cond params (cond allowed (cond none (blankMosaic NoCall) call) (blankMosaic Count)) (blankMosaic Model)) (blankMosaic TooMany)
 
 abbrev pub unlessRefused : Params → List ℕ → MosaicResult → MosaicResult
 unlessRefused p counts =
     afterTests (leb (length counts) 8) (paramsAllowed p) (countsAllowed counts) (ltb (totalOf counts) (p .depth) || eqb (totalOf counts) 0)
 
-pub by-refusals : (R : MosaicResult → MosaicResult → Type 0) → ((r : Refusal) → R (blank r) (blank r))
+pub by-refusals : (R : MosaicResult → MosaicResult → Type 0) → ((r : Refusal) → R (blankMosaic r) (blankMosaic r))
     → (p : Params) (counts : List ℕ) (a b : MosaicResult)
-    → (Passed p counts → R a b)
+    → (NoneRefused p counts → R a b)
     → R (unlessRefused p counts a) (unlessRefused p counts b)
 by-refusals R refused p counts a b called =
     go (leb (length counts) 8) (paramsAllowed p) (countsAllowed counts) (ltb (totalOf counts) (p .depth)) (eqb (totalOf counts) 0)

@@ -27,19 +27,19 @@ use Rattle.kernels.specs.Ln.{lnOf}
 use Rattle.kernels_stirling.specs.Stirling.{stirlingOf, lnFactorial}
 use Rattle.lists.specs.Over.{over}
 use Rattle.mosaic_hypotheses.proofs.Terms.{start-at}
-use Rattle.mosaic_hypotheses.specs.Edition.{first}
+use Rattle.mosaic_hypotheses.specs.Edition.{firstEdition}
 use Rattle.mosaic_alleles.specs.Alleles.{countAt, seenIn, germlineIn, somaticIn, totalOf}
 use Rattle.mosaic_candidates.specs.Shares.{anyOver, anySomatic, vafAt, massOf, germlineShare, startVafs, stepOf, observedShare}
 use Rattle.mosaic_hypotheses.specs.Hypotheses.{bothSeen}
-use Rattle.mosaic_hypotheses.specs.Likelihood.{shareOf, likelihoodOf}
+use Rattle.mosaic_hypotheses.specs.Likelihood.{alleleShare, likelihoodOf}
 use Rattle.mosaic_hypotheses.specs.Prior.{gainOf, priorOf}
 use Rattle.mosaic_hypotheses.specs.Search.{Best, valueOf, tried, triedStep, searchedAllele, searchedAll, foundOf}
 use Rattle.mosaic_params.specs.declared.params.Params.{Params}
-use Rattle.mosaic_alleles.specs.declared.pair.Pair.{Pair}
+use Rattle.mosaic_alleles.specs.declared.pair.GermlinePair.{GermlinePair}
 use Rattle.mosaic_alleles.proofs.CountLaws.{count-bound, total-bound}
 use Rattle.lists.proofs.OverLaws.{length-placed, at-set}
 use Rattle.mosaic_laws.specs.AtOnce.{VafsFromZero}
-use Rattle.mosaic_laws.specs.Accepted.{Accepted}
+use Rattle.mosaic_laws.specs.Accepted.{AcceptedMosaic}
 use Rattle.mosaic_laws.proofs.Quotients.{observed-share}
 use Rattle.mosaic_laws.proofs.Terms.{either, within-factorial, highest-within, Vaf, ln-within, one-at, gain-within, share-ln-within}
 use Rattle.mosaic_laws.proofs.Sums.{over-keeps, grows, of-eight}
@@ -47,7 +47,7 @@ use Rattle.mosaic_laws.proofs.PriorAtOnce.{density, germline-within, pr
 use Rattle.mosaic_laws.proofs.Least.{under-finite, least-stays}
 use Rattle.mosaic_laws.proofs.Seen.{seen-some, seen-in, counts-in}
 
-module _ (p : Params) (counts : List ℕ) (ok : Accepted p counts) (g : Pair) (both : bothSeen counts g ≡ true) where
+module _ (p : Params) (counts : List ℕ) (ok : AcceptedMosaic p counts) (g : GermlinePair) (both : bothSeen counts g ≡ true) where
   abbrev n : ℕ
   n = length counts
 
@@ -86,7 +86,7 @@ module _ (p : Params) (counts : List ℕ) (ok : Accepted p counts) (g : Pair) (b
       (omega (arith, eight 20))
 
   -- the term of an allele that is seen
-  term-within : (l : List Float) → Tryable l → (i : ℕ) → i < n → seenIn counts i ≡ true → Within (1000000 * 2 ^ 12) (nat (countAt counts i) ⊗ lnOf (shareOf counts g l i))
+  term-within : (l : List Float) → Tryable l → (i : ℕ) → i < n → seenIn counts i ≡ true → Within (1000000 * 2 ^ 12) (nat (countAt counts i) ⊗ lnOf (alleleShare counts g l i))
   term-within l h i m s =
       within-mul (within-whole (pos (countAt counts i)) 1000000 (count-bound counts (ok .counts-are) i) (lit≤ tt))
       (either (λ v. Within (2 ^ 12) (lnOf v)) (germlineIn g i) (germlineShare g (massOf counts g l)) (vafAt l i)
@@ -94,17 +94,17 @@ module _ (p : Params) (counts : List ℕ) (ok : Accepted p counts) (g : Pair) (b
       (λ e. ln-within (vafAt l i) (h i m (rw (s, e)))))
       (lit≤ tt)
 
-  likelihood-within : (l : List Float) → Tryable l → Within (2 ^ 43) (likelihoodOf first counts g l)
+  likelihood-within : (l : List Float) → Tryable l → Within (2 ^ 43) (likelihoodOf firstEdition counts g l)
   unfolding likelihoodOf
   likelihood-within l h =
       within-more
       (grows Within (2 ^ 38) (2 ^ 39)
-      (λ i s. cond (seenIn counts i) (s ⊖ lnFactorial stirlingOf (countAt counts i) ⊕ nat (countAt counts i) ⊗ lnOf (shareOf counts g l i)) (s ⊖ lnFactorial stirlingOf (countAt counts i)))
+      (λ i s. cond (seenIn counts i) (s ⊖ lnFactorial stirlingOf (countAt counts i) ⊕ nat (countAt counts i) ⊗ lnOf (alleleShare counts g l i)) (s ⊖ lnFactorial stirlingOf (countAt counts i)))
       (lnFactorial stirlingOf (totalOf counts)) n
       (λ i m x w.
       let b = count-bound counts (ok .counts-are) i in
       let less = within-sub w (within-factorial (countAt counts i) (omega arith)) (omega (arith, steps i (2 ^ 39) m)) in
-      either (Within (2 ^ 38 + i * 2 ^ 39 + 2 ^ 39)) (seenIn counts i) (x ⊖ lnFactorial stirlingOf (countAt counts i) ⊕ nat (countAt counts i) ⊗ lnOf (shareOf counts g l i)) (x ⊖ lnFactorial stirlingOf (countAt counts i))
+      either (Within (2 ^ 38 + i * 2 ^ 39 + 2 ^ 39)) (seenIn counts i) (x ⊖ lnFactorial stirlingOf (countAt counts i) ⊕ nat (countAt counts i) ⊗ lnOf (alleleShare counts g l i)) (x ⊖ lnFactorial stirlingOf (countAt counts i))
       (λ e. within-more (within-add less (term-within l h i m e) (omega (arith, steps i (2 ^ 39) m))) (omega arith))
       (λ e. within-more less (omega arith)))
       (within-factorial (totalOf counts) total-small))
@@ -112,7 +112,7 @@ module _ (p : Params) (counts : List ℕ) (ok : Accepted p counts) (g : Pair) (b
 
   -- ---- the prior
 
-  prior-within : (l : List Float) → Tryable l → Low1 l → Within (2 ^ 45) (priorOf first p counts g l)
+  prior-within : (l : List Float) → Tryable l → Low1 l → Within (2 ^ 45) (priorOf firstEdition p counts g l)
   unfolding priorOf
   prior-within l h k =
       within-more
@@ -133,27 +133,27 @@ module _ (p : Params) (counts : List ℕ) (ok : Accepted p counts) (g : Pair) (b
     none : Value (inf true)
     some : {v : Float} → Within (2 ^ 46) v → T (fits binary64 v) → Value v
 
-  pub record Kept (b : Best) : Type 0 where
+  pub record KeptBest (b : Best) : Type 0 where
     pub eight-vafs : length (b .vafs) ≡ 8
     pub tryable : Tryable (b .vafs)
     pub low : Low1 (b .vafs)
     pub value-is : Value (b .value)
 
   -- a value that is finite
-  pub record Some (b : Best) : Type 0 where
-    pub kept : Kept b
+  pub record FiniteBest (b : Best) : Type 0 where
+    pub kept : KeptBest b
     pub within : Within (2 ^ 46) (b .value)
 
-  value-within : (l : List Float) → Tryable l → Low1 l → Within (2 ^ 46) (valueOf first p counts g l)
+  value-within : (l : List Float) → Tryable l → Low1 l → Within (2 ^ 46) (valueOf firstEdition p counts g l)
   value-within l h k = within-more (within-add (likelihood-within l h) (prior-within l h k) (lit≤ tt)) (lit≤ tt)
 
   set-vafs : (l : List Float) → length l ≡ 8 → (P : Float → Type 0) → (i : ℕ) → i < n → (x : Float) → P x → ((j : ℕ) → j < n → somaticIn counts g j ≡ true → P (vafAt l j)) → (j : ℕ) → j < n → somaticIn counts g j ≡ true → P (vafAt (set l i x) j)
   set-vafs l e P i m x h k j q s = at-set l i j x nan (omega (arith, ok .few)) (eqb j i) refl P (λ r. h) (λ r. k j q s)
 
-  set-tryable : (b : Best) → Kept b → (i : ℕ) → i < n → (x : Float) → Vaf x → Tryable (set (b .vafs) i x)
+  set-tryable : (b : Best) → KeptBest b → (i : ℕ) → i < n → (x : Float) → Vaf x → Tryable (set (b .vafs) i x)
   set-tryable b h i m x v = set-vafs (b .vafs) (h .eight-vafs) Vaf i m x v (h .tryable)
 
-  made : (b : Best) → Kept b → (i : ℕ) → i < n → (x : Float) → Vaf x → lt x (nat 1) ≡ true → let l = set (b .vafs) i x in Some (record { vafs = l; value = valueOf first p counts g l })
+  made : (b : Best) → KeptBest b → (i : ℕ) → i < n → (x : Float) → Vaf x → lt x (nat 1) ≡ true → let l = set (b .vafs) i x in FiniteBest (record { vafs = l; value = valueOf firstEdition p counts g l })
   made b h i m x v e =
       let l = set (b .vafs) i x in
       let t = set-tryable b h i m x v in
@@ -164,7 +164,7 @@ module _ (p : Params) (counts : List ℕ) (ok : Accepted p counts) (g : Pair) (b
           eight-vafs = length-set (b .vafs) i x ∙ h .eight-vafs;
           tryable = t;
           low = low;
-          value-is = some w (add-fits binary64 (likelihoodOf first counts g l) (priorOf first p counts g l));
+          value-is = some w (add-fits binary64 (likelihoodOf firstEdition counts g l) (priorOf firstEdition p counts g l));
         };
         within = w;
       }
@@ -178,49 +178,49 @@ module _ (p : Params) (counts : List ℕ) (ok : Accepted p counts) (g : Pair) (b
   fit (some w f) = f
 
   -- a candidate from 1 on is not kept
-  pub beyond : (b : Best) → Kept b → (i : ℕ) → i < n → somaticIn counts g i ≡ true → (x : Float) → Vaf x → le (nat 1) x ≡ true → tried first p counts g i x b ≡ b
+  pub beyond : (b : Best) → KeptBest b → (i : ℕ) → i < n → somaticIn counts g i ≡ true → (x : Float) → Vaf x → le (nat 1) x ≡ true → tried firstEdition p counts g i x b ≡ b
   beyond b h i m s x v e =
       let l = set (b .vafs) i x in
       let t = set-tryable b h i m x v in
       let here : vafAt l i ≡ x = at-set (b .vafs) i i x nan (omega (arith, h .eight-vafs, ok .few)) (eqb i i) refl (λ y. y ≡ x) (λ r. refl) (λ r. absurd (r refl)) in
       let prior = prior-least p counts ok g both l (λ j q r. t j q r .is-f64) i m s (rw here e) in
-      let value : valueOf first p counts g l ≡ inf true =
-      rw prior (finite-least (likelihoodOf first counts g l) (likelihood-within l t .is-finite)) in
-      least-stays first p counts g i x b (fit (h .value-is)) (number (h .value-is)) value
+      let value : valueOf firstEdition p counts g l ≡ inf true =
+      rw prior (finite-least (likelihoodOf firstEdition counts g l) (likelihood-within l t .is-finite)) in
+      least-stays firstEdition p counts g i x b (fit (h .value-is)) (number (h .value-is)) value
 
   not-one : (x : Float) → Vaf x → le (nat 1) x ≡ false → lt x (nat 1) ≡ true
   not-one x v e = above-by-test (nat 1) x one-at (positive-not-below x (v .above-zero)) e
 
   -- what a candidate makes, and whether it is larger
   abbrev better : ℕ → Float → Best → Best
-  better i x b = let l = set (b .vafs) i x in record { vafs = l; value = valueOf first p counts g l }
+  better i x b = let l = set (b .vafs) i x in record { vafs = l; value = valueOf firstEdition p counts g l }
 
   abbrev larger : ℕ → Float → Best → Bool
   larger i x b = ltZ (keyOf (b .value)) (keyOf (better i x b .value))
 
-  tried-is : (i : ℕ) (x : Float) (b : Best) → cond (larger i x b) (better i x b) b ≡ tried first p counts g i x b
+  tried-is : (i : ℕ) (x : Float) (b : Best) → cond (larger i x b) (better i x b) b ≡ tried firstEdition p counts g i x b
   unfolding tried
   tried-is i x b = refl
 
-  tried-some : (i : ℕ) → i < n → somaticIn counts g i ≡ true → (x : Float) → Vaf x → (b : Best) → Some b → Some (tried first p counts g i x b)
+  tried-some : (i : ℕ) → i < n → somaticIn counts g i ≡ true → (x : Float) → Vaf x → (b : Best) → FiniteBest b → FiniteBest (tried firstEdition p counts g i x b)
   tried-some i m s x v b h = go (le (nat 1) x) refl
     where
-      go : (t : Bool) → le (nat 1) x ≡ t → Some (tried first p counts g i x b)
-      go true e = subst Some (sym (beyond b (h .kept) i m s x v e)) h
-      go false e = subst Some (tried-is i x b) (either Some (larger i x b) (better i x b) b (λ q. made b (h .kept) i m x v (not-one x v e)) (λ q. h))
+      go : (t : Bool) → le (nat 1) x ≡ t → FiniteBest (tried firstEdition p counts g i x b)
+      go true e = subst FiniteBest (sym (beyond b (h .kept) i m s x v e)) h
+      go false e = subst FiniteBest (tried-is i x b) (either FiniteBest (larger i x b) (better i x b) b (λ q. made b (h .kept) i m x v (not-one x v e)) (λ q. h))
 
   -- a candidate below 1 leaves a finite value, whatever stood before
-  pub first-some : (i : ℕ) → i < n → somaticIn counts g i ≡ true → (x : Float) → Vaf x → lt x (nat 1) ≡ true → (b : Best) → Kept b → Some (tried first p counts g i x b)
+  pub first-some : (i : ℕ) → i < n → somaticIn counts g i ≡ true → (x : Float) → Vaf x → lt x (nat 1) ≡ true → (b : Best) → KeptBest b → FiniteBest (tried firstEdition p counts g i x b)
   first-some i m s x v e b h = go (b .value) refl (h .value-is)
     where
-      go : (w : Float) → w ≡ b .value → Value w → Some (tried first p counts g i x b)
+      go : (w : Float) → w ≡ b .value → Value w → FiniteBest (tried firstEdition p counts g i x b)
       go w q (some k f) = tried-some i m s x v b (record { kept = h; within = subst (Within (2 ^ 46)) q k })
       go w q none =
           let a = made b h i m x v e in
           let y = better i x b .value in
           let test : larger i x b ≡ true =
           ap (λ (z : Float). ltZ (keyOf z) (keyOf y)) (sym q) ∙ key-order (inf true) y (fit none) (fit (a .kept .value-is)) (number none) (number (a .kept .value-is)) ∙ under-finite y (a .within .is-finite) in
-          subst Some (tried-is i x b) (subst (λ (t : Bool). Some (cond t (better i x b) b)) (sym test) a)
+          subst FiniteBest (tried-is i x b) (subst (λ (t : Bool). FiniteBest (cond t (better i x b) b)) (sym test) a)
 
   -- ---- the candidates
 
@@ -253,19 +253,19 @@ module _ (p : Params) (counts : List ℕ) (ok : Accepted p counts) (g : Pair) (b
         within = w;
       }
 
-  step-some : (i : ℕ) → i < n → somaticIn counts g i ≡ true → (s : ℕ) → s < 21 → (b : Best) → Some b → Some (triedStep first p counts g i s b)
+  step-some : (i : ℕ) → i < n → somaticIn counts g i ≡ true → (s : ℕ) → s < 21 → (b : Best) → FiniteBest b → FiniteBest (triedStep firstEdition p counts g i s b)
   step-some i m t s l b h = go (lt (decimal 1 3) (stepOf (p .highest) s)) refl
     where
-      go : (c : Bool) → lt (decimal 1 3) (stepOf (p .highest) s) ≡ c → Some (cond c (tried first p counts g i (stepOf (p .highest) s) b) b)
+      go : (c : Bool) → lt (decimal 1 3) (stepOf (p .highest) s) ≡ c → FiniteBest (cond c (tried firstEdition p counts g i (stepOf (p .highest) s) b) b)
       go true e = tried-some i m t (stepOf (p .highest) s) (step-vaf s (omega arith) e) b h
       go false e = h
 
-  allele-some : (i : ℕ) → i < n → somaticIn counts g i ≡ true → (b : Best) → Kept b → Some (searchedAllele first p counts g i b)
+  allele-some : (i : ℕ) → i < n → somaticIn counts g i ≡ true → (b : Best) → KeptBest b → FiniteBest (searchedAllele firstEdition p counts g i b)
   unfolding searchedAllele
   allele-some i m s b h =
       let x = observedShare (countAt counts i) (nat (totalOf counts)) in
       let o = observed i m s in
-      over-keeps Some (triedStep first p counts g i) (tried first p counts g i x b) 21 (step-some i m s) (first-some i m s x (o .0) (o .1) b h)
+      over-keeps FiniteBest (triedStep firstEdition p counts g i) (tried firstEdition p counts g i x b) 21 (step-some i m s) (first-some i m s x (o .0) (o .1) b h)
 
   -- ---- the search, and the posterior
 
@@ -282,7 +282,7 @@ module _ (p : Params) (counts : List ℕ) (ok : Accepted p counts) (g : Pair) (b
   start-low : Low1 (startVafs counts g)
   start-low i l s = subst (λ (v : Float). lt v (nat 1) ≡ true) (sym (start-at p counts (ok .few) g i l s)) (unfold round lt ofInt in refl)
 
-  start-kept : Kept (record { vafs = startVafs counts g; value = inf true })
+  start-kept : KeptBest (record { vafs = startVafs counts g; value = inf true })
   start-kept = record {
     eight-vafs = unfold startVafs in (length-placed (replicate 8 (nat 0)) (λ i. cond (somaticIn counts g i) (decimal 5 2) (nat 0)) n);
     tryable = start-tryable;
@@ -292,11 +292,11 @@ module _ (p : Params) (counts : List ℕ) (ok : Accepted p counts) (g : Pair) (b
 
   -- after a somatic allele the value is finite
   record Gone (k : ℕ) (b : Best) : Type 0 where
-    pub kept : Kept b
-    pub then-some : anyOver counts g k ≡ true → Some b
+    pub kept : KeptBest b
+    pub then-some : anyOver counts g k ≡ true → FiniteBest b
 
   abbrev searchStep : ℕ → Best → Best
-  searchStep i b = cond (somaticIn counts g i) (searchedAllele first p counts g i b) b
+  searchStep i b = cond (somaticIn counts g i) (searchedAllele firstEdition p counts g i b) b
 
   gone-step : (k : ℕ) → k < n → (b : Best) → Gone k b → Gone (suc k) (searchStep k b)
   gone-step k l b h = go (somaticIn counts g k) refl
@@ -305,7 +305,7 @@ module _ (p : Params) (counts : List ℕ) (ok : Accepted p counts) (g : Pair) (b
       or-false true b h e = refl
       or-false false b h e = absurd (true≢false (sym h ∙ e))
 
-      go : (c : Bool) → somaticIn counts g k ≡ c → Gone (suc k) (cond c (searchedAllele first p counts g k b) b)
+      go : (c : Bool) → somaticIn counts g k ≡ c → Gone (suc k) (cond c (searchedAllele firstEdition p counts g k b) b)
       go true e = let a = allele-some k l e b (h .kept) in record { kept = a .kept; then-some = λ q. a }
       go false e = record { kept = h .kept; then-some = λ q. h .then-some (or-false (anyOver counts g k) (somaticIn counts g k) q e) }
 
@@ -313,34 +313,34 @@ module _ (p : Params) (counts : List ℕ) (ok : Accepted p counts) (g : Pair) (b
   gone zero q = record { kept = start-kept; then-some = λ e. absurd (true≢false (sym e)) }
   gone (suc k) q = gone-step k q (over searchStep (record { vafs = startVafs counts g; value = inf true }) k) (gone k (omega arith))
 
-  pub posterior-within : Within (2 ^ 47) (foundOf first p counts g .posterior)
+  pub posterior-within : Within (2 ^ 47) (foundOf firstEdition p counts g .posterior)
   unfolding foundOf
   posterior-within = go (anySomatic counts g) refl
     where
       go : (t : Bool) → anySomatic counts g ≡ t
-          → let b = cond t (searchedAll first p counts g) (record { vafs = startVafs counts g; value = likelihoodOf first counts g (startVafs counts g) }) in
-          Within (2 ^ 47) (cond (t && not true) (b .value) (b .value ⊕ priorOf first p counts g (b .vafs)))
+          → let b = cond t (searchedAll firstEdition p counts g) (record { vafs = startVafs counts g; value = likelihoodOf firstEdition counts g (startVafs counts g) }) in
+          Within (2 ^ 47) (cond (t && not true) (b .value) (b .value ⊕ priorOf firstEdition p counts g (b .vafs)))
       go true e =
-          let s : Some (searchedAll first p counts g) = unfold searchedAll in (gone n (omega arith) .then-some e) in
-          within-more (within-add (s .within) (prior-within (searchedAll first p counts g .vafs) (s .kept .tryable) (s .kept .low)) (lit≤ tt)) (lit≤ tt)
+          let s : FiniteBest (searchedAll firstEdition p counts g) = unfold searchedAll in (gone n (omega arith) .then-some e) in
+          within-more (within-add (s .within) (prior-within (searchedAll firstEdition p counts g .vafs) (s .kept .tryable) (s .kept .low)) (lit≤ tt)) (lit≤ tt)
       go false e =
           within-more (within-add (likelihood-within (startVafs counts g) start-tryable) (prior-within (startVafs counts g) start-tryable start-low) (lit≤ tt)) (lit≤ tt)
 
   -- every somatic VAF that was found is above zero and below 1
-  pub found-vafs : (i : ℕ) → i < n → somaticIn counts g i ≡ true → Vaf (vafAt (foundOf first p counts g .vafs) i) × (lt (vafAt (foundOf first p counts g .vafs) i) (nat 1) ≡ true)
+  pub found-vafs : (i : ℕ) → i < n → somaticIn counts g i ≡ true → Vaf (vafAt (foundOf firstEdition p counts g .vafs) i) × (lt (vafAt (foundOf firstEdition p counts g .vafs) i) (nat 1) ≡ true)
   unfolding foundOf
   found-vafs i l s = go (anySomatic counts g) refl
     where
       go : (t : Bool) → anySomatic counts g ≡ t
-          → let b = cond t (searchedAll first p counts g) (record { vafs = startVafs counts g; value = likelihoodOf first counts g (startVafs counts g) }) in
+          → let b = cond t (searchedAll firstEdition p counts g) (record { vafs = startVafs counts g; value = likelihoodOf firstEdition counts g (startVafs counts g) }) in
           Vaf (vafAt (b .vafs) i) × (lt (vafAt (b .vafs) i) (nat 1) ≡ true)
       go true e =
-          let k : Kept (searchedAll first p counts g) = unfold searchedAll in (gone n (omega arith) .kept) in
+          let k : KeptBest (searchedAll firstEdition p counts g) = unfold searchedAll in (gone n (omega arith) .kept) in
           (k .tryable i l s, k .low i l s)
       go false e = (start-tryable i l s, start-low i l s)
 
   -- so they are finite and from 0 on, as `likelihood-at-once` asks (AtOnce.antt)
-  pub found-from-zero : VafsFromZero counts g (foundOf first p counts g .vafs)
+  pub found-from-zero : VafsFromZero counts g (foundOf firstEdition p counts g .vafs)
   found-from-zero i l s =
       let v = found-vafs i l s .0 in
-      record { is-f64 = v .is-f64; not-below = positive-not-below (vafAt (foundOf first p counts g .vafs) i) (v .above-zero) }
+      record { is-f64 = v .is-f64; not-below = positive-not-below (vafAt (foundOf firstEdition p counts g .vafs) i) (v .above-zero) }

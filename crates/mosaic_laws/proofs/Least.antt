@@ -15,7 +15,7 @@ use Rattle.mosaic_hypotheses.specs.Edition.{Edition}
 use Rattle.mosaic_alleles.specs.Alleles.{countAt, somaticIn, totalOf}
 use Rattle.mosaic_candidates.specs.Shares.{startVafs, stepOf, observedShare}
 use Rattle.mosaic_hypotheses.specs.Search.{Best, valueOf, tried, triedStep, searchedAllele, searchedAll}
-use Rattle.mosaic_alleles.specs.declared.pair.Pair.{Pair}
+use Rattle.mosaic_alleles.specs.declared.pair.GermlinePair.{GermlinePair}
 use Rattle.mosaic_laws.proofs.Sums.{over-keeps}
 
 -- nothing is below minus infinity
@@ -33,7 +33,7 @@ under-finite nan f = absurd f
 under-finite (inf s) f = absurd f
 under-finite (fin s m e) f = refl
 
-module _ (e : Edition) (p : Params) (counts : List ℕ) (g : Pair) where
+module _ (e : Edition) (p : Params) (counts : List ℕ) (g : GermlinePair) where
   pub least-stays : (i : ℕ) (x : Float) (b : Best) → T (fits binary64 (b .value)) → isNan (b .value) ≡ false → valueOf e p counts g (set (b .vafs) i x) ≡ inf true → tried e p counts g i x b ≡ b
   unfolding tried
   least-stays i x b f n h =

@@ -31,13 +31,13 @@ use Rattle.floats.proofs.Signs.{lt-itself, lt-not-back, no-trans}
 use Rattle.mosaic_params.specs.declared.params.Params.{Params}
 use Rattle.mosaic_probabilities.specs.Quality.{tensOf}
 use Rattle.mosaic_probabilities.proofs.InUse.{in-use-all}
-use Rattle.mosaic_hypotheses.specs.Edition.{first}
+use Rattle.mosaic_hypotheses.specs.Edition.{firstEdition}
 use Rattle.mosaic_hypotheses.specs.Hypotheses.{hypotheses}
 use Rattle.mosaic_hypotheses.specs.Choice.{posteriors}
 use Rattle.mosaic_hypotheses.proofs.Scanned.{at-most-36}
-use Rattle.mosaic.specs.Genotype.{genotypeOf}
-use Rattle.mosaic_laws.specs.Accepted.{Accepted}
-use Rattle.mosaic_laws.specs.Tails.{probabilitiesWith, calledWith, genotypeWith, NoneZero}
+use Rattle.mosaic.specs.Genotype.{mosaicOf}
+use Rattle.mosaic_laws.specs.Accepted.{AcceptedMosaic}
+use Rattle.mosaic_laws.specs.Tails.{probabilitiesWith, mosaicCalledWith, mosaicWith, NoneZero}
 use Rattle.mosaic_laws.proofs.Chances.{each-place, DecimalPosterior, largest-is, whole-by-within, whole-by-not-below}
 use Rattle.mosaic_laws.proofs.Answers.{tens-length, tens-few, tens-posteriors}
 use Rattle.mosaic_laws.proofs.Cases.{passed-accepted}
@@ -124,12 +124,12 @@ module _ (e : Float → Float) (tail : Tail e) where
 
 -- ---- the probabilities
 
-module _ (e : Float → Float) (p : Params) (counts : List ℕ) (ok : Accepted p counts) where
+module _ (e : Float → Float) (p : Params) (counts : List ℕ) (ok : AcceptedMosaic p counts) where
   abbrev n : ℕ
   n = length (hypotheses counts)
 
   abbrev posts : List Float
-  posts = posteriors first p counts
+  posts = posteriors firstEdition p counts
 
   abbrev tens : List Float
   tens = tensOf posts n
@@ -148,7 +148,7 @@ module _ (e : Float → Float) (p : Params) (counts : List ℕ) (ok : Accepted p
       each-ten w [] h = refl
       each-ten w (y ∷ l) h = rw (tail .from-708 (lessWhole smaller w y ⊗ lnOf (nat 10)) (h .0), each-ten w l (h .1))
 
-  called-same : Tail e → Each (NotDeep (wholeWith e tens)) tens → calledWith e p counts ≡ calledWith expOf p counts
+  called-same : Tail e → Each (NotDeep (wholeWith e tens)) tens → mosaicCalledWith e p counts ≡ mosaicCalledWith expOf p counts
   called-same tail h = rw (chances-same tail h)
 
 -- ---- the answer; a refusal takes no exponential
@@ -156,9 +156,9 @@ module _ (e : Float → Float) (p : Params) (counts : List ℕ) (ok : Accepted p
 -- where no probability is ten to less than −708 / ln 10, an answer owes nothing to the exponential below −708
 pub no-tail-same : (e : Float → Float) → Tail e → (p : Params) (counts : List ℕ)
     → T (fits binary64 (p .alpha)) → T (fits binary64 (p .beta))
-    → (let tens = tensOf (posteriors first p counts) (length (hypotheses counts)) in
+    → (let tens = tensOf (posteriors firstEdition p counts) (length (hypotheses counts)) in
     Each (λ y. lt (lessWhole smaller (wholeWith e tens) y ⊗ lnOf (nat 10)) (whole (negℤ (pos 708))) ≡ false) tens)
-    → genotypeWith e p counts ≡ genotypeOf p counts
+    → mosaicWith e p counts ≡ mosaicOf p counts
 no-tail-same e tail p counts alpha beta h =
     beside-own (λ a b. a ≡ b) (λ _. refl) e p counts (λ ok. called-same e p counts (passed-accepted ok alpha beta) tail h)
 
@@ -172,10 +172,10 @@ flushed-not-deep x some = go (lt x deep) refl
     go true h = absurd (some (rw (lt-number x deep h .0, h)))
     go false h = refl
 
-none-deep : (p : Params) (counts : List ℕ) → Accepted p counts → NoneZero (calledWith expFlushed p counts)
-    → let tens = tensOf (posteriors first p counts) (length (hypotheses counts)) in Each (NotDeep (wholeWith expFlushed tens)) tens
+none-deep : (p : Params) (counts : List ℕ) → AcceptedMosaic p counts → NoneZero (mosaicCalledWith expFlushed p counts)
+    → let tens = tensOf (posteriors firstEdition p counts) (length (hypotheses counts)) in Each (NotDeep (wholeWith expFlushed tens)) tens
 none-deep p counts ok some =
-    let tens = tensOf (posteriors first p counts) (length (hypotheses counts)) in
+    let tens = tensOf (posteriors firstEdition p counts) (length (hypotheses counts)) in
     let w = wholeWith expFlushed tens in
     each-place (NotDeep w) tens (λ i m.
     flushed-not-deep (lessWhole smaller w (getD tens i nan) ⊗ lnOf (nat 10)) (λ z.
@@ -184,7 +184,7 @@ none-deep p counts ok some =
 
 -- what was recorded then with no probability of 0 is what is answered now, in every bit
 pub no-zero-same : (p : Params) (counts : List ℕ) → T (fits binary64 (p .alpha)) → T (fits binary64 (p .beta))
-    → NoneZero (genotypeWith expFlushed p counts) → genotypeWith expFlushed p counts ≡ genotypeOf p counts
+    → NoneZero (mosaicWith expFlushed p counts) → mosaicWith expFlushed p counts ≡ mosaicOf p counts
 no-zero-same p counts alpha beta =
     beside-own (λ a b. NoneZero a → a ≡ b) (λ _ _. refl) expFlushed p counts (λ ok some.
     let k = passed-accepted ok alpha beta in

@@ -18,13 +18,13 @@ use Rattle.mosaic_hypotheses.specs.Likelihood.{likelihoodOf}
 use Rattle.mosaic_hypotheses.specs.Search.{Best, valueOf, tried, triedStep, searchedAllele, searchedAll, foundOf}
 use Rattle.mosaic.specs.Genotype.{flagsOf}
 use Rattle.mosaic_params.specs.declared.params.Params.{Params}
-use Rattle.mosaic_alleles.specs.declared.pair.Pair.{Pair}
+use Rattle.mosaic_alleles.specs.declared.pair.GermlinePair.{GermlinePair}
 use Rattle.lists.proofs.OverLaws.{placed-at, placed-beyond}
 use Rattle.mosaic_laws.proofs.Terms.{either}
 use Rattle.mosaic_laws.proofs.Sums.{over-keeps}
 use Rattle.mosaic_laws.proofs.Seen.{unseen}
 
-module _ (counts : List ℕ) (few : length counts ≤ 8) (g : Pair) where
+module _ (counts : List ℕ) (few : length counts ≤ 8) (g : GermlinePair) where
   not-somatic : (i : ℕ) → length counts ≤ i → somaticIn counts g i ≡ false
   not-somatic i h = ap (λ (s : Bool). s && not (germlineIn g i)) (unseen counts i h)
 

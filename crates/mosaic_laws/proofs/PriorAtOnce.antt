@@ -22,12 +22,12 @@ use Rattle.kernels_stirling.specs.Stirling.{stirlingOf}
 use Rattle.lists.specs.Over.{over}
 use Rattle.mosaic_params.specs.declared.params.Params.{Params}
 use Rattle.mosaic_alleles.specs.Alleles.{seenIn, somaticIn, alone}
-use Rattle.mosaic_alleles.specs.declared.pair.Pair.{Pair}
+use Rattle.mosaic_alleles.specs.declared.pair.GermlinePair.{GermlinePair}
 use Rattle.mosaic_candidates.specs.Shares.{vafAt}
-use Rattle.mosaic_hypotheses.specs.Edition.{first}
+use Rattle.mosaic_hypotheses.specs.Edition.{firstEdition}
 use Rattle.mosaic_hypotheses.specs.Hypotheses.{bothSeen}
 use Rattle.mosaic_hypotheses.specs.Prior.{gainOf, forGermline, priorOf}
-use Rattle.mosaic_laws.specs.Accepted.{Accepted}
+use Rattle.mosaic_laws.specs.Accepted.{AcceptedMosaic}
 use Rattle.mosaic_laws.specs.AtOnce.{VafsF64, fromOne, someFromOne, priorAtOnce}
 use Rattle.mosaic_laws.proofs.Terms.{either, Dense, dense, one-at, gain-within, gain-least, one-within, two-within}
 use Rattle.mosaic_laws.proofs.Sums.{grows, of-eight, sinks, some-at}
@@ -62,7 +62,7 @@ gain-low p d v f = go (le (nat 1) v) (lt (nat 0) v) refl refl
 
 -- ---- the sum of what they add
 
-module _ (p : Params) (counts : List ℕ) (ok : Accepted p counts) (g : Pair) (both : bothSeen counts g ≡ true) where
+module _ (p : Params) (counts : List ℕ) (ok : AcceptedMosaic p counts) (g : GermlinePair) (both : bothSeen counts g ≡ true) where
   abbrev n : ℕ
   n = length counts
 
@@ -116,7 +116,7 @@ module _ (p : Params) (counts : List ℕ) (ok : Accepted p counts) (g : Pair) (b
         either (λ s. s ≡ inf true) (somaticIn counts g i) (inf true ⊕ gainAt i) (inf true) (λ e. least-low (at-low i l e)) (λ e. refl)
 
     pub prior-least : (j : ℕ) → j < n → somaticIn counts g j ≡ true → le (nat 1) (vafAt vafs j) ≡ true
-        → priorOf first p counts g vafs ≡ inf true
+        → priorOf firstEdition p counts g vafs ≡ inf true
     unfolding priorOf
     prior-least j l s e =
         let there : gainStep j (over gainStep (nat 0) j) ≡ inf true =
@@ -124,11 +124,11 @@ module _ (p : Params) (counts : List ℕ) (ok : Accepted p counts) (g : Pair) (b
         let gains = sinks gainStep (nat 0) (inf true) j n l there stays in
         ap (λ (x : Float). x ⊕ forGermline n g) gains ∙ least-finite (forGermline n g) (germline-within .is-finite)
 
-    pub prior-at-once : priorOf first p counts g vafs ≡ priorAtOnce first p counts g vafs
+    pub prior-at-once : priorOf firstEdition p counts g vafs ≡ priorAtOnce firstEdition p counts g vafs
     prior-at-once = go (someFromOne counts g vafs) refl
       where
         go : (t : Bool) → someFromOne counts g vafs ≡ t
-            → priorOf first p counts g vafs ≡ cond t (inf true) (priorOf first p counts g vafs)
+            → priorOf firstEdition p counts g vafs ≡ cond t (inf true) (priorOf firstEdition p counts g vafs)
         go true e =
             let one = some-at (fromOne counts g vafs) n e in
             let somatic = somaticIn counts g (one .at) in

@@ -28,7 +28,7 @@ use Rattle.floats.specs.MaxMin.{larger}
 use Rattle.mosaic_candidates.specs.Shares.{germlineShare}
 use Rattle.mosaic_hypotheses.specs.Prior.{gainOf}
 use Rattle.mosaic_params.specs.declared.params.Params.{Params}
-use Rattle.mosaic_alleles.specs.declared.pair.Pair.{Pair}
+use Rattle.mosaic_alleles.specs.declared.pair.GermlinePair.{GermlinePair}
 use Rattle.mosaic_laws.proofs.Quotients.{above-div}
 
 -- ---- the short log gamma of a number above zero and at most 2 ^ 23
@@ -196,7 +196,7 @@ rest-of mass w =
     let p = above-finite x (above-of-le (decimal 1 2) x (low .is-positive) most) (v .is-finite) in
     record { is-above = above-range (decimal 1 2) x low p most; is-f64 = sub-fits binary64 (nat 1) mass; within = v })
 
-pub share-ln-within : (g : Pair) (mass : Float) → Within 160 mass → Within (2 ^ 12) (lnOf (germlineShare g mass))
+pub share-ln-within : (g : GermlinePair) (mass : Float) → Within 160 mass → Within (2 ^ 12) (lnOf (germlineShare g mass))
 unfolding germlineShare
 share-ln-within g mass w =
     let r = rest-of mass w in

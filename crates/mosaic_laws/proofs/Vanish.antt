@@ -28,16 +28,16 @@ use Rattle.floats.specs.MaxMin.{larger, smaller}
 use Rattle.lists.proofs.PlaceLaws.{map-at}
 use Rattle.mosaic_probabilities.specs.Quality.{tensOf}
 use Rattle.mosaic_probabilities.proofs.InUse.{in-use-all}
-use Rattle.mosaic_hypotheses.specs.Edition.{first}
+use Rattle.mosaic_hypotheses.specs.Edition.{firstEdition}
 use Rattle.mosaic_hypotheses.specs.Hypotheses.{hypotheses}
 use Rattle.mosaic_hypotheses.specs.Choice.{posteriors}
 use Rattle.mosaic_hypotheses.proofs.Scanned.{at-most-36}
-use Rattle.mosaic.specs.Genotype.{genotypeOf}
+use Rattle.mosaic.specs.Genotype.{mosaicOf}
 use Rattle.kernels_laws.proofs.WholeTail.{whole-by-exp}
 use Rattle.floats.proofs.Signs.{not-above-le, mul-not-above}
 use Rattle.kernels_laws.proofs.TenAtMost.{ten-above, ten-within}
 use Rattle.floats.proofs.MaxMinLaws.{smaller-zero}
-use Rattle.mosaic_laws.specs.Accepted.{Accepted}
+use Rattle.mosaic_laws.specs.Accepted.{AcceptedMosaic}
 use Rattle.mosaic_laws.specs.Tails.{probabilitiesWith, normalisedAt}
 use Rattle.mosaic_laws.proofs.Chances.{each-at, DecimalPosterior, whole-within}
 use Rattle.mosaic_laws.proofs.Answers.{some-hypothesis, tens-length, tens-some, tens-few, tens-posteriors}
@@ -46,12 +46,12 @@ use Rattle.mosaic_laws.proofs.AnyTail.{beside-own}
 
 -- ---- the probability in place i, by any exponential
 
-module _ (p : Params) (counts : List ℕ) (ok : Accepted p counts) (i : ℕ) (there : i < length (hypotheses counts)) where
+module _ (p : Params) (counts : List ℕ) (ok : AcceptedMosaic p counts) (i : ℕ) (there : i < length (hypotheses counts)) where
   abbrev n : ℕ
   n = length (hypotheses counts)
 
   abbrev posts : List Float
-  posts = posteriors first p counts
+  posts = posteriors firstEdition p counts
 
   abbrev tens : List Float
   tens = tensOf posts n
@@ -83,12 +83,12 @@ module _ (p : Params) (counts : List ℕ) (ok : Accepted p counts) (i : ℕ) (th
 -- ---- in an answer; a refusal has no hypotheses
 
 module _ (p : Params) (counts : List ℕ) (alpha : T (fits binary64 (p .alpha))) (beta : T (fits binary64 (p .beta))) (i : ℕ)
-    (there : i < genotypeOf p counts .hypotheses) where
+    (there : i < mosaicOf p counts .hypotheses) where
   abbrev y : Float
   y = normalisedAt p counts i
 
   abbrev probability : Float
-  probability = getD (genotypeOf p counts .probabilities) i nan
+  probability = getD (mosaicOf p counts .probabilities) i nan
 
   pub chance-is : probability ≡ pow10Of y
   chance-is =

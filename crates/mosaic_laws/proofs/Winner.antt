@@ -11,7 +11,7 @@ use lib.IntN.{ℤ}
 use lib.Signed.{leZ, _≤ℤ_, _<ℤ_, leZ-yes, ≤ℤ-refl, <ℤ-≤ℤ-trans, clashℤ}
 use lib.Ieee.{Float}
 use Rattle.floats.proofs.Signed.{above, below-at-most}
-use Rattle.mosaic_probabilities.specs.Winner.{winner}
+use Rattle.mosaic_probabilities.specs.Winner.{winningPlace}
 use Rattle.mosaic_laws.specs.Largest.{keyAt, LastLargest}
 
 through : (a b c : ℤ) → a ≤ℤ b → b ≤ℤ c → a ≤ℤ c
@@ -66,22 +66,22 @@ module _ (l : List Float) where
   only-one true = alone
   only-one false = alone
 
-  at : (k : ℕ) → LastLargest l (suc k) (winner l (suc k))
-  unfolding winner
+  at : (k : ℕ) → LastLargest l (suc k) (winningPlace l (suc k))
+  unfolding winningPlace
   at zero = only-one (leZ (keyAt l 0) (keyAt l 0))
-  at (suc k) = next (suc k) (winner l (suc k)) (at k)
+  at (suc k) = next (suc k) (winningPlace l (suc k)) (at k)
 
-  pub winner-wins : (n : ℕ) → 0 < n → LastLargest l n (winner l n)
-  winner-wins zero h = absurd (not-suc-le-zero h)
-  winner-wins (suc k) h = at k
+  pub place-wins : (n : ℕ) → 0 < n → LastLargest l n (winningPlace l n)
+  place-wins zero h = absurd (not-suc-le-zero h)
+  place-wins (suc k) h = at k
 
   one-at-most : (n b c : ℕ) → LastLargest l n b → LastLargest l n c → b < c → ⊥
   one-at-most n b c h k m = clashℤ (h .later-below c (k .in-use) m) (k .none-above b (h .in-use))
 
-  pub winner-only : (n b : ℕ) → LastLargest l n b → winner l n ≡ b
-  winner-only n b h =
-      let w = winner-wins n (omega (arith, h .in-use)) in
-      same (winner l n) b (one-at-most n (winner l n) b w h) (one-at-most n b (winner l n) h w)
+  pub place-only : (n b : ℕ) → LastLargest l n b → winningPlace l n ≡ b
+  place-only n b h =
+      let w = place-wins n (omega (arith, h .in-use)) in
+      same (winningPlace l n) b (one-at-most n (winningPlace l n) b w h) (one-at-most n b (winningPlace l n) h w)
     where
       same : (a b : ℕ) → (a < b → ⊥) → (b < a → ⊥) → a ≡ b
       same a b h k = omega arith

@@ -11,7 +11,7 @@ use Rattle.mosaic_params.specs.Allowed.{paramsAllowed}
 use Rattle.mosaic_params.specs.declared.params.Params.{Params}
 
 -- parameters and counts that no refusal of R2, R6 and R4 turns away; parameters are f64, as the struct's fields are
-pub record Accepted (p : Params) (counts : List ℕ) : Type 0 where
+pub record AcceptedMosaic (p : Params) (counts : List ℕ) : Type 0 where
   pub params-are : paramsAllowed p ≡ true
   pub alpha-is-f64 : T (fits binary64 (p .alpha))
   pub beta-is-f64 : T (fits binary64 (p .beta))

@@ -11,10 +11,10 @@ use Rattle.floats.specs.F64.{nat}
 use Rattle.floats.specs.Within.{NotBelow}
 use Rattle.lists.specs.Over.{over}
 use Rattle.mosaic_alleles.specs.Alleles.{seenIn, somaticIn}
-use Rattle.mosaic_alleles.specs.declared.pair.Pair.{Pair}
+use Rattle.mosaic_alleles.specs.declared.pair.GermlinePair.{GermlinePair}
 use Rattle.mosaic_candidates.specs.Shares.{vafAt}
 use Rattle.mosaic_hypotheses.specs.Edition.{Edition}
-use Rattle.mosaic_hypotheses.specs.Likelihood.{shareOf, likelihoodOf}
+use Rattle.mosaic_hypotheses.specs.Likelihood.{alleleShare, likelihoodOf}
 use Rattle.mosaic_hypotheses.specs.Prior.{priorOf}
 use Rattle.mosaic_params.specs.declared.params.Params.{Params}
 
@@ -24,33 +24,33 @@ pub record FromZero (v : Float) : Type 0 where
   pub not-below : NotBelow v
 
 -- M3: every somatic allele has such a VAF
-abbrev pub VafsFromZero : List ℕ → Pair → List Float → Type 0
+abbrev pub VafsFromZero : List ℕ → GermlinePair → List Float → Type 0
 VafsFromZero counts g vafs = (i : ℕ) → i < length counts → somaticIn counts g i ≡ true → FromZero (vafAt vafs i)
 
 -- M3: an allele has a share of 0 with a count above 0
-abbrev pub impossible : List ℕ → Pair → List Float → ℕ → Bool
-impossible counts g vafs i = seenIn counts i && eq (shareOf counts g vafs i) (nat 0)
+abbrev pub impossible : List ℕ → GermlinePair → List Float → ℕ → Bool
+impossible counts g vafs i = seenIn counts i && eq (alleleShare counts g vafs i) (nat 0)
 
 -- M3: some allele is so
-abbrev pub someImpossible : List ℕ → Pair → List Float → Bool
+abbrev pub someImpossible : List ℕ → GermlinePair → List Float → Bool
 someImpossible counts g vafs = over (λ i b. b || impossible counts g vafs i) false (length counts)
 
 -- M3: minus infinity where there is such an allele, else the sum
-abbrev pub likelihoodAtOnce : Edition → List ℕ → Pair → List Float → Float
+abbrev pub likelihoodAtOnce : Edition → List ℕ → GermlinePair → List Float → Float
 likelihoodAtOnce e counts g vafs = cond (someImpossible counts g vafs) (inf true) (likelihoodOf e counts g vafs)
 
 -- M4: every somatic allele's VAF is an f64, whichever
-abbrev pub VafsF64 : List ℕ → Pair → List Float → Type 0
+abbrev pub VafsF64 : List ℕ → GermlinePair → List Float → Type 0
 VafsF64 counts g vafs = (i : ℕ) → i < length counts → somaticIn counts g i ≡ true → T (fits binary64 (vafAt vafs i))
 
 -- M4: a somatic allele has a VAF of 1 or more
-abbrev pub fromOne : List ℕ → Pair → List Float → ℕ → Bool
+abbrev pub fromOne : List ℕ → GermlinePair → List Float → ℕ → Bool
 fromOne counts g vafs i = somaticIn counts g i && le (nat 1) (vafAt vafs i)
 
 -- M4: some allele is so
-abbrev pub someFromOne : List ℕ → Pair → List Float → Bool
+abbrev pub someFromOne : List ℕ → GermlinePair → List Float → Bool
 someFromOne counts g vafs = over (λ i b. b || fromOne counts g vafs i) false (length counts)
 
 -- M4: minus infinity where there is such an allele, else the sum
-abbrev pub priorAtOnce : Edition → Params → List ℕ → Pair → List Float → Float
+abbrev pub priorAtOnce : Edition → Params → List ℕ → GermlinePair → List Float → Float
 priorAtOnce e p counts g vafs = cond (someFromOne counts g vafs) (inf true) (priorOf e p counts g vafs)

@@ -17,42 +17,42 @@ use Rattle.limits.specs.Limits.{countsAllowed}
 use Rattle.mosaic_params.specs.declared.params.Params.{Params}
 use Rattle.floats.specs.MaxMin.{larger, smaller}
 use Rattle.lists.specs.Lists.{padded}
-use Rattle.mosaic_probabilities.specs.Quality.{inUse, tensOf}
+use Rattle.mosaic_probabilities.specs.Quality.{upToThirtySix, tensOf}
 use Rattle.mosaic_alleles.specs.Alleles.{totalOf}
-use Rattle.mosaic_hypotheses.specs.Edition.{first}
+use Rattle.mosaic_hypotheses.specs.Edition.{firstEdition}
 use Rattle.mosaic_hypotheses.specs.Hypotheses.{hypotheses}
 use Rattle.mosaic_hypotheses.specs.Choice.{posteriors, chosen}
 use Rattle.mosaic_params.specs.Allowed.{paramsAllowed}
-use Rattle.mosaic.specs.Genotype.{blank, answerFrom}
+use Rattle.mosaic.specs.Genotype.{blankMosaic, answerFrom}
 use Rattle.mosaic.specs.declared.genotype.MosaicResult.{MosaicResult}
 
 -- M7: the first n posteriors normalised, and ten to each
 unfoldable pub probabilitiesWith : (Float → Float) → List Float → ℕ → List Float
 probabilitiesWith e l n =
-    let tens = tensOf l (inUse n) in
+    let tens = tensOf l (upToThirtySix n) in
     padded 36 (nat 0) (map (tenWith e) (map (lessWhole smaller (wholeWith e tens)) tens))
 
 -- M8: what is read off the hypothesis that wins
-abbrev pub calledWith : (Float → Float) → Params → List ℕ → MosaicResult
-calledWith e p counts =
-    let choice = chosen first p counts in
+abbrev pub mosaicCalledWith : (Float → Float) → Params → List ℕ → MosaicResult
+mosaicCalledWith e p counts =
+    let choice = chosen firstEdition p counts in
     answerFrom smaller counts choice (probabilitiesWith e (choice .posteriors) (choice .count))
 
 -- O1, R11: the refusals, in their order
-abbrev pub genotypeWith : (Float → Float) → Params → List ℕ → MosaicResult
-genotypeWith e p counts =
+abbrev pub mosaicWith : (Float → Float) → Params → List ℕ → MosaicResult
+mosaicWith e p counts =
     cond (leb (length counts) 8)
     (cond (paramsAllowed p)
     (cond (countsAllowed counts)
-    (cond (ltb (totalOf counts) (p .depth) || eqb (totalOf counts) 0) (blank NoCall) (calledWith e p counts))
-    (blank Count))
-    (blank Model))
-    (blank TooMany)
+    (cond (ltb (totalOf counts) (p .depth) || eqb (totalOf counts) 0) (blankMosaic NoCall) (mosaicCalledWith e p counts))
+    (blankMosaic Count))
+    (blankMosaic Model))
+    (blankMosaic TooMany)
 
 -- M7: the normalised posterior of the hypothesis in place i, as a decimal logarithm; its probability is ten to this
 abbrev pub normalisedAt : Params → List ℕ → ℕ → Float
 normalisedAt p counts i =
-    let tens = tensOf (posteriors first p counts) (length (hypotheses counts)) in
+    let tens = tensOf (posteriors firstEdition p counts) (length (hypotheses counts)) in
     lessWhole smaller (wholeOver larger tens) (getD tens i nan)
 
 -- M8: an answer with zeros for its quality and its probabilities

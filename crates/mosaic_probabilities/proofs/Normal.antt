@@ -16,7 +16,7 @@ use Rattle.floats.specs.MaxMin.{Pick}
 use Rattle.lists.specs.Lists.{padded}
 use Rattle.lists.proofs.PaddedLaws.{padded-next}
 use Rattle.lists.proofs.PlaceLaws.{map-at}
-use Rattle.mosaic_probabilities.specs.Quality.{inUse, tensOf, probabilities}
+use Rattle.mosaic_probabilities.specs.Quality.{upToThirtySix, tensOf, probabilities}
 use Rattle.mosaic_probabilities.specs.Inner.{topOf, sumOf, probabilityOf}
 use Rattle.mosaic_probabilities.proofs.InUse.{in-use-low}
 
@@ -78,7 +78,7 @@ normal-each max min l n =
 
 module _ (max min : Pick) (l : List Float) (long : length l ≡ 36) (n : ℕ) where
   abbrev k : ℕ
-  k = inUse n
+  k = upToThirtySix n
 
   abbrev each : List Float
   each = map (probabilityOf min (wholeFor max l k)) (take k l)

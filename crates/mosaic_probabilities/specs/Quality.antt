@@ -14,8 +14,8 @@ use Rattle.lists.specs.Lists.{padded}
 use Rattle.lists.specs.Over.{over}
 
 -- how many places are in use: n, or all 36 where n is more
-unfoldable pub inUse : ℕ → ℕ
-inUse n = cond (leb n 36) n 36
+unfoldable pub upToThirtySix : ℕ → ℕ
+upToThirtySix n = cond (leb n 36) n 36
 
 -- the first n posteriors as decimal logarithms
 abbrev pub tensOf : List Float → ℕ → List Float
@@ -23,7 +23,7 @@ tensOf l n = map inTens (take n l)
 
 -- these normalised as in G4, and ten to each; 0.0 in the places after them
 unfoldable pub probabilities : Pick → Pick → List Float → ℕ → List Float
-probabilities max min l n = padded 36 (nat 0) (map pow10Of (normalisedOver max min (tensOf l (inUse n))))
+probabilities max min l n = padded 36 (nat 0) (map pow10Of (normalisedOver max min (tensOf l (upToThirtySix n))))
 
 -- the probabilities of all but the winner, summed
 abbrev pub wrongOf : List Float → ℕ → ℕ → Float
@@ -35,4 +35,4 @@ qualityBy min wrong = cond (lt (nat 0) wrong) (min (whole (negℤ (pos 10)) ⊗ 
 
 -- the quality of the winner at the place `best`
 abbrev pub qualityOf : Pick → List Float → ℕ → ℕ → Float
-qualityOf min ps n best = qualityBy min (wrongOf ps best (inUse n))
+qualityOf min ps n best = qualityBy min (wrongOf ps best (upToThirtySix n))

@@ -12,6 +12,6 @@ abbrev pub takesOver : List Float → ℕ → ℕ → Bool
 takesOver l best i = leZ (keyOf (getD l best nan)) (keyOf (getD l i nan))
 
 -- the place of the largest of the first k, by key, the later on equality
-unfoldable pub winner : List Float → ℕ → ℕ
-winner l zero = 0
-winner l (suc k) = cond (takesOver l (winner l k) k) k (winner l k)
+unfoldable pub winningPlace : List Float → ℕ → ℕ
+winningPlace l zero = 0
+winningPlace l (suc k) = cond (takesOver l (winningPlace l k) k) k (winningPlace l k)

@@ -3,7 +3,7 @@ ghost use mathlib.Core.Path.{_≡_};
 ghost use Prim.Native.Nat.{_≤_, _<_};
 ghost use Rattle.floats.specs.MaxMin.{larger, smaller};
 ghost use Rattle.mosaic_probabilities.specs.Inner.{topOf, sumOf, probabilityOf};
-ghost use Rattle.mosaic_probabilities.specs.Quality.{inUse, tensOf, probabilities, wrongOf, qualityOf};
+ghost use Rattle.mosaic_probabilities.specs.Quality.{upToThirtySix, tensOf, probabilities, wrongOf, qualityOf};
 ghost use Rattle.kernels_tens.specs.Normalised.{wholeOver};
 use floats::max_min::max;
 use floats::max_min::min;
@@ -12,7 +12,7 @@ use kernels_tens::log10::log10;
 use kernels_tens::log10::pow10;
 
 pub(crate) fn in_use(n: usize) -> usize
-    ensures { λ r. ⌜ r ≡ inUse n ⌝ }
+    ensures { λ r. ⌜ r ≡ upToThirtySix n ⌝ }
 {
     if n <= 36 { n } else { 36 }
 }

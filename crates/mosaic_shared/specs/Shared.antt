@@ -12,7 +12,7 @@ use Rattle.lists.specs.Over.{placed}
 use Rattle.mosaic_params.specs.declared.params.Params.{Params}
 use Rattle.mosaic_alleles.specs.Alleles.{countAt}
 use Rattle.mosaic_shared.specs.declared.priors.Density.{Density}
-use Rattle.mosaic_shared.specs.declared.shared.Site.{Site}
+use Rattle.mosaic_shared.specs.declared.shared.Shared.{Shared}
 
 -- what M4's log beta density (`lnDensity`, mosaic_hypotheses/specs/Prior.antt) takes from the parameters, by a log gamma; the law is `gain-by`
 unfoldable pub densityOf : (Float → Float) → Params → Density
@@ -46,8 +46,8 @@ unfoldable pub startsOf : List ℕ → List Float
 startsOf counts = startsOver counts 8
 
 -- all of it, of a call with n alleles and this total, by the short log gamma
-unfoldable pub siteOf : Params → List ℕ → ℕ → ℕ → Site
-siteOf p counts n total = record {
+unfoldable pub sharedOf : Params → List ℕ → ℕ → ℕ → Shared
+sharedOf p counts n total = record {
   total = nat total;
   «of_total» = lnFactorial stirlingOf total;
   factorials = factorialsOf counts;

@@ -1,6 +1,6 @@
 // What is the same for every hypothesis and every candidate of a call (docs/RULES.md, M3, M4).
 ghost use mathlib.Core.Path.{_≡_};
-ghost use Rattle.mosaic_shared.specs.Shared.{factorialsOf, startsOf, siteOf};
+ghost use Rattle.mosaic_shared.specs.Shared.{factorialsOf, startsOf, sharedOf};
 use crate::priors::Density;
 use crate::priors::density_of;
 use crate::priors::for_one;
@@ -12,7 +12,7 @@ use mosaic_params::params::Params;
 
 // The total, its log factorial, each count's log factorial, each count's term at the start, the density's numbers, the highest VAF, and what one
 // and what two germline alleles add to the prior.
-pub struct Site {
+pub struct Shared {
     pub total: f64,
     pub of_total: f64,
     pub factorials: [f64; 8],
@@ -49,13 +49,13 @@ fn all_starts(counts: &[u32]) -> [f64; 8]
 }
 
 // Of a call with these counts, n alleles and this total.
-pub fn site_of(params: Params, counts: &[u32], n: u8, total: u32) -> Site
-    ensures { λ r. ⌜ r ≡ siteOf params (now (counts .entry)) n total ⌝ }
+pub fn shared_of(params: Params, counts: &[u32], n: u8, total: u32) -> Shared
+    ensures { λ r. ⌜ r ≡ sharedOf params (now (counts .entry)) n total ⌝ }
 {
     let factorials = all_factorials(counts);
     let starts = all_starts(counts);
     let density = density_of(params);
-    Site {
+    Shared {
         total: total as f64,
         of_total: ln_factorial(total),
         factorials,

@@ -7,10 +7,10 @@ use Rattle.refusals.specs.declared.Refusal.{Refusal}
 use Rattle.refusals.specs.declared.Refusal.the-variants.{Done, NoCluster, TooMany, Shape, Count, Weight, Model, Table, Row, OtherTrio, NotComplete, NoCall, BadPart}
 
 -- the first n bytes of an ASCII text, zeros where it ends before
-abbrev pub padded : ℕ → text.String → List ℕ
-padded zero s = []
-padded (suc n) text.[] = 0 ∷ padded n text.[]
-padded (suc n) (text._∷_ c s) = code c ∷ padded n s
+abbrev pub paddedText : ℕ → text.String → List ℕ
+paddedText zero s = []
+paddedText (suc n) text.[] = 0 ∷ paddedText n text.[]
+paddedText (suc n) (text._∷_ c s) = code c ∷ paddedText n s
 
 -- its name
 abbrev pub spelled : Refusal → text.String
@@ -30,4 +30,4 @@ spelled BadPart = "BadPart"
 
 -- its name as the eleven bytes that the longest has
 abbrev pub nameOf : Refusal → List ℕ
-nameOf r = padded 11 (spelled r)
+nameOf r = paddedText 11 (spelled r)

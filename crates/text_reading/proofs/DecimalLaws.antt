@@ -23,10 +23,10 @@ use Rattle.lists.specs.Every.{every}
 use Rattle.text_reading.specs.declared.wholes.Whole.the-variants as whole
 use Rattle.text_reading.specs.declared.decimals.Decimal.the-variants.{Is, Unread}
 use Rattle.text_reading.specs.Fields.{upTo, behind, fieldEnd}
-use Rattle.text_reading.specs.Wholes.{isDigit, digits, number, wholeOf}
+use Rattle.text_reading.specs.Wholes.{isDigit, allDigits, number, wholeNumberOf}
 use Rattle.text_reading.specs.Decimals.{point, plainDecimal, pointDecimal, decimalOf}
 use Rattle.text_reading.proofs.FieldLaws.{up-to-taken, end-there}
-use Rattle.text_reading.proofs.WholeLaws.{number-shift, number-append, number-lt, whole-read, whole-unread}
+use Rattle.text_reading.proofs.WholeLaws.{number-shift, number-append, number-lt, whole-number-read, whole-unread}
 
 cross : (M N a b D E : ℕ) → M * 1 ≡ a * D → N * 1 ≡ b * E → M * E * b ≡ a * (N * D)
 cross M N a b D E h k =
@@ -82,27 +82,27 @@ ten-next i = rw (add-one i) (sym (pow-suc 10 i))
 
 -- ---- digits alone
 
-all-digits : (l : List ℕ) → digits l ≡ true → T (every isDigit l)
+all-digits : (l : List ℕ) → allDigits l ≡ true → T (every isDigit l)
 all-digits l e = and-r (ltb 0 (length l)) (every isDigit l) (subst T (sym e) tt)
 
 module _ (w : List ℕ) where
   pub plain-long : 15 < length w → Unread ≡ plainDecimal w
   unfolding plainDecimal
-  plain-long h = rw (lt-leb (length w) 15 h, and-false (digits w))
+  plain-long h = rw (lt-leb (length w) 15 h, and-false (allDigits w))
 
-  pub plain-unread : length w ≤ 15 → wholeOf w ≡ whole.Unread → Unread ≡ plainDecimal w
+  pub plain-unread : length w ≤ 15 → wholeNumberOf w ≡ whole.Unread → Unread ≡ plainDecimal w
   unfolding plainDecimal
   plain-unread h e = rw (whole-unread w h e)
 
-  pub plain-small : (n : ℕ) → length w ≤ 15 → wholeOf w ≡ whole.Is n → n ≤ 2 ^ 53
+  pub plain-small : (n : ℕ) → length w ≤ 15 → wholeNumberOf w ≡ whole.Is n → n ≤ 2 ^ 53
   plain-small n h e =
-      let r = whole-read w n h e in
+      let r = whole-number-read w n h e in
       rw (r .1) (short-number w h (all-digits w (r .0)))
 
-  pub plain-read : (n : ℕ) → length w ≤ 15 → wholeOf w ≡ whole.Is n → Is (nat n) ≡ plainDecimal w
+  pub plain-read : (n : ℕ) → length w ≤ 15 → wholeNumberOf w ≡ whole.Is n → Is (nat n) ≡ plainDecimal w
   unfolding plainDecimal ofInt
   plain-read n h e =
-      let r = whole-read w n h e in
+      let r = whole-number-read w n h e in
       rw (r .0, le-leb (length w) 15 h, r .1)
 
 -- ---- digits on both sides of a point
@@ -116,21 +116,21 @@ pub record Divided (w p : List ℕ) (n m : ℕ) : Type 0 where
 module _ (w p : List ℕ) where
   pub point-long : 15 < length w + length p → Unread ≡ pointDecimal w p
   unfolding pointDecimal
-  point-long h = rw (lt-leb (length w + length p) 15 h, and-false (digits p), and-false (digits w))
+  point-long h = rw (lt-leb (length w + length p) 15 h, and-false (allDigits p), and-false (allDigits w))
 
-  pub point-left : length w + length p ≤ 15 → wholeOf w ≡ whole.Unread → Unread ≡ pointDecimal w p
+  pub point-left : length w + length p ≤ 15 → wholeNumberOf w ≡ whole.Unread → Unread ≡ pointDecimal w p
   unfolding pointDecimal
   point-left h e = rw (whole-unread w (omega arith) e)
 
-  pub point-right : length w + length p ≤ 15 → wholeOf p ≡ whole.Unread → Unread ≡ pointDecimal w p
+  pub point-right : length w + length p ≤ 15 → wholeNumberOf p ≡ whole.Unread → Unread ≡ pointDecimal w p
   unfolding pointDecimal
-  point-right h e = rw (whole-unread p (omega arith) e, and-false (digits w))
+  point-right h e = rw (whole-unread p (omega arith) e, and-false (allDigits w))
 
-  pub divided : (n m : ℕ) → length w + length p ≤ 15 → wholeOf w ≡ whole.Is n → wholeOf p ≡ whole.Is m → Divided w p n m
+  pub divided : (n m : ℕ) → length w + length p ≤ 15 → wholeNumberOf w ≡ whole.Is n → wholeNumberOf p ≡ whole.Is m → Divided w p n m
   unfolding pointDecimal
   divided n m h e f =
-      let r = whole-read w n (omega arith) e in
-      let s = whole-read p m (omega arith) f in
+      let r = whole-number-read w n (omega arith) e in
+      let s = whole-number-read p m (omega arith) f in
       let few : n * 10 ^ length p + m ≤ 2 ^ 53 = rw (r .1, s .1) (short-both w p h (all-digits w (r .0)) (all-digits p (s .0))) in
       let power : 10 ^ length p ≤ 2 ^ 53 = short-power (length p) (omega arith) in
       record {

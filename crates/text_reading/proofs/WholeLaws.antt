@@ -13,7 +13,7 @@ use Rattle.lists.proofs.PlaceLaws.{drop-next}
 use Rattle.lists.specs.Every.{every}
 use Rattle.lists.proofs.EveryLaws.{every-more, every-end}
 use Rattle.text_reading.specs.declared.wholes.Whole.the-variants.{Is, Unread}
-use Rattle.text_reading.specs.Wholes.{isDigit, digits, numberFrom, number, wholeOf, digitOf, grownBy}
+use Rattle.text_reading.specs.Wholes.{isDigit, allDigits, numberFrom, number, wholeNumberOf, digitOf, grownBy}
 
 never : {n : ℕ} → Unread ≡ Is n → ⊥
 never h = let z : _≡_ {A = ℕ} 0 1 = cc in omega arith
@@ -21,21 +21,21 @@ never h = let z : _≡_ {A = ℕ} 0 1 = cc in omega arith
 -- ---- one digit more
 
 -- what a byte that goes on says
-pub record Step (n b m : ℕ) : Type 0 where
+pub record DigitStep (n b m : ℕ) : Type 0 where
   pub digit : isDigit b ≡ true
   pub grown : m ≡ n * 10 + (b - 48)
   pub fits : m < 2 ^ 64
 
-pub step-yes : (n b m : ℕ) → grownBy n (digitOf b) ≡ Is m → Step n b m
+pub step-yes : (n b m : ℕ) → grownBy n (digitOf b) ≡ Is m → DigitStep n b m
 unfolding grownBy
 step-yes n b m h = go (isDigit b) refl h
   where
-    by-tests : (p q : Bool) → isDigit b ≡ true → ltb (n * 10 + (b - 48)) (2 ^ 64) ≡ q → cond (p && q) (Is (n * 10 + (b - 48))) Unread ≡ Is m → Step n b m
+    by-tests : (p q : Bool) → isDigit b ≡ true → ltb (n * 10 + (b - 48)) (2 ^ 64) ≡ q → cond (p && q) (Is (n * 10 + (b - 48))) Unread ≡ Is m → DigitStep n b m
     by-tests true true d l e = let same : m ≡ n * 10 + (b - 48) = cc in record { digit = d; grown = same; fits = rw same (ltb-true _ _ l) }
     by-tests true false d l e = absurd (never e)
     by-tests false q d l e = absurd (never e)
 
-    go : (t : Bool) → isDigit b ≡ t → cond (leb (cond t (b - 48) 10) 9 && ltb (n * 10 + cond t (b - 48) 10) (2 ^ 64)) (Is (n * 10 + cond t (b - 48) 10)) Unread ≡ Is m → Step n b m
+    go : (t : Bool) → isDigit b ≡ t → cond (leb (cond t (b - 48) 10) 9 && ltb (n * 10 + cond t (b - 48) 10) (2 ^ 64)) (Is (n * 10 + cond t (b - 48) 10)) Unread ≡ Is m → DigitStep n b m
     go true d e = by-tests (leb (b - 48) 9) (ltb (n * 10 + (b - 48)) (2 ^ 64)) d refl e
     go false d e = absurd (never e)
 
@@ -84,8 +84,8 @@ module _ (l : List ℕ) (n i : ℕ) (r : Read l n i) where
         fits = s .fits;
       }
 
-  pub read-no : i < length l → grownBy n (digitOf (getD l i 0)) ≡ Unread → Unread ≡ wholeOf l
-  unfolding wholeOf
+  pub read-no : i < length l → grownBy n (digitOf (getD l i 0)) ≡ Unread → Unread ≡ wholeNumberOf l
+  unfolding wholeNumberOf
   read-no h e =
       let none : (every isDigit l && ltb (number l) (2 ^ 64)) ≡ false =
       rw (← r .all, ← r .same, drop-next l i 0 h) (step-no n (getD l i 0) (drop (i + 1) l) e) in
@@ -95,8 +95,8 @@ module _ (l : List ℕ) (n i : ℕ) (r : Read l n i) where
       refused true q t h = rw h
       refused false q t h = refl
 
-  pub read-end : 0 < length l → length l ≤ i → Is n ≡ wholeOf l
-  unfolding wholeOf
+  pub read-end : 0 < length l → length l ≤ i → Is n ≡ wholeNumberOf l
+  unfolding wholeNumberOf
   read-end p h =
       let over : drop i l ≡ [] = drop-of-length-le l h in
       let value : number l ≡ n = sym (r .same) ∙ ap (numberFrom n) over in
@@ -137,23 +137,23 @@ number-lt (b ∷ l) t =
 short-number : (l : List ℕ) → length l ≤ 15 → T (every isDigit l) → number l < 2 ^ 64
 short-number l h t = lt-of-lt-of-le (number-lt l t) (le-trans (pow-le-pow-right (zero-lt-suc 9) h) (lit≤ tt))
 
-short-whole : (l : List ℕ) → length l ≤ 15 → wholeOf l ≡ cond (digits l) (Is (number l)) Unread
-unfolding wholeOf
-short-whole l h = go (digits l) refl
+short-whole : (l : List ℕ) → length l ≤ 15 → wholeNumberOf l ≡ cond (allDigits l) (Is (number l)) Unread
+unfolding wholeNumberOf
+short-whole l h = go (allDigits l) refl
   where
-    go : (t : Bool) → digits l ≡ t → cond (t && ltb (number l) (2 ^ 64)) (Is (number l)) Unread ≡ cond t (Is (number l)) Unread
+    go : (t : Bool) → allDigits l ≡ t → cond (t && ltb (number l) (2 ^ 64)) (Is (number l)) Unread ≡ cond t (Is (number l)) Unread
     go true e = rw (lt-ltb (number l) (2 ^ 64) (short-number l h (and-r (ltb 0 (length l)) (every isDigit l) (subst T (sym e) tt))))
     go false e = refl
 
-pub whole-read : (l : List ℕ) (n : ℕ) → length l ≤ 15 → wholeOf l ≡ Is n → (digits l ≡ true) × (n ≡ number l)
-whole-read l n h e = go (digits l) (sym (short-whole l h) ∙ e)
+pub whole-number-read : (l : List ℕ) (n : ℕ) → length l ≤ 15 → wholeNumberOf l ≡ Is n → (allDigits l ≡ true) × (n ≡ number l)
+whole-number-read l n h e = go (allDigits l) (sym (short-whole l h) ∙ e)
   where
     go : (t : Bool) → cond t (Is (number l)) Unread ≡ Is n → (t ≡ true) × (n ≡ number l)
     go true e = (refl, cc)
     go false e = absurd (never e)
 
-pub whole-unread : (l : List ℕ) → length l ≤ 15 → wholeOf l ≡ Unread → digits l ≡ false
-whole-unread l h e = go (digits l) (sym (short-whole l h) ∙ e)
+pub whole-unread : (l : List ℕ) → length l ≤ 15 → wholeNumberOf l ≡ Unread → allDigits l ≡ false
+whole-unread l h e = go (allDigits l) (sym (short-whole l h) ∙ e)
   where
     go : (t : Bool) → cond t (Is (number l)) Unread ≡ Unread → t ≡ false
     go true e = absurd (never (sym e))

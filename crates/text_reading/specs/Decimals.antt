@@ -8,7 +8,7 @@ use Rattle.floats.specs.F64.{decimal}
 use Rattle.text_reading.specs.declared.decimals.Decimal.{Decimal}
 use Rattle.text_reading.specs.declared.decimals.Decimal.the-variants.{Is, Unread}
 use Rattle.text_reading.specs.Fields.{upTo, behind}
-use Rattle.text_reading.specs.Wholes.{digits, number}
+use Rattle.text_reading.specs.Wholes.{allDigits, number}
 
 -- the byte of a point
 abbrev pub point : ℕ
@@ -16,12 +16,12 @@ point = 46
 
 -- at most 15 digits
 unfoldable pub plainDecimal : List ℕ → Decimal
-plainDecimal w = cond (digits w && leb (length w) 15) (Is (decimal (number w) 0)) Unread
+plainDecimal w = cond (allDigits w && leb (length w) 15) (Is (decimal (number w) 0)) Unread
 
 -- digits before the point and digits behind it, at most 15 in all
 unfoldable pub pointDecimal : List ℕ → List ℕ → Decimal
 pointDecimal w p =
-    cond (digits w && (digits p && leb (length w + length p) 15)) (Is (decimal (number (w ++ p)) (length p))) Unread
+    cond (allDigits w && (allDigits p && leb (length w + length p) 15)) (Is (decimal (number (w ++ p)) (length p))) Unread
 
 -- A3: with a point where there is one
 unfoldable pub decimalOf : List ℕ → Decimal

@@ -13,8 +13,8 @@ abbrev pub isDigit : ℕ → Bool
 isDigit b = leb 48 b && leb b 57
 
 -- at least one byte, and nothing but digits
-abbrev pub digits : List ℕ → Bool
-digits l = ltb 0 (length l) && every isDigit l
+abbrev pub allDigits : List ℕ → Bool
+allDigits l = ltb 0 (length l) && every isDigit l
 
 -- the number that digits write behind n, and that they write alone
 abbrev pub numberFrom : ℕ → List ℕ → ℕ
@@ -25,8 +25,8 @@ abbrev pub number : List ℕ → ℕ
 number l = numberFrom 0 l
 
 -- A2: digits whose number is below 2^64
-unfoldable pub wholeOf : List ℕ → Whole
-wholeOf l = cond (digits l && ltb (number l) (2 ^ 64)) (Is (number l)) Unread
+unfoldable pub wholeNumberOf : List ℕ → Whole
+wholeNumberOf l = cond (allDigits l && ltb (number l) (2 ^ 64)) (Is (number l)) Unread
 
 -- what the steps of the reading are: the value of a byte, 10 where it is no digit, and a number with one digit more
 abbrev pub digitOf : ℕ → ℕ

@@ -1,7 +1,7 @@
 // Whole numbers in decimal (docs/RULES.md, A2).
 ghost use mathlib.Core.Path.{_≡_};
 ghost use Prim.Native.Nat.{_<_};
-ghost use Rattle.text_reading.specs.Wholes.{digitOf, grownBy, wholeOf};
+ghost use Rattle.text_reading.specs.Wholes.{digitOf, grownBy, wholeNumberOf};
 
 pub enum Whole {
     Is(u64),
@@ -40,7 +40,7 @@ fn grown(n: u64, d: u64) -> Whole
 
 // A u64 in decimal, with any number of zeros before it.
 pub fn read_whole(field: &[u8]) -> Whole
-    ensures { λ r. ⌜ r ≡ wholeOf (now (field .entry)) ⌝ }
+    ensures { λ r. ⌜ r ≡ wholeNumberOf (now (field .entry)) ⌝ }
 {
     if field.len() == 0 {
         return Whole::Unread;

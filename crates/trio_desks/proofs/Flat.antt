@@ -11,7 +11,7 @@ use Rattle.floats.specs.Key.{keyOf}
 use Rattle.floats.proofs.KeyEqual.{not-below-itself}
 use Rattle.trio_entries.specs.declared.entry.Entry.{Entry}
 use Rattle.trio_entries.specs.Kept.{without, keptOf}
-use Rattle.trio_search.specs.Work.{notBelow, onePass, entryAt, entriesFrom}
+use Rattle.trio_search.specs.Work.{takesPlace, onePass, entryAt, entriesFrom}
 
 module _ (score : ℕ → Float) (level : Float) (flat : (p : ℕ) → score p ≡ level) where
   alike : (p q : ℕ) → ltZ (keyOf (score q)) (keyOf (score p)) ≡ false
@@ -19,10 +19,10 @@ module _ (score : ℕ → Float) (level : Float) (flat : (p : ℕ) → score p �
       ap (λ (x : Float). ltZ (keyOf x) (keyOf (score p))) (flat q) ∙ ap (λ (x : Float). ltZ (keyOf level) (keyOf x)) (flat p) ∙ not-below-itself (keyOf level)
 
   -- q is the last of n + 1 positions from p on
-  kept-flat : (n p q : ℕ) → n + p ≡ q → keptOf notBelow (entryAt score p) (entriesFrom score (suc p) n) ≡ entryAt score q
+  kept-flat : (n p q : ℕ) → n + p ≡ q → keptOf takesPlace (entryAt score p) (entriesFrom score (suc p) n) ≡ entryAt score q
   kept-flat zero p q e = let h : p ≡ q = omega arith in ap (entryAt score) h
   kept-flat (suc n) p q e =
-      ap (λ (t : Bool). keptOf notBelow (cond (not t) (entryAt score (suc p)) (entryAt score p)) (entriesFrom score (suc (suc p)) n)) (alike p (suc p)) ∙ kept-flat n (suc p) q (omega arith)
+      ap (λ (t : Bool). keptOf takesPlace (cond (not t) (entryAt score (suc p)) (entryAt score p)) (entriesFrom score (suc (suc p)) n)) (alike p (suc p)) ∙ kept-flat n (suc p) q (omega arith)
 
   -- without it, those before it
   without-last : (n p q : ℕ) → n + p ≡ q → without q (entriesFrom score p (suc n)) ≡ entriesFrom score p n
@@ -32,9 +32,9 @@ module _ (score : ℕ → Float) (level : Float) (flat : (p : ℕ) → score p �
 
   two-kept : (n : ℕ) → onePass 2 (entriesFrom score 0 (suc (suc n))) ≡ entryAt score (suc n) ∷ entryAt score n ∷ []
   two-kept n =
-      let a : keptOf notBelow (entryAt score 0) (entriesFrom score 1 (suc n)) ≡ entryAt score (suc n) = kept-flat (suc n) 0 (suc n) (omega arith) in
+      let a : keptOf takesPlace (entryAt score 0) (entriesFrom score 1 (suc n)) ≡ entryAt score (suc n) = kept-flat (suc n) 0 (suc n) (omega arith) in
       let b : without (suc n) (entriesFrom score 0 (suc (suc n))) ≡ entriesFrom score 0 (suc n) = without-last (suc n) 0 (suc n) (omega arith) in
-      let c : keptOf notBelow (entryAt score 0) (entriesFrom score 1 n) ≡ entryAt score n = kept-flat n 0 n (omega arith) in
+      let c : keptOf takesPlace (entryAt score 0) (entriesFrom score 1 n) ≡ entryAt score n = kept-flat n 0 n (omega arith) in
       rw (a, b, c)
 
   pub flat-pass : (many : ℕ) → 2 ≤ many → onePass 2 (entriesFrom score 0 many) ≡ entryAt score (many - 1) ∷ entryAt score (many - 2) ∷ []

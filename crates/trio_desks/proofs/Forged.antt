@@ -24,7 +24,7 @@ use Rattle.trio_entries.specs.Merged.{mergedHeld}
 use Rattle.trio_search.specs.Marks.{isMarked, markCount, fullMarks}
 use Rattle.trio_entries.specs.Rank.{beatsOf}
 use Rattle.trio_search.specs.Shape.{inMarked, workRight}
-use Rattle.trio_search.specs.Work.{Work, IsEntry, joined, rowWork, wholeWork, Within}
+use Rattle.trio_search.specs.Work.{Work, IsEntry, joined, rowWork, wholeWork, InRows}
 use Rattle.trio_entries.proofs.HeldLaws.{in-use-back}
 use Rattle.trio_entries.proofs.MergedHeldLaws.{merged-fits}
 use Rattle.trio_search.proofs.MarksLaws.{unmarked-above}
@@ -110,7 +110,7 @@ module _ (p : Part) where
           let s = row-sound (mul-pos (shaped .some) (shaped .some)) r h in
           right-with p (joined (workIn p) (rowWork width score r)) (right-parts p right .0)
           (subst (λ (l : List Entry). workRight rows (bitOr (p .marks) (rowWork width score r .marks)) (heldOf (mergedHeld (heldList (p .held)) l)) ≡ true)
-          (held-back (Within width score (eqb r)) (rowWork width score r .held) (s .held-best))
+          (held-back (InRows width score (eqb r)) (rowWork width score r .held) (s .held-best))
           (joined-right rows (p .marks) (rowWork width score r .marks) (p .held) (heldOf (rowWork width score r .held)) (right-parts p right .1)
           (work-right (scores-numbers p (right-parts p right .0) eight) (shaped .some) (shaped .few) s)))
 

@@ -14,7 +14,7 @@ use Rattle.trio_entries.specs.Held.{heldList}
 use Rattle.trio_search.specs.Marks.{isMarked, fullMarks}
 use Rattle.trio_entries.specs.Rank.{beatsOf}
 use Rattle.trio_search.specs.Shape.{workRight}
-use Rattle.trio_search.specs.Work.{Work, joined, noWork, rowWork, Within, wholeWork}
+use Rattle.trio_search.specs.Work.{Work, joined, noWork, rowWork, InRows, wholeWork}
 use Rattle.trio_search_laws.specs.Sound.{Sound}
 use Rattle.trio_search_laws.proofs.JoinLaws.{sound-unique}
 use Rattle.trio_search_laws.proofs.ShapeLaws.{Shaped, right-shaped, held-back, work-right}
@@ -106,7 +106,7 @@ module _ (start : Part) (right-start : rightPart start ≡ true) (none : start �
     right-with = rw input-right (work-right solid (shaped .some) (shaped .few) s)
 
     work-back : workIn (withWork start v) ≡ v
-    work-back = λ i. record { marks = v .marks; held = held-back (Within width score w) (v .held) (s .held-best) i }
+    work-back = λ i. record { marks = v .marks; held = held-back (InRows width score w) (v .held) (s .held-best) i }
 
     -- what a row gives
     row-on : (r : ℕ) → rowStep (withWork start v) r ≡ cond (ltb r rows) (gives Done (withWork start (joined v (rowWork width score r)))) (gives Row (withWork start v))
@@ -214,12 +214,12 @@ module _ (start : Part) (right-start : rightPart start ≡ true) (none : start �
   pub promised : (h : History start) → Promised start h
   promised h =
       let c = came h in
-      let l = held-back (Within width score (rowsOf start h)) (c .0 .held) (c .2 .held-best) in
+      let l = held-back (InRows width score (rowsOf start h)) (c .0 .held) (c .2 .held-best) in
       record {
         right = ap rightPart (c .1) ∙ right-with (rowsOf start h) (c .0) (c .2);
         input-kept = (ap (λ (p : Part). p .clusters) (c .1), ap (λ (p : Part). p .counts) (c .1), ap (λ (p : Part). p .weights) (c .1));
         marks-are = λ r. ap (λ (p : Part). isMarked (p .marks) r) (c .1) ∙ c .2 .marks-are r;
-        held-best = subst (Best beatsOf 2 (Within width score (rowsOf start h))) (sym (ap (λ (p : Part). heldList (p .held)) (c .1) ∙ l)) (c .2 .held-best);
+        held-best = subst (Best beatsOf 2 (InRows width score (rowsOf start h))) (sym (ap (λ (p : Part). heldList (p .held)) (c .1) ∙ l)) (c .2 .held-best);
         incomplete = λ r k f.
             subst (λ (p : Part). closeStep p ≡ refusedClosing NotComplete p) (sym (c .1)) (incomplete-on (rowsOf start h) (c .0) (c .2) r k f);
         complete = λ all. ap closeStep (c .1) ∙ complete-on (rowsOf start h) (c .0) (c .2) all;

@@ -22,7 +22,7 @@ use Rattle.trio_family.specs.Genotypes.{genotypeCount}
 use Rattle.trio_triples.specs.Genotypes.{genotypeAt, rowWidth, tripleAt, tripleOf}
 use Rattle.lists.specs.Lists.{numbers, padded}
 use Rattle.lists.proofs.PaddedLaws.{padded-at}
-use Rattle.trio_samples.specs.Samples.{inUse, reads, sum, columnTotal}
+use Rattle.trio_samples.specs.Samples.{upToEight, reads, sum, columnTotal}
 use Rattle.trio_parts.specs.Part.{rowCount, freshPart}
 use Rattle.trio_parts.proofs.RightLaws.{right-input}
 use Rattle.trio_opening.specs.Opening.{openStep}
@@ -91,7 +91,7 @@ module _ (counts : List ℕ) where
 
   pub total-padded : (n : ℕ) (s : Sample) → columnTotal n (padded 24 0 counts) s ≡ columnTotal n counts s
   unfolding columnTotal
-  total-padded n s = column-padded (sampleNumber s) 0 (inUse n)
+  total-padded n s = column-padded (sampleNumber s) 0 (upToEight n)
 
   pub unread-padded : (n : ℕ) → unread n (padded 24 0 counts) ≡ unread n counts
   unfolding unread

@@ -9,7 +9,7 @@ use Rattle.trio_entries.specs.Best.{Best}
 use Rattle.trio_entries.specs.Held.{heldList}
 use Rattle.trio_search.specs.Marks.{isMarked}
 use Rattle.trio_entries.specs.Rank.{beatsOf}
-use Rattle.trio_search.specs.Work.{Within}
+use Rattle.trio_search.specs.Work.{InRows}
 use Rattle.trio_parts.specs.declared.part.Part.{Part}
 use Rattle.trio_triples.specs.Genotypes.{rowWidth}
 use Rattle.trio_parts.specs.Part.{rowCount, gives}
@@ -70,7 +70,7 @@ module _ (start : Part) where
     -- its marks are those rows and no others
     pub marks-are : (r : ℕ) → isMarked (partOf h .marks) r ≡ rowsOf h r
     -- what it holds are the two best of the triples of these rows, fewer only where there are no more
-    pub held-best : Best beatsOf 2 (Within (rowWidth (start .clusters)) (scoreIn start) (rowsOf h)) (heldList (partOf h .held))
+    pub held-best : Best beatsOf 2 (InRows (rowWidth (start .clusters)) (scoreIn start) (rowsOf h)) (heldList (partOf h .held))
     -- while a row has not been worked, closing is refused
     pub incomplete : (r : ℕ) → r < rowCount start → rowsOf h r ≡ false → closeStep (partOf h) ≡ refusedClosing NotComplete (partOf h)
     -- once all have been, closing gives what one pass over all triples gives: triple, score, runner-up and ground

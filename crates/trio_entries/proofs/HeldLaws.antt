@@ -6,22 +6,22 @@ use mathlib.Core.Logic.{_≢_}
 use mathlib.Core.Path.{_≡_, refl}
 use Rattle.trio_entries.specs.declared.entry.Entry.{Entry}
 use Rattle.trio_entries.specs.Best.{offered}
-use Rattle.trio_entries.specs.Held.{heldOf, heldList, inUse}
+use Rattle.trio_entries.specs.Held.{heldOf, heldList, entriesUsed}
 use Rattle.trio_entries.specs.Rank.{beatsOf}
 
 module _ (f s e : Entry) where
   -- e is better than the first
-  pub offer-first : (n : ℕ) → n ≢ 0 → beatsOf e f ≡ true → heldOf (e ∷ f ∷ []) ≡ heldOf (offered beatsOf 2 e (inUse n f s))
+  pub offer-first : (n : ℕ) → n ≢ 0 → beatsOf e f ≡ true → heldOf (e ∷ f ∷ []) ≡ heldOf (offered beatsOf 2 e (entriesUsed n f s))
   offer-first zero h t = absurd (h refl)
   offer-first (suc zero) h t = rw t
   offer-first (suc (suc n)) h t = rw t
 
   -- the first is the only one, and better than e
-  pub offer-last : beatsOf e f ≡ false → heldOf (f ∷ e ∷ []) ≡ heldOf (offered beatsOf 2 e (inUse 1 f s))
+  pub offer-last : beatsOf e f ≡ false → heldOf (f ∷ e ∷ []) ≡ heldOf (offered beatsOf 2 e (entriesUsed 1 f s))
   offer-last t = rw t
 
   -- there are two, and the first is better than e
-  pub offer-second : (n : ℕ) → n ≢ 0 → n ≢ 1 → beatsOf e f ≡ false → heldOf (f ∷ cond (beatsOf e s) e s ∷ []) ≡ heldOf (offered beatsOf 2 e (inUse n f s))
+  pub offer-second : (n : ℕ) → n ≢ 0 → n ≢ 1 → beatsOf e f ≡ false → heldOf (f ∷ cond (beatsOf e s) e s ∷ []) ≡ heldOf (offered beatsOf 2 e (entriesUsed n f s))
   offer-second zero h k t = absurd (h refl)
   offer-second (suc zero) h k t = absurd (k refl)
   offer-second (suc (suc n)) h k t = rw t (go (beatsOf e s))
@@ -31,7 +31,7 @@ module _ (f s e : Entry) where
       go false = refl
 
 -- the list of a `Held` fits one
-pub in-use-back : (n : ℕ) (f s : Entry) → heldList (heldOf (inUse n f s)) ≡ inUse n f s
+pub in-use-back : (n : ℕ) (f s : Entry) → heldList (heldOf (entriesUsed n f s)) ≡ entriesUsed n f s
 in-use-back zero f s = refl
 in-use-back (suc zero) f s = refl
 in-use-back (suc (suc n)) f s = refl

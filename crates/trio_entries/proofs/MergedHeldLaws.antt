@@ -10,22 +10,22 @@ use Rattle.trio_entries.specs.declared.held.Held.{Held}
 use Rattle.trio_entries.specs.Best.{offered}
 use Rattle.trio_entries.proofs.BestLaws.{allOffered}
 use Rattle.trio_entries.specs.Kept.{without, firstAtEach, keptOf, kept}
-use Rattle.trio_entries.specs.Held.{heldOf, heldList, inUse}
+use Rattle.trio_entries.specs.Held.{heldOf, heldList, entriesUsed}
 use Rattle.trio_entries.specs.Rank.{beatsOf}
 use Rattle.trio_entries.proofs.HeldLaws.{kept-whole}
 use Rattle.trio_entries.specs.Merged.{holdsAt, mergedHeld}
 use Rattle.trio_entries.proofs.MergedLaws.{shared-kept, apart-kept, offeredFresh, merged-in-use}
 
 module _ (f s : Entry) (p : ℕ) where
-  pub holds-first : (n : ℕ) → n ≢ 0 → eqb (f .position) p ≡ true → true ≡ holdsAt (inUse n f s) p
+  pub holds-first : (n : ℕ) → n ≢ 0 → eqb (f .position) p ≡ true → true ≡ holdsAt (entriesUsed n f s) p
   holds-first zero h t = absurd (h refl)
   holds-first (suc zero) h t = rw t
   holds-first (suc (suc n)) h t = rw t
 
-  pub holds-one : eqb (f .position) p ≡ false → false ≡ holdsAt (inUse 1 f s) p
+  pub holds-one : eqb (f .position) p ≡ false → false ≡ holdsAt (entriesUsed 1 f s) p
   holds-one t = rw t
 
-  pub holds-second : (n : ℕ) → n ≢ 0 → n ≢ 1 → eqb (f .position) p ≡ false → eqb (s .position) p ≡ holdsAt (inUse n f s) p
+  pub holds-second : (n : ℕ) → n ≢ 0 → n ≢ 1 → eqb (f .position) p ≡ false → eqb (s .position) p ≡ holdsAt (entriesUsed n f s) p
   holds-second zero h k t = absurd (h refl)
   holds-second (suc zero) h k t = absurd (k refl)
   holds-second (suc (suc n)) h k t = rw t (sym (or-false (eqb (s .position) p)))
@@ -51,7 +51,7 @@ tidy-none = refl
 
 -- a second entry, where it stands at a position of its own
 pub tidy-two : (n : ℕ) (f s : Entry) → n ≢ 0 → n ≢ 1
-    → cond (holdsAt (f ∷ []) (s .position)) (heldOf (f ∷ [])) (heldOf (offered beatsOf 2 s (f ∷ []))) ≡ heldOf (mergedHeld (inUse n f s) [])
+    → cond (holdsAt (f ∷ []) (s .position)) (heldOf (f ∷ [])) (heldOf (offered beatsOf 2 s (f ∷ []))) ≡ heldOf (mergedHeld (entriesUsed n f s) [])
 tidy-two zero f s h k = absurd (h refl)
 tidy-two (suc zero) f s h k = absurd (k refl)
 tidy-two (suc (suc n)) f s h k = go (eqb (f .position) (s .position)) refl
@@ -67,7 +67,7 @@ module _ (a : Held) (f s : Entry) (h : a ≡ heldOf (heldList a)) where
   abbrev after : Bool → Held
   after t = cond t a (heldOf (offered beatsOf 2 f (heldList a)))
 
-  pub merge-one : after (holdsAt (heldList a) (f .position)) ≡ heldOf (offeredFresh (heldList a) (inUse 1 f s))
+  pub merge-one : after (holdsAt (heldList a) (f .position)) ≡ heldOf (offeredFresh (heldList a) (entriesUsed 1 f s))
   merge-one = go (holdsAt (heldList a) (f .position))
     where
       go : (t : Bool) → after t ≡ heldOf (allOffered beatsOf 2 (heldList a) (cond (not t) (f ∷ []) []))
@@ -75,7 +75,7 @@ module _ (a : Held) (f s : Entry) (h : a ≡ heldOf (heldList a)) where
       go false = refl
 
   pub merge-two : (n : ℕ) (o : Held) → n ≢ 0 → n ≢ 1 → o ≡ after (holdsAt (heldList a) (f .position))
-      → cond (holdsAt (heldList a) (s .position)) o (heldOf (offered beatsOf 2 s (heldList o))) ≡ heldOf (offeredFresh (heldList a) (inUse n f s))
+      → cond (holdsAt (heldList a) (s .position)) o (heldOf (offered beatsOf 2 s (heldList o))) ≡ heldOf (offeredFresh (heldList a) (entriesUsed n f s))
   merge-two zero o i k e = absurd (i refl)
   merge-two (suc zero) o i k e = absurd (k refl)
   merge-two (suc (suc n)) o i k e = rw e (go (holdsAt (heldList a) (f .position)) (holdsAt (heldList a) (s .position)))

@@ -12,7 +12,7 @@ use Rattle.lists.specs.Lists.{passing}
 use Rattle.trio_entries.specs.Best.{In, Or, Rest, Best}
 use Rattle.trio_entries.specs.Rank.{beatsOf}
 use Rattle.trio_entries.specs.Kept.{without, firstAtEach, kept}
-use Rattle.trio_entries.specs.Held.{inUse}
+use Rattle.trio_entries.specs.Held.{entriesUsed}
 use Rattle.trio_entries.specs.Merged.{holdsAt, mergedHeld, Both}
 use Rattle.trio_entries.proofs.BestLaws.{allOffered, passing-in, in-passing, Fresh, best-ext, best-in, best-unique, all-offered-best}
 use Rattle.trio_entries.proofs.RankLaws.{ranks-apart}
@@ -158,7 +158,7 @@ module _ (a : List Entry) where
   tidied-holds : Whole → (p : ℕ) → holdsAt (mergedHeld a []) p ≡ holdsAt a p
   tidied-holds whole p = held-same (mergedHeld a []) (firstAtEach a) tidied-in whole p ∙ first-holds a p
 
-in-use-whole : (n : ℕ) (f s : Entry) → Whole (inUse n f s)
+in-use-whole : (n : ℕ) (f s : Entry) → Whole (entriesUsed n f s)
 in-use-whole zero f s x i = absurd i
 in-use-whole (suc zero) f s x i = subst (λ (l : List Entry). In l x) (sym (alone-kept f)) i
 in-use-whole (suc (suc n)) f s x i = go (eqb (f .position) (s .position)) refl i
@@ -219,5 +219,5 @@ module _ (a b : List Entry) (a-whole : Whole a) where
       (fresh-fresh own 2 (In (firstAtEach b)) given own (tidied-best b) (λ x i s. in-held-at own x i))))
       (merged-best-first a b)
 
-pub merged-in-use : (n m : ℕ) (f s g h : Entry) → offeredFresh (mergedHeld (inUse n f s) []) (mergedHeld (inUse m g h) []) ≡ mergedHeld (inUse n f s) (inUse m g h)
-merged-in-use n m f s g h = tidied-merged (inUse n f s) (inUse m g h) (in-use-whole n f s) (in-use-whole m g h)
+pub merged-in-use : (n m : ℕ) (f s g h : Entry) → offeredFresh (mergedHeld (entriesUsed n f s) []) (mergedHeld (entriesUsed m g h) []) ≡ mergedHeld (entriesUsed n f s) (entriesUsed m g h)
+merged-in-use n m f s g h = tidied-merged (entriesUsed n f s) (entriesUsed m g h) (in-use-whole n f s) (in-use-whole m g h)

@@ -29,8 +29,8 @@ compared-ℤ (negsuc a) (pos b) = inl tt
 compared-ℤ (negsuc a) (negsuc b) = ⊎-elim (λ t. inr (inr t)) (⊎-elim (λ e. inr (inl (ap negsuc e))) (λ t. inl t)) (compared-ℕ a b)
 
 -- `beatsOf` in words
-unfoldable pub Above : Entry → Entry → Type 0
-Above a b = T (ltZ (keyOf (b .score)) (keyOf (a .score))) ⊎ ((keyOf (a .score) ≡ keyOf (b .score)) × (b .position < a .position))
+unfoldable pub Outranks : Entry → Entry → Type 0
+Outranks a b = T (ltZ (keyOf (b .score)) (keyOf (a .score))) ⊎ ((keyOf (a .score) ≡ keyOf (b .score)) × (b .position < a .position))
 
 irreflexive-ℤ : (a : ℤ) → T (ltZ a a) → ⊥
 irreflexive-ℤ a t = <ℤ-irrefl {a = a} (ltZ-yes t)
@@ -44,22 +44,22 @@ transitive-ℤ (negsuc a) (pos b) (negsuc c) s t = absurd t
 transitive-ℤ (negsuc a) (negsuc b) (pos c) s t = tt
 transitive-ℤ (negsuc a) (negsuc b) (negsuc c) s t = lt→ltb c a (omega (arith, ltb→lt b a s, ltb→lt c b t))
 
-pub beats-above : (a b : Entry) → T (beatsOf a b) → Above a b
-unfolding beatsOf Above
+pub beats-above : (a b : Entry) → T (beatsOf a b) → Outranks a b
+unfolding beatsOf Outranks
 beats-above a b = go (ltZ (keyOf (b .score)) (keyOf (a .score))) (ltZ (keyOf (a .score)) (keyOf (b .score))) (ltb (b .position) (a .position)) refl refl refl
   where
-    go : (s t u : Bool) → ltZ (keyOf (b .score)) (keyOf (a .score)) ≡ s → ltZ (keyOf (a .score)) (keyOf (b .score)) ≡ t → ltb (b .position) (a .position) ≡ u → T (s || (not t && u)) → Above a b
+    go : (s t u : Bool) → ltZ (keyOf (b .score)) (keyOf (a .score)) ≡ s → ltZ (keyOf (a .score)) (keyOf (b .score)) ≡ t → ltb (b .position) (a .position) ≡ u → T (s || (not t && u)) → Outranks a b
     go true t u p q r h = inl (subst T (sym p) tt)
     go false true u p q r h = absurd h
     go false false false p q r h = absurd h
     go false false true p q r h =
         inr (⊎-elim (λ x. absurd (subst T q x)) (⊎-elim (λ e. e) (λ x. absurd (subst T p x))) (compared-ℤ (keyOf (a .score)) (keyOf (b .score))), ltb→lt _ _ (subst T (sym r) tt))
 
-above-beats : (a b : Entry) → Above a b → T (beatsOf a b)
-unfolding beatsOf Above
+above-beats : (a b : Entry) → Outranks a b → T (beatsOf a b)
+unfolding beatsOf Outranks
 above-beats a b = go (ltZ (keyOf (b .score)) (keyOf (a .score))) (ltZ (keyOf (a .score)) (keyOf (b .score))) (ltb (b .position) (a .position)) refl refl refl
   where
-    go : (s t u : Bool) → ltZ (keyOf (b .score)) (keyOf (a .score)) ≡ s → ltZ (keyOf (a .score)) (keyOf (b .score)) ≡ t → ltb (b .position) (a .position) ≡ u → Above a b → T (s || (not t && u))
+    go : (s t u : Bool) → ltZ (keyOf (b .score)) (keyOf (a .score)) ≡ s → ltZ (keyOf (a .score)) (keyOf (b .score)) ≡ t → ltb (b .position) (a .position) ≡ u → Outranks a b → T (s || (not t && u))
     go true t u p q r h = tt
     go false t u p q r (inl x) = absurd (subst T p x)
     go false true u p q r (inr x) = absurd (irreflexive-ℤ (keyOf (b .score)) (subst (λ (k : ℤ). T (ltZ k (keyOf (b .score)))) (x .0) (subst T (sym q) tt)))
@@ -67,14 +67,14 @@ above-beats a b = go (ltZ (keyOf (b .score)) (keyOf (a .score))) (ltZ (keyOf (a 
     go false false false p q r (inr x) = subst T r (lt→ltb _ _ (x .1))
 
 beats-irreflexive : (a : Entry) → T (beatsOf a a) → ⊥
-unfolding Above
+unfolding Outranks
 beats-irreflexive a t = ⊎-elim (irreflexive-ℤ (keyOf (a .score))) (λ x. omega (arith, x .1)) (beats-above a a t)
 
 pub beats-transitive : (a b c : Entry) → T (beatsOf a b) → T (beatsOf b c) → T (beatsOf a c)
-unfolding Above
+unfolding Outranks
 beats-transitive a b c s t = above-beats a c (join (beats-above a b s) (beats-above b c t))
   where
-    join : Above a b → Above b c → Above a c
+    join : Outranks a b → Outranks b c → Outranks a c
     join (inl s) (inl t) = inl (transitive-ℤ (keyOf (c .score)) (keyOf (b .score)) (keyOf (a .score)) t s)
     join (inl s) (inr t) = inl (subst (λ (k : ℤ). T (ltZ k (keyOf (a .score)))) (t .0) s)
     join (inr s) (inl t) = inl (subst (λ (k : ℤ). T (ltZ (keyOf (c .score)) k)) (sym (s .0)) t)
@@ -82,7 +82,7 @@ beats-transitive a b c s t = above-beats a c (join (beats-above a b s) (beats-ab
 
 -- any two of a set with one entry at a position differ: at equal keys by their positions
 pub ranks-apart : (Good : Entry → Type 0) → ((a b : Entry) → Good a → Good b → a .position ≡ b .position → a ≡ b) → Ranks Good beatsOf
-unfolding Above
+unfolding Outranks
 ranks-apart Good one =
     record {
       irreflexive = beats-irreflexive;
@@ -98,9 +98,9 @@ ranks-apart Good one =
     by-position a b g h e (inr (inr t)) = inl (above-beats a b (inr (e, ltb→lt _ _ t)))
 
 pub larger-beats : (a b : Entry) → T (ltZ (keyOf (b .score)) (keyOf (a .score))) → T (beatsOf a b)
-unfolding Above
+unfolding Outranks
 larger-beats a b t = above-beats a b (inl t)
 
 pub later-beats : (a b : Entry) → ltZ (keyOf (a .score)) (keyOf (b .score)) ≡ false → b .position < a .position → T (beatsOf a b)
-unfolding Above
+unfolding Outranks
 later-beats a b n p = ⊎-elim (λ t. absurd (subst T n t)) (⊎-elim (λ e. above-beats a b (inr (e, p))) (λ t. above-beats a b (inl t))) (compared-ℤ (keyOf (a .score)) (keyOf (b .score)))

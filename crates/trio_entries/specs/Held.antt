@@ -9,13 +9,13 @@ abbrev pub noEntry : Entry
 noEntry = record { position = 0; score = ofBits binary64 0 }
 
 -- the entries in use, of two places
-abbrev pub inUse : ℕ → Entry → Entry → List Entry
-inUse zero f s = []
-inUse (suc zero) f s = f ∷ []
-inUse (suc (suc n)) f s = f ∷ s ∷ []
+abbrev pub entriesUsed : ℕ → Entry → Entry → List Entry
+entriesUsed zero f s = []
+entriesUsed (suc zero) f s = f ∷ []
+entriesUsed (suc (suc n)) f s = f ∷ s ∷ []
 
 abbrev pub heldList : Held → List Entry
-heldList h = inUse (h .count) (h .first) (h .second)
+heldList h = entriesUsed (h .count) (h .first) (h .second)
 
 -- the first two of a list, unused places zero
 abbrev pub heldOf : List Entry → Held

@@ -16,7 +16,7 @@ use Rattle.trio_parts.specs.Part.{weightAllowed}
 use Rattle.trio_parts.specs.Right.{noCount, noWeight, placesRight, inputRight}
 use Rattle.trio_parts.proofs.RightLaws.{few-clusters}
 use Rattle.trio.specs.Steps.{scoreIn}
-use Rattle.trio_laws.specs.Accepted.{Accepted}
+use Rattle.trio_laws.specs.Accepted.{AcceptedTrio}
 use Rattle.trio_laws.proofs.ScoreBounds.{score-number}
 
 -- a place in use has passed its test
@@ -51,7 +51,7 @@ module _ (p : Part) (right : inputRight p ≡ true) (eight : length (p .weights)
       go true e = place-passed countAllowed noCount 0 (3 * n) (p .counts) i (and-elim-left counts-test weights-test places) h (ltb-true i (length (p .counts)) e)
       go false e = ap countAllowed (List·getD-eq-default (p .counts) 0 (ltb-false i (length (p .counts)) e))
 
-  pub input-accepted : Accepted n (p .counts) (p .weights)
+  pub input-accepted : AcceptedTrio n (p .counts) (p .weights)
   input-accepted =
       record {
         some = leb-true 1 n (and-elim-left (leb 1 n) (leb n 8 && (counts-test && weights-test)) some-clusters);

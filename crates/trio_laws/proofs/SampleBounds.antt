@@ -29,11 +29,11 @@ use Rattle.trio_family.specs.Numbers.{sampleNumber}
 use Rattle.trio_family.specs.Genotypes.{pairsWith, pairsFrom, genotypes, pair}
 use Rattle.trio_triples.specs.Genotypes.{genotypeAt}
 use Rattle.lists.specs.Lists.{numbers}
-use Rattle.trio_samples.specs.Samples.{inUse, clusters, reads, sum, columnTotal, logBinomial, expectation, expectationTotal, clusterTerm}
+use Rattle.trio_samples.specs.Samples.{upToEight, clusters, reads, sum, columnTotal, logBinomial, expectation, expectationTotal, clusterTerm}
 use Rattle.trio_samples.specs.Samples.{sampleScore}
 use Rattle.trio_parts.specs.Part.{weightAllowed}
 use Rattle.trio_samples.proofs.SampleLaws.{in-use, sample-below, count-at-most}
-use Rattle.trio_laws.specs.Accepted.{Accepted}
+use Rattle.trio_laws.specs.Accepted.{AcceptedTrio}
 use Rattle.lists.specs.Every.{every}
 use Rattle.lists.proofs.EveryLaws.{every-at}
 use Rattle.trio_laws.proofs.Every.{every-between}
@@ -69,8 +69,8 @@ share-inside : (n k c : ℕ) → 2 ≤ n → n ≤ 8 → c < n → T (inside (sh
 share-inside n k c l u h =
     let some : 1 ≤ n = omega arith in
     let each = every-between (λ (m : ℕ). every (sharesInside m) (genotypes m)) 2 7 n all-inside l (omega arith) in
-    let used : c < inUse n = rw (in-use n u) h in
-    every-between (λ (d : ℕ). inside (share n (genotypeAt n k) d)) 0 (inUse n) c (every-genotype (sharesInside n) n k some each) (omega arith) (omega arith)
+    let used : c < upToEight n = rw (in-use n u) h in
+    every-between (λ (d : ℕ). inside (share n (genotypeAt n k) d)) 0 (upToEight n) c (every-genotype (sharesInside n) n k some each) (omega arith) (omega arith)
 
 -- and with one cluster it is 1
 
@@ -151,7 +151,7 @@ pub sample-least : (n : ℕ) (counts : List ℕ) (weights : List Float) (s : Sam
 unfolding sampleScore
 sample-least n counts weights s h z = rw z
 
-module _ (n : ℕ) (counts : List ℕ) (weights : List Float) (a : Accepted n counts weights) (s : Sample) where
+module _ (n : ℕ) (counts : List ℕ) (weights : List Float) (a : AcceptedTrio n counts weights) (s : Sample) where
   count-small : (c : ℕ) → c < n → reads counts (sampleNumber s) c ≤ 1000000
   count-small c h = leb-true (reads counts (sampleNumber s) c) 1000000 (a .count-allowed (3 * c + sampleNumber s) (omega (arith, sample-below s)))
 

@@ -26,7 +26,7 @@ use Rattle.lists.specs.Lists.{numbers}
 use Rattle.trio_samples.specs.Samples.{columnTotal, sampleScore}
 use Rattle.trio_triples.specs.Score.{tripleScore, scoreOf}
 use Rattle.trio_triples.proofs.GenotypesLaws.{triple-within}
-use Rattle.trio_laws.specs.Accepted.{Accepted}
+use Rattle.trio_laws.specs.Accepted.{AcceptedTrio}
 use Rattle.lists.specs.Every.{every}
 use Rattle.trio_laws.proofs.Every.{every-between}
 use Rattle.trio_laws.proofs.ChildPairLaws.{child-pairs-few}
@@ -58,7 +58,7 @@ low-not-plus : {n : ℕ} {x : Float} → Low n x → x ≡ inf false → ⊥
 low-not-plus least e = let z : _≡_ {A = ℕ} 0 1 = cc in omega arith
 low-not-plus (finite-low w) e = subst (λ (y : Float). T (finite y)) e (w .is-finite)
 
-module _ (n : ℕ) (counts : List ℕ) (weights : List Float) (a : Accepted n counts weights) (p : ℕ) where
+module _ (n : ℕ) (counts : List ℕ) (weights : List Float) (a : AcceptedTrio n counts weights) (p : ℕ) where
   -- the score of an animal under genotype k
   abbrev of : Sample → ℕ → Float
   of s k = sampleScore n counts weights s (genotypeAt n k)

@@ -9,7 +9,7 @@ use Rattle.limits.specs.Limits.{countAllowed}
 use Rattle.trio_parts.specs.Part.{weightAllowed}
 
 -- 1 to 8 clusters; the counts and the weights of these are within their limits
-pub record Accepted (n : ℕ) (counts : List ℕ) (weights : List Float) : Type 0 where
+pub record AcceptedTrio (n : ℕ) (counts : List ℕ) (weights : List Float) : Type 0 where
   pub some : 1 ≤ n
   pub few : n ≤ 8
   pub count-allowed : (i : ℕ) → i < 3 * n → countAllowed (getD counts i 0) ≡ true

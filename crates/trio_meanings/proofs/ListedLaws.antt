@@ -26,19 +26,19 @@ use Rattle.trio_meanings.specs.Loops.{noTriple, sameTriple}
 -- ---- the list
 
 -- the triples of the first m positions
-abbrev pub listed : ℕ → ℕ → List Triple
-listed n m = map (tripleOf n) (numbers 0 m)
+abbrev pub firstTriples : ℕ → ℕ → List Triple
+firstTriples n m = map (tripleOf n) (numbers 0 m)
 
-listed-length : (n m : ℕ) → length (listed n m) ≡ m
+listed-length : (n m : ℕ) → length (firstTriples n m) ≡ m
 listed-length n m = length-map (numbers 0 m) (tripleOf n) ∙ numbers-length 0 m
 
-listed-at : (n m i : ℕ) → i < m → getD (listed n m) i noTriple ≡ tripleOf n i
+listed-at : (n m i : ℕ) → i < m → getD (firstTriples n m) i noTriple ≡ tripleOf n i
 listed-at n m i l =
     map-at (tripleOf n) (numbers 0 m) 0 noTriple i (omega (arith, numbers-length 0 m)) ∙ ap (tripleOf n) (number-at 0 m i l ∙ zero-add i)
 
-pub triples-listed : (n : ℕ) → 1 ≤ n → n ≤ 8 → triples n ≡ listed n (positionCount n)
+pub triples-listed : (n : ℕ) → 1 ≤ n → n ≤ 8 → triples n ≡ firstTriples n (positionCount n)
 triples-listed n some few =
-    ext-getD noTriple (triples n) (listed n (positionCount n)) (triple-count n ∙ sym (listed-length n (positionCount n)))
+    ext-getD noTriple (triples n) (firstTriples n (positionCount n)) (triple-count n ∙ sym (listed-length n (positionCount n)))
     (λ i l.
     triple-place n i noTriple l
     ∙ sym (triple-within n i some few)

@@ -26,7 +26,7 @@ use Rattle.floats.proofs.Whole.{zero-below}
 use Rattle.floats.proofs.Sums.{Term, AllTerms, Summed, summed-terms}
 use Rattle.floats.proofs.Quotients.{over-div}
 use Rattle.trio_family.specs.declared.pair.Pair.{Pair}
-use Rattle.trio_samples.specs.Samples.{inUse, clusters, named, expectation, expectationTotal, shareOf}
+use Rattle.trio_samples.specs.Samples.{upToEight, clusters, named, expectation, expectationTotal, clusterShare}
 use Rattle.trio_meanings.specs.Shares.{IsShare}
 
 -- ---- an expectation is 1, a half or a thousandth, so at least 2 ^ -10
@@ -66,23 +66,23 @@ at-most-one v p w =
 
 -- ---- the shares
 
-used-few : (n : ℕ) → inUse n ≤ 8
+used-few : (n : ℕ) → upToEight n ≤ 8
 used-few n = go (leb n 8) refl
   where
     go : (t : Bool) → leb n 8 ≡ t → cond t n 8 ≤ 8
     go true e = leb-true n 8 e
     go false e = lit≤ tt
 
-module _ (n : ℕ) (h : Pair) (c : ℕ) (used : c < inUse n) where
+module _ (n : ℕ) (h : Pair) (c : ℕ) (used : c < upToEight n) where
   abbrev terms : List Float
   terms = map (expectation h) (clusters n)
 
-  terms-length : length terms ≡ inUse n
-  terms-length = length-map (clusters n) (expectation h) ∙ numbers-length 0 (inUse n)
+  terms-length : length terms ≡ upToEight n
+  terms-length = length-map (clusters n) (expectation h) ∙ numbers-length 0 (upToEight n)
 
   total-sums : Summed 10 (lit≤ tt) 0 (nat 0) terms
   total-sums =
-      summed-terms 10 (lit≤ tt) terms (omega (arith, terms-length)) (all-expected h 0 (inUse n)) zero-not-below
+      summed-terms 10 (lit≤ tt) terms (omega (arith, terms-length)) (all-expected h 0 (upToEight n)) zero-not-below
       (within-whole (pos 0) 0 (lit≤ tt) (lit≤ tt)) (omega (arith, terms-length, used-few n))
 
   abbrev term : Float
@@ -102,12 +102,12 @@ module _ (n : ℕ) (h : Pair) (c : ℕ) (used : c < inUse n) where
   term-at-most : T (le term total)
   unfolding expectationTotal
   term-at-most =
-      let at = map-at (expectation h) (clusters n) 0 nan c (omega (arith, numbers-length 0 (inUse n))) in
-      let number = number-at 0 (inUse n) c used ∙ zero-add c in
+      let at = map-at (expectation h) (clusters n) 0 nan c (omega (arith, numbers-length 0 (upToEight n))) in
+      let number = number-at 0 (upToEight n) c used ∙ zero-add c in
       subst (λ (x : Float). T (le x total)) (at ∙ ap (expectation h) number) (total-sums .each c nan (omega (arith, terms-length)))
 
   -- any two numbers are a pair here, also such as name no cluster
-  pub share-is : IsShare (shareOf n h c)
+  pub share-is : IsShare (clusterShare n h c)
   share-is =
       let t = expected h c .above in
       let p = t .is-positive in

@@ -13,7 +13,7 @@ use Rattle.lists.proofs.PassingLaws.{passing-append}
 use Rattle.trio_family.specs.declared.pair.Pair.{Pair}
 use Rattle.trio_family.specs.Genotypes.{pair}
 use Rattle.lists.specs.Lists.{passing}
-use Rattle.trio_mendel.specs.Mendel.{samePair, among, distinct, pushed}
+use Rattle.trio_mendel.specs.Mendel.{samePair, among, distinct, withPair}
 
 -- the test tells equal pairs
 pub same-is : (p q : Pair) → samePair p q ≡ true → p ≡ q
@@ -53,16 +53,16 @@ module _ (q p : Pair) (d : List Pair) where
   by-cases false true b k = sym (ap (λ x. cond x (q ∷ rest) (q ∷ (rest ++ (p ∷ [])))) (k refl))
   by-cases false false b k = sym (ap (λ x. cond x (q ∷ rest) (q ∷ (rest ++ (p ∷ [])))) (k refl))
 
-  push : q ∷ withoutPair q (pushed d p) ≡ pushed (q ∷ rest) p
+  push : q ∷ withoutPair q (withPair d p) ≡ withPair (q ∷ rest) p
   push = ap (q ∷_) (without-pushed (among p d)) ∙ by-cases (samePair q p) (among p d) (among p rest) (among-without p q d)
 
-distinct-push : (l : List Pair) (p : Pair) → distinct (l ++ (p ∷ [])) ≡ pushed (distinct l) p
+distinct-push : (l : List Pair) (p : Pair) → distinct (l ++ (p ∷ [])) ≡ withPair (distinct l) p
 distinct-push [] p = refl
 distinct-push (q ∷ l) p = ap (λ d. q ∷ withoutPair q d) (distinct-push l p) ∙ push q p (distinct l)
 
-pub four-pushed : (a b c d : Pair) → pushed (pushed (pushed (a ∷ []) b) c) d ≡ distinct (a ∷ b ∷ c ∷ d ∷ [])
+pub four-pushed : (a b c d : Pair) → withPair (withPair (withPair (a ∷ []) b) c) d ≡ distinct (a ∷ b ∷ c ∷ d ∷ [])
 four-pushed a b c d =
-    sym (distinct-push (a ∷ b ∷ c ∷ []) d ∙ ap (λ l. pushed l d) (distinct-push (a ∷ b ∷ []) c ∙ ap (λ l. pushed l c) (distinct-push (a ∷ []) b)))
+    sym (distinct-push (a ∷ b ∷ c ∷ []) d ∙ ap (λ l. withPair l d) (distinct-push (a ∷ b ∷ []) c ∙ ap (λ l. withPair l c) (distinct-push (a ∷ []) b)))
 
 -- ---- looking for a pair among the first n of a list, from i on
 

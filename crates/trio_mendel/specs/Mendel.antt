@@ -41,9 +41,9 @@ mendelTerm c f m =
 -- ---- for the code
 
 -- the pairs of a `Possible`
-abbrev pub pairsOf : Possible → List Pair
-pairsOf s = take (s .count) (s .pairs)
+abbrev pub possiblePairs : Possible → List Pair
+possiblePairs s = take (s .count) (s .pairs)
 
 -- l with p at its end, unless it has it
-abbrev pub pushed : List Pair → Pair → List Pair
-pushed l p = cond (among p l) l (l ++ (p ∷ []))
+abbrev pub withPair : List Pair → Pair → List Pair
+withPair l p = cond (among p l) l (l ++ (p ∷ []))

@@ -2,7 +2,7 @@
 ghost use mathlib.Core.Path.{_≡_};
 ghost use Prim.Native.Nat.{suc, _≤_, _<_};
 ghost use lib.ListN.{length};
-ghost use Rattle.trio_mendel.specs.Mendel.{ordered, samePair, among, childPairs, mendelTerm, pairsOf, pushed};
+ghost use Rattle.trio_mendel.specs.Mendel.{ordered, samePair, among, childPairs, mendelTerm, possiblePairs, withPair};
 use kernels::ln::ln;
 use trio_family::pair::Pair;
 
@@ -33,7 +33,7 @@ fn sorted(a: u64, b: u64) -> Pair
 
 fn contains(s: Possible, p: Pair) -> bool
     requires { ⌜ s .count ≤ 4 ⌝ }
-    ensures { λ r. ⌜ r ≡ among p (pairsOf s) ⌝ }
+    ensures { λ r. ⌜ r ≡ among p (possiblePairs s) ⌝ }
 {
     let pairs = s.pairs;
     let n = s.count as usize;
@@ -50,7 +50,7 @@ fn contains(s: Possible, p: Pair) -> bool
 // `s` with `p` at its end, unless it has it.
 fn with_pair(s: Possible, p: Pair) -> Possible
     requires { ⌜ s .count < 4 ⌝ }
-    ensures { λ r. ⌜ pairsOf r ≡ pushed (pairsOf s) p ⌝ }
+    ensures { λ r. ⌜ possiblePairs r ≡ withPair (possiblePairs s) p ⌝ }
     ensures { λ r. ⌜ r .count ≤ suc (s .count) ⌝ }
 {
     if contains(s, p) {
@@ -67,7 +67,7 @@ fn with_pair(s: Possible, p: Pair) -> Possible
 
 // The different pairs that a child of these parents can have.
 fn child_pairs(father: Pair, mother: Pair) -> Possible
-    ensures { λ r. ⌜ pairsOf r ≡ childPairs father mother ⌝ }
+    ensures { λ r. ⌜ possiblePairs r ≡ childPairs father mother ⌝ }
     ensures { λ r. ⌜ r .count ≡ length (childPairs father mother) ⌝ }
     ensures { λ r. ⌜ r .count ≤ 4 ⌝ }
 {

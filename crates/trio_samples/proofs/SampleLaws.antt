@@ -15,12 +15,12 @@ use Rattle.trio_family.specs.declared.sample.Sample.{Sample}
 use Rattle.trio_family.specs.declared.sample.Sample.the-variants.{Child, Father, Mother}
 use Rattle.trio_family.specs.Numbers.{sampleNumber}
 use Rattle.lists.specs.Lists.{numbers}
-use Rattle.trio_samples.specs.Samples.{inUse, sum, reads, columnTotal, named, expectation, withLogs}
+use Rattle.trio_samples.specs.Samples.{upToEight, sum, reads, columnTotal, named, expectation, withLogs}
 
-pub in-use : (n : ℕ) → n ≤ 8 → inUse n ≡ n
+pub in-use : (n : ℕ) → n ≤ 8 → upToEight n ≡ n
 in-use n h = rw (le-leb n 8 h)
 
-pub in-use-few : (n : ℕ) → inUse n ≤ 8
+pub in-use-few : (n : ℕ) → upToEight n ≤ 8
 in-use-few n = go (leb n 8) refl
   where
     go : (t : Bool) → leb n 8 ≡ t → cond t n 8 ≤ 8
@@ -50,9 +50,9 @@ part-at-most f i (suc m) (suc d) h =
 pub count-in-column : (counts : List ℕ) (column m c : ℕ) → c < m → reads counts column c ≤ sum (map (reads counts column) (numbers 0 m))
 count-in-column counts column m c h = rw zero-add at (part-at-most (reads counts column) 0 m c h)
 
-pub count-at-most : (n : ℕ) (counts : List ℕ) (s : Sample) (c : ℕ) → c < inUse n → reads counts (sampleNumber s) c ≤ columnTotal n counts s
+pub count-at-most : (n : ℕ) (counts : List ℕ) (s : Sample) (c : ℕ) → c < upToEight n → reads counts (sampleNumber s) c ≤ columnTotal n counts s
 unfolding columnTotal
-count-at-most n counts s c h = count-in-column counts (sampleNumber s) (inUse n) c h
+count-at-most n counts s c h = count-in-column counts (sampleNumber s) (upToEight n) c h
 
 expectation-by : (h : Pair) (c : ℕ) (a b : Bool) → eqb c (h .low) ≡ a → eqb c (h .high) ≡ b → expectation h c ≡ cond (a && b) (nat 1) (cond (a || b) (decimal 5 1) (decimal 1 3))
 unfolding expectation

@@ -14,12 +14,12 @@ use Rattle.trio_family.specs.Numbers.{sampleNumber}
 use Rattle.trio_samples.specs.declared.samples.Share.{Share}
 
 -- L2: the smaller of n and 8, since there are eight places and no more
-abbrev pub inUse : ℕ → ℕ
-inUse n = cond (leb n 8) n 8
+abbrev pub upToEight : ℕ → ℕ
+upToEight n = cond (leb n 8) n 8
 
 -- the numbers of n clusters, from 0 on
 abbrev pub clusters : ℕ → List ℕ
-clusters n = numbers 0 (inUse n)
+clusters n = numbers 0 (upToEight n)
 
 -- the reads in cluster c of the animal of a column: each cluster has three counts
 abbrev pub reads : List ℕ → ℕ → ℕ → ℕ
@@ -57,13 +57,13 @@ unfoldable pub expectationTotal : ℕ → Pair → Float
 expectationTotal n h = sumFrom (nat 0) (map (expectation h) (clusters n))
 
 -- T2: the share of its reads that the animal should have in cluster c: its expectation, divided by the sum of all
-abbrev pub shareOf : ℕ → Pair → ℕ → Float
-shareOf n h c = expectation h c ⊘ expectationTotal n h
+abbrev pub clusterShare : ℕ → Pair → ℕ → Float
+clusterShare n h c = expectation h c ⊘ expectationTotal n h
 
 -- what cluster c adds: its bracket is summed first
 unfoldable pub clusterTerm : ℕ → List ℕ → List Float → Sample → Pair → ℕ → Float
 clusterTerm n counts weights s h c =
-    logBinomial (reads counts (sampleNumber s) c) (columnTotal n counts s) (shareOf n h c) ⊕ lnOf (getD weights c nan ⊕ decimal 1 3)
+    logBinomial (reads counts (sampleNumber s) c) (columnTotal n counts s) (clusterShare n h c) ⊕ lnOf (getD weights c nan ⊕ decimal 1 3)
 
 -- without reads minus infinity, else the sum over the clusters in order
 unfoldable pub sampleScore : ℕ → List ℕ → List Float → Sample → Pair → Float

@@ -5,7 +5,7 @@ ghost use mathlib.Core.List.{map};
 ghost use Prim.Native.Nat.{_^_, _≤_, _<_};
 ghost use Rattle.floats.specs.F64.{_⊘_, nat, sumFrom};
 ghost use Rattle.lists.specs.Lists.{numbers};
-ghost use Rattle.trio_samples.specs.Samples.{inUse, reads, sum, columnTotal, impossibleAt, logBinomial, named, expectation};
+ghost use Rattle.trio_samples.specs.Samples.{upToEight, reads, sum, columnTotal, impossibleAt, logBinomial, named, expectation};
 ghost use Rattle.trio_samples.specs.Samples.{sampleScore, withLogs};
 use kernels::ln::ln;
 use trio_family::pair::Pair;
@@ -14,7 +14,7 @@ use trio_family::sample::sample_number;
 
 // How many of n clusters have a place.
 fn in_use(n: u64) -> u64
-    ensures { λ r. ⌜ r ≡ inUse n ⌝ }
+    ensures { λ r. ⌜ r ≡ upToEight n ⌝ }
 {
     if n <= 8 {
         return n;

@@ -13,7 +13,7 @@ use Rattle.trio_entries.specs.declared.entry.Entry.{Entry}
 use Rattle.trio_entries.specs.Best.{In, Best, Ranks}
 use Rattle.floats.specs.Key.{keyOf}
 use Rattle.trio_entries.specs.Rank.{beatsOf}
-use Rattle.trio_search.specs.Work.{notBelow, onePass, entryAt, IsEntry, entriesFrom}
+use Rattle.trio_search.specs.Work.{takesPlace, onePass, entryAt, IsEntry, entriesFrom}
 use Rattle.trio_entries.proofs.BestLaws.{Fresh}
 use Rattle.trio_entries.proofs.KeptLaws.{OneEach, Fair, AllFair, kept-best}
 use Rattle.trio_entries.proofs.RankLaws.{ranks-apart, larger-beats, later-beats}
@@ -82,11 +82,11 @@ rising-one (e ∷ l) p r x y (inr i) (inl b) q = absurd (omega (arith, rising-ab
 rising-one (e ∷ l) p r x y (inr i) (inr j) q = rising-one l (suc (e .position)) (r .1) x y i j q
 
 -- a later entry replaces an earlier one with an equal key, and is better
-rising-fair : (l : List Entry) (p : ℕ) → Rising p l → AllFair notBelow l
+rising-fair : (l : List Entry) (p : ℕ) → Rising p l → AllFair takesPlace l
 rising-fair [] p r = tt
 rising-fair (e ∷ l) p r = (λ x i. fair x (rising-above l (suc (e .position)) (r .1) x i), rising-fair l (suc (e .position)) (r .1))
   where
-    fair : (x : Entry) → suc (e .position) ≤ x .position → Fair notBelow e x
+    fair : (x : Entry) → suc (e .position) ≤ x .position → Fair takesPlace e x
     fair x h = record {
       better = λ t. later-beats x e (not-true (ltZ (keyOf (x .score)) (keyOf (e .score))) t) h;
       no-better = λ t. inr (larger-beats e x (subst T (sym (not-false (ltZ (keyOf (x .score)) (keyOf (e .score))) t)) tt));
@@ -94,4 +94,4 @@ rising-fair (e ∷ l) p r = (λ x i. fair x (rising-above l (suc (e .position)) 
 
 -- one pass in rising order, where a later equal key replaces an earlier one, finds the best
 pub one-pass-best : (k p : ℕ) (l : List Entry) → Rising p l → Best beatsOf k (In l) (onePass k l)
-one-pass-best k p l r = kept-best notBelow k l (rising-one l p r) (rising-fair l p r)
+one-pass-best k p l r = kept-best takesPlace k l (rising-one l p r) (rising-fair l p r)

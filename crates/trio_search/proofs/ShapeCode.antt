@@ -7,7 +7,7 @@ use native.Mathlib.Nat.{lt-irrefl, lt-of-lt-of-le}
 use lib.Dec.{eqb}
 use Rattle.trio_entries.specs.declared.entry.Entry.{Entry}
 use Rattle.trio_entries.specs.declared.held.Held.{Held}
-use Rattle.trio_entries.specs.Held.{inUse, heldList}
+use Rattle.trio_entries.specs.Held.{entriesUsed, heldList}
 use Rattle.trio_search.specs.Marks.{isMarked}
 use Rattle.trio_entries.specs.Rank.{beatsOf}
 use Rattle.trio_search.specs.Shape.{unusedZero, scoredInMarked, listRight}
@@ -31,7 +31,7 @@ pub list-two : (rows marks : ℕ) (h : Held) (t : Bool) → h .count ≢ 0 → h
 list-two rows marks h t z o e = go (h .count) z o
   where
     go : (n : ℕ) → n ≢ 0 → n ≢ 1 → (t && (scoredInMarked rows marks (h .second) && (not (eqb (h .first .position) (h .second .position)) && beatsOf (h .first) (h .second))))
-        ≡ listRight rows marks (inUse n (h .first) (h .second))
+        ≡ listRight rows marks (entriesUsed n (h .first) (h .second))
     go zero a b = absurd (a refl)
     go (suc zero) a b = absurd (b refl)
     go (suc (suc n)) a b = rw e

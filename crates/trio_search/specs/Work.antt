@@ -17,12 +17,12 @@ use Rattle.floats.specs.Key.{keyOf}
 -- ---- one pass
 
 -- a larger key replaces the one kept so far, and so does a later equal one
-abbrev pub notBelow : Entry → Entry → Bool
-notBelow e b = not (ltZ (keyOf (e .score)) (keyOf (b .score)))
+abbrev pub takesPlace : Entry → Entry → Bool
+takesPlace e b = not (ltZ (keyOf (e .score)) (keyOf (b .score)))
 
 -- the best, which one pass keeps; then the runner-up, which a pass over the other positions keeps; and so on, k in all
 abbrev pub onePass : ℕ → List Entry → List Entry
-onePass k l = kept notBelow k l
+onePass k l = kept takesPlace k l
 
 -- ---- rows
 
@@ -60,8 +60,8 @@ module _ (width : ℕ) (score : ℕ → Float) where
   rowWork r = record { marks = 2 ^ r; held = onePass 2 (rowEntries r) }
 
   -- the entries in rows of w
-  abbrev pub Within : (ℕ → Bool) → Entry → Type 0
-  Within w e = IsEntry score e × T (w (e .position / width))
+  abbrev pub InRows : (ℕ → Bool) → Entry → Type 0
+  InRows w e = IsEntry score e × T (w (e .position / width))
 
 module _ (rows width : ℕ) (score : ℕ → Float) where
   abbrev pub allEntries : List Entry

@@ -7,7 +7,7 @@ use lib.Dec.{T}
 use lib.Ieee.{Float}
 use Rattle.trio_entries.specs.declared.entry.Entry.{Entry}
 use Rattle.trio_entries.specs.Rank.{beatsOf}
-use Rattle.trio_search.specs.Work.{IsEntry, Work, joined, Within}
+use Rattle.trio_search.specs.Work.{IsEntry, Work, joined, InRows}
 use Rattle.trio_entries.proofs.BestLaws.{best-ext, best-unique}
 use Rattle.trio_search.proofs.PassLaws.{ranks}
 use Rattle.trio_search_laws.specs.Sound.{Sound}
@@ -24,8 +24,8 @@ module _ {rows width : ℕ} {score : ℕ → Float} where
 
       held-same : v .held ≡ z .held
       held-same =
-          best-unique beatsOf (IsEntry score) (ranks score) 2 (Within width score u) (v .held) (z .held)
-          (best-ext beatsOf 2 (Within width score w) (Within width score u)
+          best-unique beatsOf (IsEntry score) (ranks score) 2 (InRows width score u) (v .held) (z .held)
+          (best-ext beatsOf 2 (InRows width score w) (InRows width score u)
           (λ x p. (p .0, subst T (same (x .position / width)) (p .1)))
           (λ x p. (p .0, subst T (sym (same (x .position / width))) (p .1)))
           (v .held) (s .held-best))

@@ -12,7 +12,7 @@ use lib.Ieee.{isNan}
 use Rattle.trio_entries.specs.declared.entry.Entry.{Entry}
 use Rattle.trio_entries.specs.declared.held.Held.{Held}
 use Rattle.trio_entries.specs.Best.{In}
-use Rattle.trio_entries.specs.Held.{inUse, heldOf, heldList}
+use Rattle.trio_entries.specs.Held.{entriesUsed, heldOf, heldList}
 use Rattle.trio_entries.specs.Merged.{holdsAt, mergedHeld, Both}
 use Rattle.trio_search.specs.Marks.{isMarked}
 use Rattle.trio_search.specs.Shape.{heldCount, inMarked, scoredInMarked, workRight}
@@ -27,12 +27,12 @@ use Rattle.trio_search_laws.proofs.ShapeLaws.{Shaped, right-shaped, mar
 -- ---- the entries in use
 
 -- the first place is in use where anything is held
-pub first-held : (n : ℕ) (f s : Entry) → 1 ≤ n → In (inUse n f s) f
+pub first-held : (n : ℕ) (f s : Entry) → 1 ≤ n → In (entriesUsed n f s) f
 first-held zero f s h = absurd (not-suc-le-zero h)
 first-held (suc zero) f s h = inl refl
 first-held (suc (suc n)) f s h = inl refl
 
-second-held : (n : ℕ) (f s : Entry) → 2 ≤ n → Ordered (inUse n f s) → In (inUse n f s) s × (f .position ≢ s .position)
+second-held : (n : ℕ) (f s : Entry) → 2 ≤ n → Ordered (entriesUsed n f s) → In (entriesUsed n f s) s × (f .position ≢ s .position)
 second-held zero f s h o = absurd (not-suc-le-zero h)
 second-held (suc zero) f s h o = absurd (not-suc-le-zero (le-of-suc-le-suc h))
 second-held (suc (suc n)) f s h o = (inr (inl refl), o .0)
@@ -56,7 +56,7 @@ module _ (rows m k : ℕ) (a b : Held) (s : Shaped rows m a) (t : Shaped rows k 
   -- ---- there are entries enough: those of the first, or where it has no mark those of the second
 
   none-held : m ≡ 0 → (p : ℕ) → holdsAt (heldList a) p ≡ false
-  none-held z p = ap (λ (n : ℕ). holdsAt (inUse n (a .first) (a .second)) p) (s .counted ∙ ap (heldCount rows) z ∙ held-none rows)
+  none-held z p = ap (λ (n : ℕ). holdsAt (entriesUsed n (a .first) (a .second)) p) (s .counted ∙ ap (heldCount rows) z ∙ held-none rows)
 
   second-marked : m ≡ 0 → bitOr m k ≢ 0 → k ≢ 0
   second-marked z n e = n (ap₂ bitOr z e)

@@ -20,7 +20,7 @@ use Rattle.trio_entries.specs.Held.{heldList}
 use Rattle.trio_search.specs.Marks.{isMarked, fullMarks}
 use Rattle.trio_entries.specs.Rank.{beatsOf}
 use Rattle.trio_search.specs.Shape.{inMarked, workRight}
-use Rattle.trio_search.specs.Work.{onePass, IsEntry, Work, joined, rowWork, allEntries, wholeWork, Within}
+use Rattle.trio_search.specs.Work.{onePass, IsEntry, Work, joined, rowWork, allEntries, wholeWork, InRows}
 use Rattle.trio_search.proofs.MarksLaws.{unmarked-above}
 use Rattle.trio_entries.proofs.BestLaws.{best-ext}
 use Rattle.lists.specs.Lists.{numbers}
@@ -58,19 +58,19 @@ module _ (width : ℕ) (score : ℕ → Float) where
   -- ---- what is held is the best two of what was held and the rows worked
 
   -- an entry in a row of the list
-  abbrev InRows : List ℕ → Entry → Type 0
-  InRows l x = IsEntry score x × In l (x .position / width)
+  abbrev InRowsListed : List ℕ → Entry → Type 0
+  InRowsListed l x = IsEntry score x × In l (x .position / width)
 
   worked-best : 0 < width → (l : List ℕ) (S : Entry → Type 0) (v : Work) → ((x : Entry) → S x → IsEntry score x) → Best beatsOf 2 S (v .held)
-      → Best beatsOf 2 (Or S (InRows l)) (workedAll width score l v .held)
-  worked-best some [] S v g b = best-ext beatsOf 2 S (Or S (InRows [])) (λ x s. inl s) (λ x. ⊎-elim (λ s. s) (λ p. absurd (p .1))) (v .held) b
+      → Best beatsOf 2 (Or S (InRowsListed l)) (workedAll width score l v .held)
+  worked-best some [] S v g b = best-ext beatsOf 2 S (Or S (InRowsListed [])) (λ x s. inl s) (λ x. ⊎-elim (λ s. s) (λ p. absurd (p .1))) (v .held) b
   worked-best some (r ∷ l) S v g b =
-      best-ext beatsOf 2 (Or (Or S (Within width score (eqb r))) (InRows l)) (Or S (InRows (r ∷ l)))
+      best-ext beatsOf 2 (Or (Or S (InRows width score (eqb r))) (InRowsListed l)) (Or S (InRowsListed (r ∷ l)))
       (λ x. ⊎-elim (⊎-elim (λ s. inl s) (λ p. inr (p .0, inl (sym (eqb→eq r (x .position / width) (p .1)))))) (λ p. inr (p .0, inr (p .1))))
       (λ x. ⊎-elim (λ s. inl (inl s)) (λ p. ⊎-elim (λ e. inl (inr (p .0, subst (λ (s : ℕ). T (eqb r s)) (sym e) (eqb-refl r)))) (λ i. inr (p .0, i)) (p .1)))
       (workedAll width score (r ∷ l) v .held)
-      (worked-best some l (Or S (Within width score (eqb r))) (joined v (rowWork width score r)) (λ x. ⊎-elim (g x) (λ p. p .0))
-      (merged-best score S (Within width score (eqb r)) (v .held) (rowWork width score r .held) g (λ x p. p .0) b (row-best width score some r)))
+      (worked-best some l (Or S (InRows width score (eqb r))) (joined v (rowWork width score r)) (λ x. ⊎-elim (g x) (λ p. p .0))
+      (merged-best score S (InRows width score (eqb r)) (v .held) (rowWork width score r .held) g (λ x p. p .0) b (row-best width score some r)))
 
 -- ---- so once every row has been worked nothing else is left
 
@@ -109,7 +109,7 @@ module _ (rows : ℕ) (score : ℕ → Float) (marks : ℕ) (h : Held) (right : 
       best : workedAll (rows * rows) score l start .held ≡ onePass 2 (allEntries rows (rows * rows) score)
       best =
           best-all rows (rows * rows) score (mul-pos (shaped .some) (shaped .some)) (workedAll (rows * rows) score l start .held)
-          (best-ext beatsOf 2 (Or (In (heldList h)) (InRows (rows * rows) score l)) (Within (rows * rows) score (λ r. ltb r rows))
+          (best-ext beatsOf 2 (Or (In (heldList h)) (InRowsListed (rows * rows) score l)) (InRows (rows * rows) score (λ r. ltb r rows))
           (λ x. ⊎-elim (λ i. (true-scores x i, lt→ltb _ rows (held-row x i))) (λ p. (p .0, lt→ltb _ rows (c .none-past _ (p .1)))))
           (λ x p. inr (p .0, c .every _ (ltb→lt _ rows (p .1))))
           (workedAll (rows * rows) score l start .held)

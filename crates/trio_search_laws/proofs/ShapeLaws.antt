@@ -17,11 +17,11 @@ use lib.Pow.{pow-mono}
 use Rattle.trio_entries.specs.declared.entry.Entry.{Entry}
 use Rattle.trio_entries.specs.declared.held.Held.{Held}
 use Rattle.trio_entries.specs.Best.{In, Best}
-use Rattle.trio_entries.specs.Held.{inUse, heldOf, heldList}
+use Rattle.trio_entries.specs.Held.{entriesUsed, heldOf, heldList}
 use Rattle.trio_search.specs.Marks.{isMarked, fullMarks}
 use Rattle.trio_entries.specs.Rank.{beatsOf}
 use Rattle.trio_search.specs.Shape.{isNoEntry, unusedZero, heldCount, inMarked, scoredInMarked, listRight, workRight}
-use Rattle.trio_search.specs.Work.{entryAt, Work, Within}
+use Rattle.trio_search.specs.Work.{entryAt, Work, InRows}
 use Rattle.trio_search.proofs.CountLaws.{held-none, held-one, held-two}
 use Rattle.trio_search.proofs.MarksLaws.{marked-none, some-marked, unmarked-above}
 use Rattle.trio_search_laws.specs.Ordered.{Ordered}
@@ -37,7 +37,7 @@ pub record Shaped (rows marks : ℕ) (h : Held) : Type 0 where
   pub ordered : Ordered (heldList h)
   pub scored : (e : Entry) → In (heldList h) e → scoredInMarked rows marks e ≡ true
 
-right-list : (rows marks n : ℕ) (f s : Entry) → listRight rows marks (inUse n f s) ≡ true → Ordered (inUse n f s) × ((e : Entry) → In (inUse n f s) e → scoredInMarked rows marks e ≡ true)
+right-list : (rows marks n : ℕ) (f s : Entry) → listRight rows marks (entriesUsed n f s) ≡ true → Ordered (entriesUsed n f s) × ((e : Entry) → In (entriesUsed n f s) e → scoredInMarked rows marks e ≡ true)
 right-list rows marks zero f s r = (tt, λ e i. absurd i)
 right-list rows marks (suc zero) f s r = (tt, λ e. ⊎-elim (λ d. subst (λ (x : Entry). scoredInMarked rows marks x ≡ true) (sym d) r) absurd)
 right-list rows marks (suc (suc n)) f s r =
@@ -171,12 +171,12 @@ module _ {rows : ℕ} {score : ℕ → Float} (solid : (p : ℕ) → isNan (scor
   abbrev at : ℕ → ℕ → Entry
   at r i = entryAt score (r * (rows * rows) + i)
 
-  marked-within : (r i : ℕ) → i < rows * rows → isMarked (v .marks) r ≡ true → Within (rows * rows) score w (at r i)
+  marked-within : (r i : ℕ) → i < rows * rows → isMarked (v .marks) r ≡ true → InRows (rows * rows) score w (at r i)
   marked-within r i h m =
       let q : (r * (rows * rows) + i) / (rows * rows) ≡ r = digits-div r h in
       (refl, subst (λ (x : ℕ). T (w x)) (sym q) (subst T (sym m ∙ s .marks-are r) tt))
 
-  within-fills : Fills rows (v .marks) (Within (rows * rows) score w)
+  within-fills : Fills rows (v .marks) (InRows (rows * rows) score w)
   within-fills =
       record {
         scored = λ e p. and-intro (ap (λ (x : Entry). not (isNan (x .score))) (p .0) ∙ ap not (solid (e .position)))

@@ -7,7 +7,7 @@ use lib.Ieee.{Float}
 use Rattle.trio_entries.specs.Best.{In, Best}
 use Rattle.trio_search.specs.Marks.{isMarked}
 use Rattle.trio_entries.specs.Rank.{beatsOf}
-use Rattle.trio_search.specs.Work.{Work, joined, rowWork, Within}
+use Rattle.trio_search.specs.Work.{Work, joined, rowWork, InRows}
 
 -- every row stands in the list, in any order and any number of times, and nothing else does
 pub record Covers (rows : ℕ) (l : List ℕ) : Type 0 where
@@ -25,4 +25,4 @@ module _ (rows width : ℕ) (score : ℕ → Float) where
   pub record Sound (w : ℕ → Bool) (v : Work) : Type 0 where
     pub marks-are : (r : ℕ) → isMarked (v .marks) r ≡ w r
     pub marks-below : v .marks < 2 ^ rows
-    pub held-best : Best beatsOf 2 (Within width score w) (v .held)
+    pub held-best : Best beatsOf 2 (InRows width score w) (v .held)

@@ -2,7 +2,7 @@
 use mathlib.Core.Path.{ap, _∙_}
 use borrow.Author.Needs.{needs}
 use Rattle.refusals.specs.Refusals.{numberOf}
-use Rattle.mosaic.specs.Genotype.{genotypeOf}
+use Rattle.mosaic.specs.Genotype.{mosaicOf}
 use Rattle.mosaic_params.specs.declared.params.Params.{Params}
 use Rattle.mosaic.specs.declared.genotype.MosaicResult.{MosaicResult}
 use Rattle.mosaic_c.proofs.admulfas_mosaic.Statement.{statement}
@@ -20,7 +20,7 @@ refusal-number-requires c κs = search needs
 returns : tie.Need-returns
 returns c =
     let k = c .before .before .before .before .before .before in
-    let h = k .genotype .ensures ∙ ap (λ (p : Params). genotypeOf p (k .before .before .before .args .counts .now)) (k .before .params-of .ensures) in
+    let h = k .genotype .ensures ∙ ap (λ (p : Params). mosaicOf p (k .before .before .before .args .counts .now)) (k .before .params-of .ensures) in
     record {
       refusal-is = c .refusal-number .ensures ∙ ap (λ (r : MosaicResult). numberOf (r .refusal)) h;
       ploidy-is = ap (λ (r : MosaicResult). r .ploidy) h;

@@ -6,7 +6,7 @@ use lib.Signed.{leZ}
 use borrow.Author.Needs.{needs}
 use Rattle.floats.specs.Key.{keyOf}
 use Rattle.diploid_qualities.specs.declared.scores.Scores.{Scores}
-use Rattle.diploid.specs.Genotype.{winner}
+use Rattle.diploid.specs.Genotype.{winningState}
 use Rattle.diploid.proofs.genotype.best_state.Statement.{statement}
 use Rattle.diploid.proofs.genotype.best_state.Tie as tie
 
@@ -17,7 +17,7 @@ at-most-requires-2 : tie.Need-at-most-requires-2
 at-most-requires-2 c κs = search needs
 
 returns : tie.Need-returns
-unfolding winner
+unfolding winningState
 returns c = rw (sym (c .before .before .before .at-most .ensures) ∙ c .before .before .if1 .taken, sym (c .before .at-most2 .ensures) ∙ c .if2 .taken)
 
 -- past the first test Hom has lost to one of the two
@@ -32,11 +32,11 @@ at-most-requires-3 : tie.Need-at-most-requires-3
 at-most-requires-3 c κs = search needs
 
 returns-2 : tie.Need-returns-2
-unfolding winner
+unfolding winningState
 returns-2 c = rw (hom-lost (c .before .before), sym (c .before .at-most3 .ensures) ∙ c .if3 .taken)
 
 returns-3 : tie.Need-returns-3
-unfolding winner
+unfolding winningState
 returns-3 c = rw (hom-lost (c .before .before), sym (c .before .at-most3 .ensures) ∙ c .if3 .left)
 
 pub best-state-spec : {M : Type 1} → statement M

@@ -1,7 +1,7 @@
 -- `diploid_qualities::quality::whole` meets its contract: each call gives what the definition names. Assumes nothing.
 use borrow.Author.Needs.{needs}
 use Rattle.kernels_tens.specs.Normalised.{wholeOver}
-use Rattle.diploid_qualities.specs.Quality.{wholeOf}
+use Rattle.diploid_qualities.specs.Quality.{wholeOfThree}
 use Rattle.diploid_qualities.proofs.quality.whole.Statement.{statement}
 use Rattle.diploid_qualities.proofs.quality.whole.Tie as tie
 
@@ -24,7 +24,7 @@ log10-requires : tie.Need-log10-requires
 log10-requires c κs = search needs
 
 returns : tie.Need-returns
-unfolding wholeOf wholeOver
+unfolding wholeOfThree wholeOver
 returns c =
     let third = c .before in
     let second = third .before .before in

@@ -4,7 +4,7 @@ use borrow.Author.Tests.{lt-ltb, le-ltb, eq-eqb, ne-eqb}
 use Rattle.mosaic_alleles.specs.Alleles.{totalOf}
 use Rattle.mosaic_alleles.proofs.CountLaws.{total-allowed}
 use Rattle.mosaic_hypotheses.specs.Choice.{choiceOf}
-use Rattle.mosaic.specs.Genotype.{calledOf}
+use Rattle.mosaic.specs.Genotype.{mosaicCalled}
 use borrow.Author.Needs.{needs}
 use Rattle.mosaic.proofs.genotype.call.Statement.{statement}
 use Rattle.mosaic.proofs.genotype.call.Tie as tie
@@ -39,7 +39,7 @@ answer-requires : tie.Need-answer-requires
 answer-requires c κs = search needs
 
 returns-3 : tie.Need-returns-3
-unfolding calledOf choiceOf
+unfolding mosaicCalled choiceOf
 returns-3 c =
     let w = c .before .before .before .before .before in
     let a = w .before .before in

@@ -2,7 +2,7 @@
 use mathlib.Core.Path.{_≡_, refl, ap, _∙_}
 use Prim.Native.Nat.{_≤_, _-_}
 use lib.ListN.{length}
-use Rattle.mosaic_candidates.specs.Kept.{likelihoodBy, likelihoodByOver}
+use Rattle.mosaic_candidates.specs.Progress.{likelihoodBy, likelihoodByOver}
 use borrow.Author.Needs.{needs}
 use native.Mathlib.Omega.{arith}
 use native.Mathlib.Numerals.{add-one}

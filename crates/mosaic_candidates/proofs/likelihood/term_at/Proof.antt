@@ -1,5 +1,5 @@
 -- `mosaic_candidates::likelihood::term_at` meets its contract. Assumes nothing.
-use Rattle.mosaic_candidates.specs.Kept.{termAt}
+use Rattle.mosaic_candidates.specs.Progress.{termAt}
 use borrow.Author.Needs.{needs}
 use Rattle.mosaic_candidates.proofs.likelihood.term_at.Statement.{statement}
 use Rattle.mosaic_candidates.proofs.likelihood.term_at.Tie as tie

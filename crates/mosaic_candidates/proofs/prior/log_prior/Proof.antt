@@ -3,7 +3,7 @@ use mathlib.Core.Path.{_≡_, refl}
 use Prim.Native.Nat.{_≤_, _-_}
 use lib.ListN.{length}
 use lib.Ieee.{ofInt, ofBits}
-use Rattle.mosaic_candidates.specs.Kept.{priorBy, priorByOver}
+use Rattle.mosaic_candidates.specs.Progress.{priorBy, priorByOver}
 use borrow.Author.Needs.{needs}
 use native.Mathlib.Omega.{arith}
 use native.Mathlib.Numerals.{add-one}

@@ -1,7 +1,7 @@
 -- `mosaic_candidates::search::attempt` meets its contract: its steps are the definition's. Assumes nothing.
 use mathlib.Core.Path.{_≡_}
 use Rattle.floats.specs.F64.{_⊕_}
-use Rattle.mosaic_candidates.specs.Kept.{changed, attempted}
+use Rattle.mosaic_candidates.specs.Progress.{progressWith, progressTried}
 use borrow.Author.Needs.{needs}
 use Rattle.mosaic_candidates.proofs.search.attempt.Statement.{statement}
 use Rattle.mosaic_candidates.proofs.search.attempt.Tie as tie
@@ -49,20 +49,20 @@ below-requires : tie.Need-below-requires
 below-requires c κs = search needs
 
 returns : tie.Need-returns
-unfolding attempted
+unfolding progressTried
 returns c =
     let w = c .before .before in
     let a = w .before .before .before .before .before .before .before .before .before .before .before .args in
-    let e : w .before .likelihood-here .result ⊕ w .prior-here .result ≡ changed (a .counts .now) (a .g) (a .site) (a .kept) (a .i) (a .x) .value =
+    let e : w .before .likelihood-here .result ⊕ w .prior-here .result ≡ progressWith (a .counts .now) (a .g) (a .shared) (a .kept) (a .i) (a .x) .value =
     rw (w .prior-here .ensures, w .before .likelihood-here .ensures, w .before .before .gain .ensures, w .before .before .before .ln .ensures) in
     rw (← e, ← c .before .below .ensures, c .if1 .taken, w .before .before .gain .ensures, w .before .before .before .ln .ensures)
 
 returns-2 : tie.Need-returns-2
-unfolding attempted
+unfolding progressTried
 returns-2 c =
     let w = c .before .before in
     let a = w .before .before .before .before .before .before .before .before .before .before .before .args in
-    let e : w .before .likelihood-here .result ⊕ w .prior-here .result ≡ changed (a .counts .now) (a .g) (a .site) (a .kept) (a .i) (a .x) .value =
+    let e : w .before .likelihood-here .result ⊕ w .prior-here .result ≡ progressWith (a .counts .now) (a .g) (a .shared) (a .kept) (a .i) (a .x) .value =
     rw (w .prior-here .ensures, w .before .likelihood-here .ensures, w .before .before .gain .ensures, w .before .before .before .ln .ensures) in
     rw (← e, ← c .before .below .ensures, c .if1 .left)
 

@@ -1,6 +1,6 @@
 -- `mosaic_candidates::search::attempt_step` meets its contract. Assumes nothing.
 use lib.Ieee.{round, ofInt, ofBits}
-use Rattle.mosaic_candidates.specs.Kept.{stepTried}
+use Rattle.mosaic_candidates.specs.Progress.{progressStep}
 use borrow.Author.Needs.{needs}
 use Rattle.mosaic_candidates.proofs.search.attempt_step.Statement.{statement}
 use Rattle.mosaic_candidates.proofs.search.attempt_step.Tie as tie
@@ -12,11 +12,11 @@ attempt-requires : tie.Need-attempt-requires
 attempt-requires c κs = search needs
 
 returns : tie.Need-returns
-unfolding stepTried round ofInt ofBits
+unfolding progressStep round ofInt ofBits
 returns c = rw (c .before .if1 .taken) (c .attempt .ensures)
 
 returns-2 : tie.Need-returns-2
-unfolding stepTried round ofInt ofBits
+unfolding progressStep round ofInt ofBits
 returns-2 c = rw (c .if1 .left)
 
 pub attempt-step-spec : {M : Type 1} → statement M

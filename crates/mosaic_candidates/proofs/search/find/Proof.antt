@@ -2,20 +2,20 @@
 use lib.Ieee.{ofInt, ofBits}
 use lib.ListN.{length}
 use borrow.Author.Tests.{le-leb, lt-leb}
-use Rattle.mosaic_candidates.specs.Kept.{foundAt}
+use Rattle.mosaic_candidates.specs.Progress.{foundOfEight}
 use borrow.Author.Needs.{needs}
 use Rattle.mosaic_candidates.proofs.search.find.Statement.{statement}
 use Rattle.mosaic_candidates.proofs.search.find.Tie as tie
 
 returns : tie.Need-returns
-unfolding foundAt ofInt ofBits
+unfolding foundOfEight ofInt ofBits
 returns c = rw (lt-leb (length (c .before .before .args .counts .now)) 8 (c .if1 .taken))
 
 search-all-requires : tie.Need-search-all-requires
 search-all-requires c κs = search needs
 
 returns-2 : tie.Need-returns-2
-unfolding foundAt
+unfolding foundOfEight
 returns-2 c = rw (le-leb (length (c .before .before .before .args .counts .now)) 8 (c .before .if1 .left)) (c .search-all .ensures)
 
 pub find-spec : {M : Type 1} → statement M

@@ -1,5 +1,5 @@
 -- `mosaic_candidates::search::offer_allele` meets its contract. Assumes nothing.
-use Rattle.mosaic_candidates.specs.Kept.{offered}
+use Rattle.mosaic_candidates.specs.Progress.{progressOffered}
 use borrow.Author.Needs.{needs}
 use Rattle.mosaic_candidates.proofs.search.offer_allele.Statement.{statement}
 use Rattle.mosaic_candidates.proofs.search.offer_allele.Tie as tie
@@ -11,11 +11,11 @@ search-allele-requires : tie.Need-search-allele-requires
 search-allele-requires c κs = search needs
 
 returns : tie.Need-returns
-unfolding offered
+unfolding progressOffered
 returns c = rw (← c .before .before .somatic .ensures, c .before .if1 .taken) (c .search-allele .ensures)
 
 returns-2 : tie.Need-returns-2
-unfolding offered
+unfolding progressOffered
 returns-2 c = rw (← c .before .somatic .ensures, c .if1 .left)
 
 pub offer-allele-spec : {M : Type 1} → statement M

@@ -1,5 +1,5 @@
 -- `mosaic_candidates::search::search_all` meets its contract: its steps are the definition's. Assumes nothing.
-use Rattle.mosaic_candidates.specs.Kept.{foundBy}
+use Rattle.mosaic_candidates.specs.Progress.{progressFound}
 use borrow.Author.Needs.{needs}
 use Rattle.mosaic_candidates.proofs.search.search_all.Statement.{statement}
 use Rattle.mosaic_candidates.proofs.search.search_all.Tie as tie
@@ -14,7 +14,7 @@ prior-here-requires : tie.Need-prior-here-requires
 prior-here-requires c κs = search needs
 
 returns : tie.Need-returns
-unfolding foundBy
+unfolding progressFound
 returns c = rw (c .before .prior-here .ensures, c .before .before .before .before .search-vafs .ensures, c .before .before .before .before .before .start .ensures)
 
 pub search-all-spec : {M : Type 1} → statement M

@@ -2,7 +2,7 @@
 use mathlib.Core.Path.{_≡_, refl}
 use Prim.Native.Nat.{_≤_, _-_}
 use Rattle.lists.specs.Over.{over}
-use Rattle.mosaic_candidates.specs.Kept.{stepTried, alleleSearched}
+use Rattle.mosaic_candidates.specs.Progress.{progressStep, progressAllele}
 use borrow.Author.Needs.{needs}
 use native.Mathlib.Omega.{arith}
 use native.Mathlib.Numerals.{add-one}
@@ -10,10 +10,10 @@ use Rattle.mosaic_candidates.proofs.search.search_allele.Statement.{sta
 use Rattle.mosaic_candidates.proofs.search.search_allele.Tie as tie
 
 abbrev Inv-loop : tie.InvT-loop
-Inv-loop counts g site i observed best₀ step₀ best step = (step ≤ 21) × (best ≡ over (stepTried counts g site i) best₀ step)
+Inv-loop counts g shared i observed best₀ step₀ best step = (step ≤ 21) × (best ≡ over (progressStep counts g shared i) best₀ step)
 
 abbrev μ-loop : tie.MeasureT-loop
-μ-loop counts g site i observed best₀ step₀ best step = 21 - step
+μ-loop counts g shared i observed best₀ step₀ best step = 21 - step
 
 mul-observed : tie.Need-mul-observed Inv-loop μ-loop
 mul-observed c = search needs
@@ -43,7 +43,7 @@ loop-again : tie.Need-loop-again Inv-loop μ-loop
 loop-again c = (search needs, rw (add-one, c .attempt-step .ensures, c .before .before .loop .inv .1))
 
 returns : tie.Need-returns Inv-loop μ-loop
-unfolding alleleSearched
+unfolding progressAllele
 returns c = let e : c .before .loop .step ≡ 21 = omega arith in rw (c .before .loop .inv .1, e, c .before .before .attempt .ensures)
 
 pub search-allele-spec : {M : Type 1} → statement M

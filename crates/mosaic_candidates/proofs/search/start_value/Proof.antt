@@ -1,6 +1,6 @@
 -- `mosaic_candidates::search::start_value` meets its contract. Assumes nothing.
 use lib.Ieee.{neg, div, round, ofInt, ofBits}
-use Rattle.mosaic_candidates.specs.Kept.{startValue}
+use Rattle.mosaic_candidates.specs.Progress.{startValue}
 use borrow.Author.Needs.{needs}
 use Rattle.mosaic_candidates.proofs.search.start_value.Statement.{statement}
 use Rattle.mosaic_candidates.proofs.search.start_value.Tie as tie

@@ -1,6 +1,6 @@
 -- `mosaic_hypotheses::choice::choose_at` meets its contract: its steps are the definition's. Assumes nothing.
 use Prim.Native.Nat.{_≤_}
-use Rattle.mosaic_probabilities.specs.Quality.{inUse}
+use Rattle.mosaic_probabilities.specs.Quality.{upToThirtySix}
 use Rattle.mosaic_probabilities.proofs.InUse.{in-use-low}
 use Rattle.mosaic_probabilities.proofs.WinnerLaws.{winner-low}
 use Rattle.mosaic_hypotheses.specs.Inner.{chosenBy}
@@ -18,13 +18,13 @@ best-place-requires c κs = search needs
 mul-pair : tie.Need-mul-pair
 mul-pair c =
     let scan = c .before .before .before .scan-all .result in
-    let b : c .best-place .result ≤ 35 = rw (c .best-place .ensures) (winner-low (scan .posteriors) (inUse (scan .count)) 35 (in-use-low (scan .count))) in
+    let b : c .best-place .result ≤ 35 = rw (c .best-place .ensures) (winner-low (scan .posteriors) (upToThirtySix (scan .count)) 35 (in-use-low (scan .count))) in
     omega arith
 
 array-copy-out-pair : tie.Need-array-copy-out-pair
 array-copy-out-pair c =
     let scan = c .before .before .before .scan-all .result in
-    let b : c .best-place .result ≤ 35 = rw (c .best-place .ensures) (winner-low (scan .posteriors) (inUse (scan .count)) 35 (in-use-low (scan .count))) in
+    let b : c .best-place .result ≤ 35 = rw (c .best-place .ensures) (winner-low (scan .posteriors) (upToThirtySix (scan .count)) 35 (in-use-low (scan .count))) in
     omega arith
 
 find-requires : tie.Need-find-requires

@@ -5,7 +5,7 @@ use mathlib.Core.Logic.{⊎-elim}
 use Prim.Native.Nat.{ℕ, _+_, _-_, _≤_}
 use lib.ListN.{getD}
 use lib.Ieee.{ofInt, ofBits}
-use Rattle.mosaic_alleles.specs.Alleles.{pair}
+use Rattle.mosaic_alleles.specs.Alleles.{twoAlleles}
 use Rattle.mosaic_hypotheses.specs.Hypotheses.{allPairs}
 use Rattle.mosaic_hypotheses.specs.Inner.{scanStep, scanOver, scannedBy}
 use Rattle.mosaic_hypotheses.proofs.PairTable.{pair-table}
@@ -17,11 +17,11 @@ use Rattle.mosaic_hypotheses.proofs.scan.scan_all.Statement.{statement}
 use Rattle.mosaic_hypotheses.proofs.scan.scan_all.Tie as tie
 
 abbrev Inv-loop : tie.InvT-loop
-Inv-loop counts site firsts seconds scan₀ t₀ scan t =
-    (t ≤ 36) × (scan .count ≤ t) × (scan ≡ scanOver counts site t) × ((i : ℕ) → pair (getD firsts i 0) (getD seconds i 0) ≡ getD allPairs i (pair 0 0))
+Inv-loop counts shared firsts seconds scan₀ t₀ scan t =
+    (t ≤ 36) × (scan .count ≤ t) × (scan ≡ scanOver counts shared t) × ((i : ℕ) → twoAlleles (getD firsts i 0) (getD seconds i 0) ≡ getD allPairs i (twoAlleles 0 0))
 
 abbrev μ-loop : tie.MeasureT-loop
-μ-loop counts site firsts seconds scan₀ t₀ scan t = 36 - t
+μ-loop counts shared firsts seconds scan₀ t₀ scan t = 36 - t
 
 loop-holds : tie.Need-loop-holds Inv-loop μ-loop
 unfolding ofInt ofBits
@@ -59,14 +59,14 @@ unfolding scanStep
 loop-again c =
     let loop = c .before .before .before .loop in
     let a = c .before .before .before .before .before .args in
-    let e : c .if1 .scan ≡ scanOver (a .counts .now) (a .site) (loop .t + 1) =
+    let e : c .if1 .scan ≡ scanOver (a .counts .now) (a .shared) (loop .t + 1) =
     rw (add-one, ← loop .inv .2, ← loop .inv .3 (loop .t), ← c .before .both-seen .ensures)
     (⊎-elim (λ w. rw (w .0 .taken, ← w .1 .ensures) (w .3 ∙ w .2 .ensures)) (λ w. rw (w .0 .left) (w .1)) (c .if1 .came)) in
-    (search needs, rw e (scanned-low (a .counts .now) (a .site) (loop .t + 1) (search needs)), e, loop .inv .3)
+    (search needs, rw e (scanned-low (a .counts .now) (a .shared) (loop .t + 1) (search needs)), e, loop .inv .3)
 
 returns : tie.Need-returns Inv-loop μ-loop
 unfolding scannedBy
-returns c = let a = c .before .before .before .args in let e : c .before .loop .t ≡ 36 = omega arith in c .before .loop .inv .2 ∙ ap (scanOver (a .counts .now) (a .site)) e
+returns c = let a = c .before .before .before .args in let e : c .before .loop .t ≡ 36 = omega arith in c .before .loop .inv .2 ∙ ap (scanOver (a .counts .now) (a .shared)) e
 
 pub scan-all-spec : {M : Type 1} → statement M
 scan-all-spec =

@@ -10,7 +10,7 @@ use Rattle.kernels_tens.specs.Normalised.{normalisedOver}
 use Rattle.floats.specs.MaxMin.{larger, smaller}
 use Rattle.lists.specs.Lists.{padded}
 use Rattle.mosaic_probabilities.specs.Inner.{probabilityOf}
-use Rattle.mosaic_probabilities.specs.Quality.{inUse, tensOf, probabilities}
+use Rattle.mosaic_probabilities.specs.Quality.{upToThirtySix, tensOf, probabilities}
 use Rattle.mosaic_probabilities.proofs.InUse.{in-use-low}
 use Rattle.mosaic_probabilities.proofs.Normal.{places-next, in-places}
 use borrow.Author.Needs.{needs}
@@ -32,7 +32,7 @@ returns : tie.Need-returns Inv-loop μ-loop
 unfolding probabilities ofInt ofBits
 returns c =
     let a = c .before .before .args in
-    let none : 0 ≡ inUse (a .n) = sym (c .if1 .taken) ∙ c .before .in-use .ensures in
+    let none : 0 ≡ upToThirtySix (a .n) = sym (c .if1 .taken) ∙ c .before .in-use .ensures in
     ap (λ (k : ℕ). padded 36 (nat 0) (map pow10Of (normalisedOver larger smaller (tensOf (a .t1) k)))) none
 
 whole-requires : tie.Need-whole-requires Inv-loop μ-loop
@@ -84,7 +84,7 @@ returns-2 c =
     let start = c .before .before .before .before in
     let a = start .before .args in
     let len : length (a .t1) ≡ 36 = search needs in
-    let all : c .before .loop .i ≡ inUse (a .n) = omega arith in
+    let all : c .before .loop .i ≡ upToThirtySix (a .n) = omega arith in
     rw (c .before .loop .inv .2, all, c .before .before .whole .ensures, start .in-use .ensures)
     (sym (in-places larger smaller (a .t1) len (a .n)))
 

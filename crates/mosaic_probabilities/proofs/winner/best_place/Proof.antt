@@ -2,7 +2,7 @@
 use mathlib.Core.Path.{_≡_, refl, ap, _∙_}
 use Prim.Native.Nat.{_≤_, _-_}
 use mathlib.Core.Logic.{⊎-elim}
-use Rattle.mosaic_probabilities.specs.Winner.{winner}
+use Rattle.mosaic_probabilities.specs.Winner.{winningPlace}
 use Rattle.mosaic_probabilities.proofs.InUse.{in-use-low}
 use Rattle.mosaic_probabilities.proofs.WinnerLaws.{winner-low}
 use borrow.Author.Needs.{needs}
@@ -12,7 +12,7 @@ use Rattle.mosaic_probabilities.proofs.winner.best_place.Statement.{sta
 use Rattle.mosaic_probabilities.proofs.winner.best_place.Tie as tie
 
 abbrev Inv-loop : tie.InvT-loop
-Inv-loop n posteriors count best₀ i₀ best i = (i ≤ count) × (count ≤ 36) × (best ≡ winner posteriors i)
+Inv-loop n posteriors count best₀ i₀ best i = (i ≤ count) × (count ≤ 36) × (best ≡ winningPlace posteriors i)
 
 abbrev μ-loop : tie.MeasureT-loop
 μ-loop n posteriors count best₀ i₀ best i = count - i
@@ -21,7 +21,7 @@ in-use-requires : tie.Need-in-use-requires Inv-loop μ-loop
 in-use-requires c κs = search needs
 
 loop-holds : tie.Need-loop-holds Inv-loop μ-loop
-unfolding winner
+unfolding winningPlace
 loop-holds c = (search needs, rw (c .in-use .ensures) (in-use-low (c .before .args .n)), refl)
 
 mul-at-most : tie.Need-mul-at-most Inv-loop μ-loop
@@ -46,14 +46,14 @@ loop-less : tie.Need-loop-less Inv-loop μ-loop
 loop-less c = search needs
 
 loop-again : tie.Need-loop-again Inv-loop μ-loop
-unfolding winner
+unfolding winningPlace
 loop-again c = (search needs, search needs, rw (add-one, ← c .before .before .before .loop .inv .2, ← c .before .at-most .ensures) (⊎-elim (λ w. rw (w .0 .taken) (w .1)) (λ w. rw (w .0 .left) (w .1)) (c .if1 .came)))
 
 returns : tie.Need-returns Inv-loop μ-loop
 returns c =
     let w = c .before .before in
     let e : c .before .loop .i ≡ w .in-use .result = omega arith in
-    c .before .loop .inv .2 ∙ ap (winner (w .before .args .t1)) (e ∙ w .in-use .ensures)
+    c .before .loop .inv .2 ∙ ap (winningPlace (w .before .args .t1)) (e ∙ w .in-use .ensures)
 
 pub best-place-spec : {M : Type 1} → statement M
 best-place-spec =

@@ -5,7 +5,7 @@ use lib.ListN.{length, getD}
 use borrow.Author.Tests.{le-ltb}
 use borrow.Author.Needs.{needs}
 use Rattle.text_reading.specs.declared.wholes.Whole.the-variants.{Is, Unread}
-use Rattle.text_reading.specs.Wholes.{wholeOf, digitOf, grownBy}
+use Rattle.text_reading.specs.Wholes.{wholeNumberOf, digitOf, grownBy}
 use Rattle.text_reading.proofs.WholeLaws.{Read, read-on, read-no, read-end}
 use Rattle.text_reading.proofs.wholes.read_whole.Statement.{statement}
 use Rattle.text_reading.proofs.wholes.read_whole.Tie as tie
@@ -17,7 +17,7 @@ abbrev μ-loop : tie.MeasureT-loop
 μ-loop field n₀ i₀ n i = length field - i
 
 returns : tie.Need-returns Inv-loop μ-loop
-unfolding wholeOf
+unfolding wholeNumberOf
 returns c = rw (le-ltb 0 (length (c .before .before .args .field .now)) (search needs))
 
 loop-holds : tie.Need-loop-holds Inv-loop μ-loop

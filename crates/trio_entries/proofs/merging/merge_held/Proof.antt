@@ -2,7 +2,7 @@
 use Prim.Native.Nat.{ℕ}
 use mathlib.Core.Path.{sym, ap, _∙_}
 use borrow.Author.Needs.{needs}
-use Rattle.trio_entries.specs.Held.{heldOf, heldList, inUse}
+use Rattle.trio_entries.specs.Held.{heldOf, heldList, entriesUsed}
 use Rattle.trio_entries.proofs.MergedLaws.{offeredFresh}
 use Rattle.trio_entries.proofs.MergedHeldLaws.{own-normal, merge-one, merge-two, merge-tidied}
 use Rattle.trio_entries.proofs.merging.merge_held.Statement.{statement}
@@ -21,7 +21,7 @@ returns c =
     let o = d .before .tidy .result in
     let g = d .tidy2 .result in
     own-normal (a .a) (a .b) o g (d .before .tidy .ensures) (d .tidy2 .ensures)
-    ∙ ap (λ (n : ℕ). heldOf (offeredFresh (heldList o) (inUse n (g .first) (g .second)))) (sym (c .if1 .taken))
+    ∙ ap (λ (n : ℕ). heldOf (offeredFresh (heldList o) (entriesUsed n (g .first) (g .second)))) (sym (c .if1 .taken))
     ∙ merge-tidied (a .a) (a .b) o g (d .before .tidy .ensures) (d .tidy2 .ensures)
 
 offer-fresh-requires : tie.Need-offer-fresh-requires
@@ -35,7 +35,7 @@ returns-2 c =
     let g = d .tidy2 .result in
     c .before .offer-fresh .ensures
     ∙ merge-one o (g .first) (g .second) (own-normal (a .a) (a .b) o g (d .before .tidy .ensures) (d .tidy2 .ensures))
-    ∙ ap (λ (n : ℕ). heldOf (offeredFresh (heldList o) (inUse n (g .first) (g .second)))) (sym (c .if2 .taken))
+    ∙ ap (λ (n : ℕ). heldOf (offeredFresh (heldList o) (entriesUsed n (g .first) (g .second)))) (sym (c .if2 .taken))
     ∙ merge-tidied (a .a) (a .b) o g (d .before .tidy .ensures) (d .tidy2 .ensures)
 
 offer-fresh-requires-2 : tie.Need-offer-fresh-requires-2

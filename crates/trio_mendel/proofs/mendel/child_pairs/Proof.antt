@@ -4,7 +4,7 @@ use mathlib.Core.Path.{_≡_, sym, ap, _∙_}
 use native.Mathlib.Omega.{arith}
 use lib.ListN.{length, length-map}
 use lib.Seq.{length-take-le}
-use Rattle.trio_mendel.specs.Mendel.{childPairs, pairsOf}
+use Rattle.trio_mendel.specs.Mendel.{childPairs, possiblePairs}
 use Rattle.trio_mendel.proofs.MendelLaws.{four-pushed}
 use borrow.Author.Needs.{needs}
 use Rattle.trio_mendel.proofs.mendel.child_pairs.Statement.{statement}
@@ -35,7 +35,7 @@ with-pair-requires-4 : tie.Need-with-pair-requires-4
 with-pair-requires-4 c κs = search needs
 
 collected : (c : tie.After-with-pair4) → let a = c .before .before .before .before .before .before .before .before .args in
-    pairsOf (c .with-pair4 .result) ≡ childPairs (a .father) (a .mother)
+    possiblePairs (c .with-pair4 .result) ≡ childPairs (a .father) (a .mother)
 unfolding childPairs
 collected c =
     let w3 = c .before .before in

@@ -7,7 +7,7 @@ use native.Mathlib.Omega.{arith}
 use lib.ListN.{length, length-map}
 use lib.Seq.{take-suc-set}
 use borrow.Author.Needs.{needs}
-use Rattle.trio_mendel.specs.Mendel.{among, pairsOf}
+use Rattle.trio_mendel.specs.Mendel.{among, possiblePairs}
 use Rattle.trio_mendel.proofs.mendel.with_pair.Statement.{statement}
 use Rattle.trio_mendel.proofs.mendel.with_pair.Tie as tie
 
@@ -15,7 +15,7 @@ contains-requires : tie.Need-contains-requires
 contains-requires c κs = search needs
 
 returns : tie.Need-returns
-returns c = let a = c .before .before .args in let there : among (a .p) (pairsOf (a .s)) ≡ true = sym (c .before .contains .ensures) ∙ c .if1 .taken in (rw there, omega arith)
+returns c = let a = c .before .before .args in let there : among (a .p) (possiblePairs (a .s)) ≡ true = sym (c .before .contains .ensures) ∙ c .if1 .taken in (rw there, omega arith)
 
 cast-pairs : tie.Need-cast-pairs
 cast-pairs c = search needs
@@ -32,7 +32,7 @@ add-t10 c = search needs
 returns-2 : tie.Need-returns-2
 returns-2 c =
     let a = c .before .before .before .args in
-    let there : among (a .p) (pairsOf (a .s)) ≡ false = sym (c .before .before .contains .ensures) ∙ c .before .if1 .left in
+    let there : among (a .p) (possiblePairs (a .s)) ≡ false = sym (c .before .before .contains .ensures) ∙ c .before .if1 .left in
     let four : length (a .s .pairs) ≡ 4 = simp length-map at (c .before .before .before .good .0 .1 .1 .1 .0 .1 .0 .1) in
     let place : a .s .count < length (a .s .pairs) = omega arith in
     (rw (there, add-one) (take-suc-set (a .s .pairs) (a .s .count) (a .p) place), omega arith)

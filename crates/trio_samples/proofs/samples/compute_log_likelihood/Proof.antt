@@ -15,7 +15,7 @@ use Rattle.trio_family.specs.declared.pair.Pair.{Pair}
 use Rattle.trio_family.specs.declared.sample.Sample.{Sample}
 use Rattle.trio_family.specs.Numbers.{sampleNumber}
 use Rattle.lists.specs.Lists.{numbers}
-use Rattle.trio_samples.specs.Samples.{inUse, reads, columnTotal, logBinomial, expectation, expectationTotal, clusterTerm, sampleScore}
+use Rattle.trio_samples.specs.Samples.{upToEight, reads, columnTotal, logBinomial, expectation, expectationTotal, clusterTerm, sampleScore}
 use Rattle.trio_samples.specs.Samples.{withLogs}
 use Rattle.trio_samples.proofs.SampleLaws.{in-use-few, sample-below, up-next, up-done, count-in-column, share-by-kind}
 use Rattle.trio_samples.proofs.samples.compute_log_likelihood.Statement.{statement}
@@ -27,7 +27,7 @@ term counts weights pair column total whole c = logBinomial (reads counts column
 
 -- with the animal's own, all of them are its score
 score-is : (n : ℕ) (counts : List ℕ) (weights : List Float) (s : Sample) (pair : Pair) (many column total : ℕ) (whole : Float)
-    → many ≡ inUse n → column ≡ sampleNumber s → total ≡ columnTotal n counts s → whole ≡ expectationTotal n pair → (total ≡ 0 → ⊥)
+    → many ≡ upToEight n → column ≡ sampleNumber s → total ≡ columnTotal n counts s → whole ≡ expectationTotal n pair → (total ≡ 0 → ⊥)
     → sumFrom (nat 0) (map (term counts weights pair column total whole) (numbers 0 many)) ≡ sampleScore n counts weights s pair
 unfolding sampleScore clusterTerm
 score-is n counts weights s pair many column total whole m k t w some =

@@ -12,13 +12,13 @@ use Rattle.floats.specs.Key.{keyOf}
 use Rattle.kernels.specs.Ln.{lnOf}
 use Rattle.lists.specs.Over.{over}
 use Rattle.mosaic_alleles.specs.Alleles.{countAt, seenIn, somaticIn, alone}
-use Rattle.mosaic_alleles.specs.declared.pair.Pair.{Pair}
-use Rattle.mosaic_shared.specs.declared.shared.Site.{Site}
+use Rattle.mosaic_alleles.specs.declared.pair.GermlinePair.{GermlinePair}
+use Rattle.mosaic_shared.specs.declared.shared.Shared.{Shared}
 use Rattle.mosaic_candidates.specs.Shares.{anySomatic, startVafs, massOf, germlineShare, gainBy, observedShare, stepOf}
-use Rattle.mosaic_candidates.specs.declared.search.Kept.{Kept}
+use Rattle.mosaic_candidates.specs.declared.search.Progress.{Progress}
 use Rattle.mosaic_candidates.specs.declared.search.Found.{Found}
 
-module _ (counts : List ℕ) (g : Pair) where
+module _ (counts : List ℕ) (g : GermlinePair) where
   -- M3: count·ln(share), kept for a somatic allele and made anew for a germline allele
   unfoldable pub termAt : List Float → Float → ℕ → Float
   termAt terms lnShare i = cond (somaticIn counts g i) (getD terms i nan) (nat (countAt counts i) ⊗ lnShare)
@@ -39,61 +39,61 @@ module _ (counts : List ℕ) (g : Pair) where
   priorBy gains ofGermline = priorByOver gains (length counts) ⊕ ofGermline
 
 -- M4: what the germline alleles add
-abbrev pub ofGermline : Site → Pair → Float
-ofGermline site g = cond (alone g) (site .«for_one») (site .«for_two»)
+abbrev pub ofGermline : Shared → GermlinePair → Float
+ofGermline shared g = cond (alone g) (shared .«for_one») (shared .«for_two»)
 
-module _ (counts : List ℕ) (g : Pair) (site : Site) where
+module _ (counts : List ℕ) (g : GermlinePair) (shared : Shared) where
   -- M3, M4: the likelihood of VAFs whose terms are given
   abbrev pub likelihoodHere : List Float → List Float → Float
-  likelihoodHere vafs terms = likelihoodBy counts g (site .«of_total») (site .factorials) terms (lnOf (germlineShare g (massOf counts g vafs)))
+  likelihoodHere vafs terms = likelihoodBy counts g (shared .«of_total») (shared .factorials) terms (lnOf (germlineShare g (massOf counts g vafs)))
 
   abbrev pub priorHere : List Float → Float
-  priorHere gains = priorBy counts g gains (ofGermline site g)
+  priorHere gains = priorBy counts g gains (ofGermline shared g)
 
   -- M5: the value before a search, or without one
   unfoldable pub startValue : List Float → Float
-  startValue vafs = cond (anySomatic counts g) (inf true) (likelihoodHere vafs (site .starts))
+  startValue vafs = cond (anySomatic counts g) (inf true) (likelihoodHere vafs (shared .starts))
 
-  unfoldable pub started : Kept
-  started = record {
+  unfoldable pub progressStart : Progress
+  progressStart = record {
     vafs = startVafs counts g;
-    terms = site .starts;
-    gains = replicate 8 (gainBy (site .density) (decimal 5 2));
+    terms = shared .starts;
+    gains = replicate 8 (gainBy (shared .density) (decimal 5 2));
     value = startValue (startVafs counts g);
   }
 
   -- M5: what is kept with the candidate x of allele i in it, and whether it stays
-  abbrev pub changed : Kept → ℕ → Float → Kept
-  changed kept i x =
+  abbrev pub progressWith : Progress → ℕ → Float → Progress
+  progressWith kept i x =
       let vafs = set (kept .vafs) i x in
       let terms = set (kept .terms) i (nat (countAt counts i) ⊗ lnOf x) in
-      let gains = set (kept .gains) i (gainBy (site .density) x) in
+      let gains = set (kept .gains) i (gainBy (shared .density) x) in
       record { vafs = vafs; terms = terms; gains = gains; value = likelihoodHere vafs terms ⊕ priorHere gains }
 
-  unfoldable pub attempted : Kept → ℕ → Float → Kept
-  attempted kept i x = cond (ltZ (keyOf (kept .value)) (keyOf (changed kept i x .value))) (changed kept i x) kept
+  unfoldable pub progressTried : Progress → ℕ → Float → Progress
+  progressTried kept i x = cond (ltZ (keyOf (kept .value)) (keyOf (progressWith kept i x .value))) (progressWith kept i x) kept
 
   -- M5: a step is a candidate where it is above 0.001
-  unfoldable pub stepTried : ℕ → ℕ → Kept → Kept
-  stepTried i s kept = let x = stepOf (site .highest) s in cond (lt (decimal 1 3) x) (attempted kept i x) kept
+  unfoldable pub progressStep : ℕ → ℕ → Progress → Progress
+  progressStep i s kept = let x = stepOf (shared .highest) s in cond (lt (decimal 1 3) x) (progressTried kept i x) kept
 
   -- M5: the candidates of allele i: the observed share, then the steps 0 to 20
-  unfoldable pub alleleSearched : ℕ → Kept → Kept
-  alleleSearched i kept = over (stepTried i) (attempted kept i (observedShare (countAt counts i) (site .total))) 21
+  unfoldable pub progressAllele : ℕ → Progress → Progress
+  progressAllele i kept = over (progressStep i) (progressTried kept i (observedShare (countAt counts i) (shared .total))) 21
 
   -- M5: the somatic alleles in rising order, each from what the earlier ones left
-  unfoldable pub offered : ℕ → Kept → Kept
-  offered i kept = cond (somaticIn counts g i) (alleleSearched i kept) kept
+  unfoldable pub progressOffered : ℕ → Progress → Progress
+  progressOffered i kept = cond (somaticIn counts g i) (progressAllele i kept) kept
 
-  unfoldable pub searched : Kept → Kept
-  searched kept = over offered kept (length counts)
+  unfoldable pub progressAll : Progress → Progress
+  progressAll kept = over progressOffered kept (length counts)
 
   -- M6: the value, and once more the prior of what was found
-  unfoldable pub foundBy : Found
-  foundBy =
-      let best = searched started in
+  unfoldable pub progressFound : Found
+  progressFound =
+      let best = progressAll progressStart in
       record { vafs = best .vafs; posterior = best .value ⊕ priorHere (best .gains) }
 
   -- L2: of at most eight counts; zeros for more
-  unfoldable pub foundAt : Found
-  foundAt = cond (leb (length counts) 8) foundBy (record { vafs = replicate 8 (nat 0); posterior = nat 0 })
+  unfoldable pub foundOfEight : Found
+  foundOfEight = cond (leb (length counts) 8) progressFound (record { vafs = replicate 8 (nat 0); posterior = nat 0 })

@@ -1,8 +1,8 @@
--- `mosaic_shared::shared::site_of` meets its contract. Assumes nothing.
-use Rattle.mosaic_shared.specs.Shared.{siteOf}
+-- `mosaic_shared::shared::shared_of` meets its contract. Assumes nothing.
+use Rattle.mosaic_shared.specs.Shared.{sharedOf}
 use borrow.Author.Needs.{needs}
-use Rattle.mosaic_shared.proofs.shared.site_of.Statement.{statement}
-use Rattle.mosaic_shared.proofs.shared.site_of.Tie as tie
+use Rattle.mosaic_shared.proofs.shared.shared_of.Statement.{statement}
+use Rattle.mosaic_shared.proofs.shared.shared_of.Tie as tie
 
 all-factorials-requires : tie.Need-all-factorials-requires
 all-factorials-requires c κs = search needs
@@ -26,11 +26,11 @@ for-two-requires : tie.Need-for-two-requires
 for-two-requires c κs = search needs
 
 returns : tie.Need-returns
-unfolding siteOf
+unfolding sharedOf
 returns c = rw (c .for-two .ensures, c .before .for-one .ensures, c .before .before .ln-factorial .ensures, c .before .before .before .before .density-of .ensures, c .before .before .before .before .before .all-starts .ensures, c .before .before .before .before .before .before .all-factorials .ensures)
 
-pub site-of-spec : {M : Type 1} → statement M
-site-of-spec =
+pub shared-of-spec : {M : Type 1} → statement M
+shared-of-spec =
     tie.close
     (tie.spec
     all-factorials-requires
