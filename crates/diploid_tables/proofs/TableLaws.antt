@@ -14,13 +14,13 @@ use Rattle.diploid_tables.specs.Tables.{Entry, entries, neverFalling}
 -- ---- entries
 
 -- the entry whose first member stands at i
-abbrev pub entryAt : List Float → ℕ → Entry
-entryAt t i = record { x = getD t i nan; y = getD t (i + 1) nan }
+abbrev pub tableEntry : List Float → ℕ → Entry
+tableEntry t i = record { x = getD t i nan; y = getD t (i + 1) nan }
 
 two : (i : ℕ) → i + 2 ≡ suc (suc i)
 two i = omega arith
 
-pub entries-from : (t : List Float) (i : ℕ) → i + 1 < length t → entries (drop i t) ≡ entryAt t i ∷ entries (drop (i + 2) t)
+pub entries-from : (t : List Float) (i : ℕ) → i + 1 < length t → entries (drop i t) ≡ tableEntry t i ∷ entries (drop (i + 2) t)
 unfolding entries
 entries-from t i h =
     let h0 : i < length t = omega arith in

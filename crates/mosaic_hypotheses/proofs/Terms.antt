@@ -20,7 +20,7 @@ use Rattle.mosaic_candidates.specs.Shares.{anyOver, anySomatic, vafAt, massOf, 
 use Rattle.mosaic_hypotheses.specs.Likelihood.{alleleShare, likelihoodOf}
 use Rattle.mosaic_shared.specs.Shared.{densityOf, forOne, forTwo, factorialsOf, startsOf, sharedOf}
 use Rattle.mosaic_hypotheses.specs.Prior.{gainOf, gainsOver, forGermline, priorOf}
-use Rattle.mosaic_hypotheses.specs.Search.{Best, valueOf, tried, triedStep, searchedAllele, searchedAll, foundOf}
+use Rattle.mosaic_hypotheses.specs.Search.{BestVafs, valueOf, tried, triedStep, searchedAllele, searchedAll, foundOf}
 use Rattle.mosaic_candidates.specs.Progress.{termAt, likelihoodBy, priorByOver, priorBy, likelihoodHere, priorHere, startValue, progressStart, progressWith}
 use Rattle.mosaic_candidates.specs.Progress.{progressTried, progressStep, progressAllele, progressOffered, progressAll, progressFound, foundOfEight}
 use Rattle.mosaic_params.specs.declared.params.Params.{Params}
@@ -96,10 +96,10 @@ module _ (p : Params) (counts : List ℕ) (few : length counts ≤ 8) (g : Germl
       rw (gains, germline-by (length counts) g)
 
   -- what is kept stands for VAFs and a value of the definition
-  abbrev best : Progress → Best
+  abbrev best : Progress → BestVafs
   best k = record { vafs = k .vafs; value = k .value }
 
-  record Follows (k : Progress) (b : Best) : Type 0 where
+  record Follows (k : Progress) (b : BestVafs) : Type 0 where
     pub same : best k ≡ b
     pub caches : Caches k
 
@@ -127,27 +127,27 @@ module _ (p : Params) (counts : List ℕ) (few : length counts ≤ 8) (g : Germl
         (in-eight i l (k .gains) (h .eight-gains)) (h .gain-is j m s));
   }
 
-  follows-cond : (t : Bool) (k m : Progress) (b c : Best) → Follows k b → Follows m c → Follows (cond t k m) (cond t b c)
+  follows-cond : (t : Bool) (k m : Progress) (b c : BestVafs) → Follows k b → Follows m c → Follows (cond t k m) (cond t b c)
   follows-cond true k m b c h q = h
   follows-cond false k m b c h q = q
 
-  attempt-follows : (i : ℕ) → i < length counts → (x : Float) (k : Progress) (b : Best) → Follows k b → Follows (progressTried counts g shared k i x) (tried firstEdition p counts g i x b)
+  attempt-follows : (i : ℕ) → i < length counts → (x : Float) (k : Progress) (b : BestVafs) → Follows k b → Follows (progressTried counts g shared k i x) (tried firstEdition p counts g i x b)
   unfolding progressTried tried
   attempt-follows i l x k b h =
       let d = progressWith counts g shared k i x in
       let cs = changed-caches k i x l (h .caches) in
       let value : d .value ≡ valueOf firstEdition p counts g (d .vafs) = rw (likelihood-same d cs, prior-same d cs) in
-      subst (λ (b : Best). Follows (progressTried counts g shared k i x) (tried firstEdition p counts g i x b)) (h .same)
+      subst (λ (b : BestVafs). Follows (progressTried counts g shared k i x) (tried firstEdition p counts g i x b)) (h .same)
       (subst (λ (v : Float). Follows (cond (ltZ (keyOf (k .value)) (keyOf (d .value))) d k) (cond (ltZ (keyOf (k .value)) (keyOf v)) (record { vafs = d .vafs; value = v }) (best k))) value
       (follows-cond (ltZ (keyOf (k .value)) (keyOf (d .value))) d k (best d) (best k) (record { same = refl; caches = cs }) (record { same = refl; caches = h .caches })))
 
-  step-follows : (i : ℕ) → i < length counts → (s : ℕ) (k : Progress) (b : Best) → Follows k b → Follows (progressStep counts g shared i s k) (triedStep firstEdition p counts g i s b)
+  step-follows : (i : ℕ) → i < length counts → (s : ℕ) (k : Progress) (b : BestVafs) → Follows k b → Follows (progressStep counts g shared i s k) (triedStep firstEdition p counts g i s b)
   unfolding sharedOf progressStep
   step-follows i l s k b h =
       let x = stepOf (p .highest) s in
       follows-cond (lt (decimal 1 3) x) (progressTried counts g shared k i x) k (tried firstEdition p counts g i x b) b (attempt-follows i l x k b h) h
 
-  allele-follows : (i : ℕ) → i < length counts → (k : Progress) (b : Best) → Follows k b → Follows (progressAllele counts g shared i k) (searchedAllele firstEdition p counts g i b)
+  allele-follows : (i : ℕ) → i < length counts → (k : Progress) (b : BestVafs) → Follows k b → Follows (progressAllele counts g shared i k) (searchedAllele firstEdition p counts g i b)
   unfolding sharedOf progressAllele searchedAllele
   allele-follows i l k b h =
       let x = observedShare (countAt counts i) (nat (totalOf counts)) in
@@ -155,7 +155,7 @@ module _ (p : Params) (counts : List ℕ) (few : length counts ≤ 8) (g : Germl
       (λ s m k b h. step-follows i l s k b h)
       (attempt-follows i l x k b h)
 
-  offer-follows : (i : ℕ) → i < length counts → (k : Progress) (b : Best) → Follows k b → Follows (progressOffered counts g shared i k) (cond (somaticIn counts g i) (searchedAllele firstEdition p counts g i b) b)
+  offer-follows : (i : ℕ) → i < length counts → (k : Progress) (b : BestVafs) → Follows k b → Follows (progressOffered counts g shared i k) (cond (somaticIn counts g i) (searchedAllele firstEdition p counts g i b) b)
   unfolding progressOffered
   offer-follows i l k b h =
       follows-cond (somaticIn counts g i) (progressAllele counts g shared i k) k (searchedAllele firstEdition p counts g i b) b (allele-follows i l k b h) h
@@ -191,7 +191,7 @@ module _ (p : Params) (counts : List ℕ) (few : length counts ≤ 8) (g : Germl
       rw (e .1) (none-offered n (e .0) k)
 
   -- the VAFs that were found, and the posterior made of them, by the first edition
-  abbrev made : Best → Found
+  abbrev made : BestVafs → Found
   made b = record { vafs = b .vafs; posterior = b .value ⊕ priorOf firstEdition p counts g (b .vafs) }
 
   pub found-by : foundOfEight counts g shared ≡ foundOf firstEdition p counts g

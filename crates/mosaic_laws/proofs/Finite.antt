@@ -33,7 +33,7 @@ use Rattle.mosaic_candidates.specs.Shares.{anyOver, anySomatic, vafAt, massOf, 
 use Rattle.mosaic_hypotheses.specs.Hypotheses.{bothSeen}
 use Rattle.mosaic_hypotheses.specs.Likelihood.{alleleShare, likelihoodOf}
 use Rattle.mosaic_hypotheses.specs.Prior.{gainOf, priorOf}
-use Rattle.mosaic_hypotheses.specs.Search.{Best, valueOf, tried, triedStep, searchedAllele, searchedAll, foundOf}
+use Rattle.mosaic_hypotheses.specs.Search.{BestVafs, valueOf, tried, triedStep, searchedAllele, searchedAll, foundOf}
 use Rattle.mosaic_params.specs.declared.params.Params.{Params}
 use Rattle.mosaic_alleles.specs.declared.pair.GermlinePair.{GermlinePair}
 use Rattle.mosaic_alleles.proofs.CountLaws.{count-bound, total-bound}
@@ -133,14 +133,14 @@ module _ (p : Params) (counts : List ℕ) (ok : AcceptedMosaic p counts) (g : Ge
     none : Value (inf true)
     some : {v : Float} → Within (2 ^ 46) v → T (fits binary64 v) → Value v
 
-  pub record KeptBest (b : Best) : Type 0 where
+  pub record KeptBest (b : BestVafs) : Type 0 where
     pub eight-vafs : length (b .vafs) ≡ 8
     pub tryable : Tryable (b .vafs)
     pub low : Low1 (b .vafs)
     pub value-is : Value (b .value)
 
   -- a value that is finite
-  pub record FiniteBest (b : Best) : Type 0 where
+  pub record FiniteBest (b : BestVafs) : Type 0 where
     pub kept : KeptBest b
     pub within : Within (2 ^ 46) (b .value)
 
@@ -150,10 +150,10 @@ module _ (p : Params) (counts : List ℕ) (ok : AcceptedMosaic p counts) (g : Ge
   set-vafs : (l : List Float) → length l ≡ 8 → (P : Float → Type 0) → (i : ℕ) → i < n → (x : Float) → P x → ((j : ℕ) → j < n → somaticIn counts g j ≡ true → P (vafAt l j)) → (j : ℕ) → j < n → somaticIn counts g j ≡ true → P (vafAt (set l i x) j)
   set-vafs l e P i m x h k j q s = at-set l i j x nan (omega (arith, ok .few)) (eqb j i) refl P (λ r. h) (λ r. k j q s)
 
-  set-tryable : (b : Best) → KeptBest b → (i : ℕ) → i < n → (x : Float) → Vaf x → Tryable (set (b .vafs) i x)
+  set-tryable : (b : BestVafs) → KeptBest b → (i : ℕ) → i < n → (x : Float) → Vaf x → Tryable (set (b .vafs) i x)
   set-tryable b h i m x v = set-vafs (b .vafs) (h .eight-vafs) Vaf i m x v (h .tryable)
 
-  made : (b : Best) → KeptBest b → (i : ℕ) → i < n → (x : Float) → Vaf x → lt x (nat 1) ≡ true → let l = set (b .vafs) i x in FiniteBest (record { vafs = l; value = valueOf firstEdition p counts g l })
+  made : (b : BestVafs) → KeptBest b → (i : ℕ) → i < n → (x : Float) → Vaf x → lt x (nat 1) ≡ true → let l = set (b .vafs) i x in FiniteBest (record { vafs = l; value = valueOf firstEdition p counts g l })
   made b h i m x v e =
       let l = set (b .vafs) i x in
       let t = set-tryable b h i m x v in
@@ -178,7 +178,7 @@ module _ (p : Params) (counts : List ℕ) (ok : AcceptedMosaic p counts) (g : Ge
   fit (some w f) = f
 
   -- a candidate from 1 on is not kept
-  pub beyond : (b : Best) → KeptBest b → (i : ℕ) → i < n → somaticIn counts g i ≡ true → (x : Float) → Vaf x → le (nat 1) x ≡ true → tried firstEdition p counts g i x b ≡ b
+  pub beyond : (b : BestVafs) → KeptBest b → (i : ℕ) → i < n → somaticIn counts g i ≡ true → (x : Float) → Vaf x → le (nat 1) x ≡ true → tried firstEdition p counts g i x b ≡ b
   beyond b h i m s x v e =
       let l = set (b .vafs) i x in
       let t = set-tryable b h i m x v in
@@ -192,17 +192,17 @@ module _ (p : Params) (counts : List ℕ) (ok : AcceptedMosaic p counts) (g : Ge
   not-one x v e = above-by-test (nat 1) x one-at (positive-not-below x (v .above-zero)) e
 
   -- what a candidate makes, and whether it is larger
-  abbrev better : ℕ → Float → Best → Best
+  abbrev better : ℕ → Float → BestVafs → BestVafs
   better i x b = let l = set (b .vafs) i x in record { vafs = l; value = valueOf firstEdition p counts g l }
 
-  abbrev larger : ℕ → Float → Best → Bool
+  abbrev larger : ℕ → Float → BestVafs → Bool
   larger i x b = ltZ (keyOf (b .value)) (keyOf (better i x b .value))
 
-  tried-is : (i : ℕ) (x : Float) (b : Best) → cond (larger i x b) (better i x b) b ≡ tried firstEdition p counts g i x b
+  tried-is : (i : ℕ) (x : Float) (b : BestVafs) → cond (larger i x b) (better i x b) b ≡ tried firstEdition p counts g i x b
   unfolding tried
   tried-is i x b = refl
 
-  tried-some : (i : ℕ) → i < n → somaticIn counts g i ≡ true → (x : Float) → Vaf x → (b : Best) → FiniteBest b → FiniteBest (tried firstEdition p counts g i x b)
+  tried-some : (i : ℕ) → i < n → somaticIn counts g i ≡ true → (x : Float) → Vaf x → (b : BestVafs) → FiniteBest b → FiniteBest (tried firstEdition p counts g i x b)
   tried-some i m s x v b h = go (le (nat 1) x) refl
     where
       go : (t : Bool) → le (nat 1) x ≡ t → FiniteBest (tried firstEdition p counts g i x b)
@@ -210,7 +210,7 @@ module _ (p : Params) (counts : List ℕ) (ok : AcceptedMosaic p counts) (g : Ge
       go false e = subst FiniteBest (tried-is i x b) (either FiniteBest (larger i x b) (better i x b) b (λ q. made b (h .kept) i m x v (not-one x v e)) (λ q. h))
 
   -- a candidate below 1 leaves a finite value, whatever stood before
-  pub first-some : (i : ℕ) → i < n → somaticIn counts g i ≡ true → (x : Float) → Vaf x → lt x (nat 1) ≡ true → (b : Best) → KeptBest b → FiniteBest (tried firstEdition p counts g i x b)
+  pub first-some : (i : ℕ) → i < n → somaticIn counts g i ≡ true → (x : Float) → Vaf x → lt x (nat 1) ≡ true → (b : BestVafs) → KeptBest b → FiniteBest (tried firstEdition p counts g i x b)
   first-some i m s x v e b h = go (b .value) refl (h .value-is)
     where
       go : (w : Float) → w ≡ b .value → Value w → FiniteBest (tried firstEdition p counts g i x b)
@@ -253,14 +253,14 @@ module _ (p : Params) (counts : List ℕ) (ok : AcceptedMosaic p counts) (g : Ge
         within = w;
       }
 
-  step-some : (i : ℕ) → i < n → somaticIn counts g i ≡ true → (s : ℕ) → s < 21 → (b : Best) → FiniteBest b → FiniteBest (triedStep firstEdition p counts g i s b)
+  step-some : (i : ℕ) → i < n → somaticIn counts g i ≡ true → (s : ℕ) → s < 21 → (b : BestVafs) → FiniteBest b → FiniteBest (triedStep firstEdition p counts g i s b)
   step-some i m t s l b h = go (lt (decimal 1 3) (stepOf (p .highest) s)) refl
     where
       go : (c : Bool) → lt (decimal 1 3) (stepOf (p .highest) s) ≡ c → FiniteBest (cond c (tried firstEdition p counts g i (stepOf (p .highest) s) b) b)
       go true e = tried-some i m t (stepOf (p .highest) s) (step-vaf s (omega arith) e) b h
       go false e = h
 
-  allele-some : (i : ℕ) → i < n → somaticIn counts g i ≡ true → (b : Best) → KeptBest b → FiniteBest (searchedAllele firstEdition p counts g i b)
+  allele-some : (i : ℕ) → i < n → somaticIn counts g i ≡ true → (b : BestVafs) → KeptBest b → FiniteBest (searchedAllele firstEdition p counts g i b)
   unfolding searchedAllele
   allele-some i m s b h =
       let x = observedShare (countAt counts i) (nat (totalOf counts)) in
@@ -291,14 +291,14 @@ module _ (p : Params) (counts : List ℕ) (ok : AcceptedMosaic p counts) (g : Ge
   }
 
   -- after a somatic allele the value is finite
-  record Gone (k : ℕ) (b : Best) : Type 0 where
+  record Gone (k : ℕ) (b : BestVafs) : Type 0 where
     pub kept : KeptBest b
     pub then-some : anyOver counts g k ≡ true → FiniteBest b
 
-  abbrev searchStep : ℕ → Best → Best
+  abbrev searchStep : ℕ → BestVafs → BestVafs
   searchStep i b = cond (somaticIn counts g i) (searchedAllele firstEdition p counts g i b) b
 
-  gone-step : (k : ℕ) → k < n → (b : Best) → Gone k b → Gone (suc k) (searchStep k b)
+  gone-step : (k : ℕ) → k < n → (b : BestVafs) → Gone k b → Gone (suc k) (searchStep k b)
   gone-step k l b h = go (somaticIn counts g k) refl
     where
       or-false : (a b : Bool) → (a || b) ≡ true → b ≡ false → a ≡ true

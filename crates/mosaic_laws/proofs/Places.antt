@@ -15,7 +15,7 @@ use Rattle.mosaic_hypotheses.specs.Edition.{Edition}
 use Rattle.mosaic_alleles.specs.Alleles.{countAt, germlineIn, somaticIn, totalOf}
 use Rattle.mosaic_candidates.specs.Shares.{anySomatic, vafAt, startVafs, stepOf, observedShare}
 use Rattle.mosaic_hypotheses.specs.Likelihood.{likelihoodOf}
-use Rattle.mosaic_hypotheses.specs.Search.{Best, valueOf, tried, triedStep, searchedAllele, searchedAll, foundOf}
+use Rattle.mosaic_hypotheses.specs.Search.{BestVafs, valueOf, tried, triedStep, searchedAllele, searchedAll, foundOf}
 use Rattle.mosaic.specs.Genotype.{flagsOf}
 use Rattle.mosaic_params.specs.declared.params.Params.{Params}
 use Rattle.mosaic_alleles.specs.declared.pair.GermlinePair.{GermlinePair}
@@ -59,21 +59,21 @@ module _ (counts : List ℕ) (few : length counts ≤ 8) (g : GermlinePair) wher
       getD-set-other l i j x nan (λ q. true≢false (sym s ∙ ap (somaticIn counts g) (sym q) ∙ o)) ∙ h j m o
 
   module _ (e : Edition) (p : Params) where
-    abbrev Keeps : Best → Type 0
+    abbrev Keeps : BestVafs → Type 0
     Keeps b = Rest (b .vafs)
 
-    tried-rest : (i : ℕ) → somaticIn counts g i ≡ true → (x : Float) (b : Best) → Keeps b → Keeps (tried e p counts g i x b)
+    tried-rest : (i : ℕ) → somaticIn counts g i ≡ true → (x : Float) (b : BestVafs) → Keeps b → Keeps (tried e p counts g i x b)
     unfolding tried
     tried-rest i s x b h =
         let l = set (b .vafs) i x in
         either Keeps (ltZ (keyOf (b .value)) (keyOf (valueOf e p counts g l))) (record { vafs = l; value = valueOf e p counts g l }) b (λ q. set-rest (b .vafs) i s x h) (λ q. h)
 
-    step-rest : (i : ℕ) → somaticIn counts g i ≡ true → (s : ℕ) (b : Best) → Keeps b → Keeps (triedStep e p counts g i s b)
+    step-rest : (i : ℕ) → somaticIn counts g i ≡ true → (s : ℕ) (b : BestVafs) → Keeps b → Keeps (triedStep e p counts g i s b)
     step-rest i o s b h =
         let x = stepOf (p .highest) s in
         either Keeps (lt (decimal 1 3) x) (tried e p counts g i x b) b (λ q. tried-rest i o x b h) (λ q. h)
 
-    allele-rest : (i : ℕ) → somaticIn counts g i ≡ true → (b : Best) → Keeps b → Keeps (searchedAllele e p counts g i b)
+    allele-rest : (i : ℕ) → somaticIn counts g i ≡ true → (b : BestVafs) → Keeps b → Keeps (searchedAllele e p counts g i b)
     unfolding searchedAllele
     allele-rest i o b h =
         let x = observedShare (countAt counts i) (nat (totalOf counts)) in

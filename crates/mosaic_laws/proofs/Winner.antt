@@ -12,7 +12,7 @@ use lib.Signed.{leZ, _≤ℤ_, _<ℤ_, leZ-yes, ≤ℤ-refl, <ℤ-≤ℤ-trans, 
 use lib.Ieee.{Float}
 use Rattle.floats.proofs.Signed.{above, below-at-most}
 use Rattle.mosaic_probabilities.specs.Winner.{winningPlace}
-use Rattle.mosaic_laws.specs.Largest.{keyAt, LastLargest}
+use Rattle.mosaic_laws.specs.Largest.{keyOfPlace, LastLargest}
 
 through : (a b c : ℤ) → a ≤ℤ b → b ≤ℤ c → a ≤ℤ c
 through a b c h k = go (leZ a c) refl
@@ -31,30 +31,30 @@ split P k i h last earlier = go (eqb i k) refl
 
 module _ (l : List Float) where
   -- one place more: it wins where its key is not below the winner's
-  next : (k b : ℕ) → LastLargest l k b → LastLargest l (suc k) (cond (leZ (keyAt l b) (keyAt l k)) k b)
-  next k b h = go (leZ (keyAt l b) (keyAt l k)) refl
+  next : (k b : ℕ) → LastLargest l k b → LastLargest l (suc k) (cond (leZ (keyOfPlace l b) (keyOfPlace l k)) k b)
+  next k b h = go (leZ (keyOfPlace l b) (keyOfPlace l k)) refl
     where
       none : (i : ℕ) → i < suc k → k < i → ⊥
       none i m n = omega arith
 
-      go : (t : Bool) → leZ (keyAt l b) (keyAt l k) ≡ t → LastLargest l (suc k) (cond t k b)
+      go : (t : Bool) → leZ (keyOfPlace l b) (keyOfPlace l k) ≡ t → LastLargest l (suc k) (cond t k b)
       go true e =
-          let up : keyAt l b ≤ℤ keyAt l k = leZ-yes (subst T (sym e) tt) in
+          let up : keyOfPlace l b ≤ℤ keyOfPlace l k = leZ-yes (subst T (sym e) tt) in
           record {
             in-use = omega arith;
-            none-above = λ i m. split (λ i. keyAt l i ≤ℤ keyAt l k) k i m (≤ℤ-refl (keyAt l k)) (λ q. through (keyAt l i) (keyAt l b) (keyAt l k) (h .none-above i q) up);
+            none-above = λ i m. split (λ i. keyOfPlace l i ≤ℤ keyOfPlace l k) k i m (≤ℤ-refl (keyOfPlace l k)) (λ q. through (keyOfPlace l i) (keyOfPlace l b) (keyOfPlace l k) (h .none-above i q) up);
             later-below = λ i m n. absurd (none i m n);
           }
       go false e =
-          let down : keyAt l k <ℤ keyAt l b = above (keyAt l b) (keyAt l k) (subst (λ (t : Bool). T (not t)) (sym e) tt) in
+          let down : keyOfPlace l k <ℤ keyOfPlace l b = above (keyOfPlace l b) (keyOfPlace l k) (subst (λ (t : Bool). T (not t)) (sym e) tt) in
           record {
             in-use = omega (arith, h .in-use);
-            none-above = λ i m. split (λ i. keyAt l i ≤ℤ keyAt l b) k i m (below-at-most (keyAt l k) (keyAt l b) down) (h .none-above i);
-            later-below = λ i m n. split (λ i. keyAt l i <ℤ keyAt l b) k i m down (λ q. h .later-below i q n);
+            none-above = λ i m. split (λ i. keyOfPlace l i ≤ℤ keyOfPlace l b) k i m (below-at-most (keyOfPlace l k) (keyOfPlace l b) down) (h .none-above i);
+            later-below = λ i m n. split (λ i. keyOfPlace l i <ℤ keyOfPlace l b) k i m down (λ q. h .later-below i q n);
           }
 
   alone : LastLargest l 1 0
-  alone = record { in-use = lit< tt; none-above = λ i m. subst (λ (i : ℕ). keyAt l i ≤ℤ keyAt l 0) (sym (first i m)) (≤ℤ-refl (keyAt l 0)); later-below = λ i m n. absurd (none i m n) }
+  alone = record { in-use = lit< tt; none-above = λ i m. subst (λ (i : ℕ). keyOfPlace l i ≤ℤ keyOfPlace l 0) (sym (first i m)) (≤ℤ-refl (keyOfPlace l 0)); later-below = λ i m n. absurd (none i m n) }
     where
       first : (i : ℕ) → i < 1 → i ≡ 0
       first i m = omega arith
@@ -68,7 +68,7 @@ module _ (l : List Float) where
 
   at : (k : ℕ) → LastLargest l (suc k) (winningPlace l (suc k))
   unfolding winningPlace
-  at zero = only-one (leZ (keyAt l 0) (keyAt l 0))
+  at zero = only-one (leZ (keyOfPlace l 0) (keyOfPlace l 0))
   at (suc k) = next (suc k) (winningPlace l (suc k)) (at k)
 
   pub place-wins : (n : ℕ) → 0 < n → LastLargest l n (winningPlace l n)

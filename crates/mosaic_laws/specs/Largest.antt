@@ -7,11 +7,11 @@ use lib.Signed.{_≤ℤ_, _<ℤ_}
 use lib.Ieee.{Float, nan}
 use Rattle.floats.specs.Key.{keyOf}
 
-abbrev pub keyAt : List Float → ℕ → ℤ
-keyAt l i = keyOf (getD l i nan)
+abbrev pub keyOfPlace : List Float → ℕ → ℤ
+keyOfPlace l i = keyOf (getD l i nan)
 
 -- the place b has a key that is at least every other's and above every later one's: b is the last of the largest
 pub record LastLargest (l : List Float) (n b : ℕ) : Type 0 where
   pub in-use : b < n
-  pub none-above : (i : ℕ) → i < n → keyAt l i ≤ℤ keyAt l b
-  pub later-below : (i : ℕ) → i < n → b < i → keyAt l i <ℤ keyAt l b
+  pub none-above : (i : ℕ) → i < n → keyOfPlace l i ≤ℤ keyOfPlace l b
+  pub later-below : (i : ℕ) → i < n → b < i → keyOfPlace l i <ℤ keyOfPlace l b

@@ -40,8 +40,8 @@ pub record Opened (n : ℕ) (counts : List ℕ) (weights : List Float) : Type 0 
 
 module _ (n : ℕ) (counts : List ℕ) (weights : List Float) where
   -- openStep over the outcomes of its five tests
-  abbrev pub chosen : (a b c d e : Bool) → Stepped
-  chosen a b c d e =
+  abbrev pub openedBy : (a b c d e : Bool) → Stepped
+  openedBy a b c d e =
       cond a (gives NoCluster emptyPart) (cond b (gives TooMany emptyPart) (cond (not c) (gives Shape emptyPart)
       (cond (not d) (gives Count emptyPart) (cond (not e) (gives Weight emptyPart) (gives Done (freshPart n counts weights))))))
 
@@ -55,7 +55,7 @@ module _ (n : ℕ) (counts : List ℕ) (weights : List Float) where
   suc-not-zero : {k : ℕ} → suc k ≡ 0 → ⊥
   suc-not-zero q = omega arith
 
-  passed : (a b c d e : Bool) → numberOf (chosen a b c d e .refusal) ≡ 0 → Passed a b c d e
+  passed : (a b c d e : Bool) → numberOf (openedBy a b c d e .refusal) ≡ 0 → Passed a b c d e
   passed true b c d e h = absurd (suc-not-zero h)
   passed false true c d e h = absurd (suc-not-zero h)
   passed false false false d e h = absurd (suc-not-zero h)

@@ -6,13 +6,13 @@ use lib.ListN.{length, drop}
 use borrow.Author.Needs.{needs}
 use Rattle.diploid_tables.specs.Tables.{entries}
 use Rattle.diploid_tables.specs.Calibration.{from, calibrated}
-use Rattle.diploid_tables.proofs.TableLaws.{entryAt}
+use Rattle.diploid_tables.proofs.TableLaws.{tableEntry}
 use Rattle.diploid_tables.proofs.CalibrationLaws.{calibrated-under, calibrated-from, from-here, from-on, from-past, calibrated-none}
 use Rattle.diploid_tables.proofs.calibration.calibrate_gq.Statement.{statement}
 use Rattle.diploid_tables.proofs.calibration.calibrate_gq.Tie as tie
 
 abbrev Inv-loop : tie.InvT-loop
-Inv-loop table raw-gq i₀ i = (i + 2 ≤ length table) × (from (entryAt table i) (entries (drop (i + 2) table)) raw-gq ≡ calibrated table raw-gq)
+Inv-loop table raw-gq i₀ i = (i + 2 ≤ length table) × (from (tableEntry table i) (entries (drop (i + 2) table)) raw-gq ≡ calibrated table raw-gq)
 
 abbrev μ-loop : tie.MeasureT-loop
 μ-loop table raw-gq i₀ i = length table - i
