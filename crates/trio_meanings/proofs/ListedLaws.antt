@@ -22,12 +22,9 @@ use Rattle.trio_triples.proofs.GenotypesLaws.{triple-within}
 use Rattle.trio_laws.proofs.TripleLaws.{triple-count, triple-place, triple-once}
 use Rattle.trio_meanings.specs.Called.{positionCount}
 use Rattle.trio_meanings.specs.Loops.{noTriple, sameTriple}
+use Rattle.trio_meanings.specs.Loops.{firstTriples}
 
 -- ---- the list
-
--- the triples of the first m positions
-abbrev pub firstTriples : ℕ → ℕ → List Triple
-firstTriples n m = map (tripleOf n) (numbers 0 m)
 
 listed-length : (n m : ℕ) → length (firstTriples n m) ≡ m
 listed-length n m = length-map (numbers 0 m) (tripleOf n) ∙ numbers-length 0 m

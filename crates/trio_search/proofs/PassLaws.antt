@@ -17,6 +17,7 @@ use Rattle.trio_search.specs.Work.{takesPlace, onePass, entryAt, IsEntry
 use Rattle.trio_entries.proofs.BestLaws.{Fresh}
 use Rattle.trio_entries.proofs.KeptLaws.{OneEach, Fair, AllFair, kept-best}
 use Rattle.trio_entries.proofs.RankLaws.{ranks-apart, larger-beats, later-beats}
+use Rattle.trio_search.specs.Work.{Rising}
 
 -- ---- the entries of one score function
 
@@ -58,11 +59,6 @@ module _ (score : ℕ → Float) where
   )
 
 -- ---- one pass
-
--- each position is above the one before
-abbrev pub Rising : ℕ → List Entry → Type 0
-Rising p [] = Unit {0}
-Rising p (e ∷ l) = (p ≤ e .position) × Rising (suc (e .position)) l
 
 pub entries-rise : (score : ℕ → Float) (p n : ℕ) → Rising p (entriesFrom score p n)
 entries-rise score p zero = tt
