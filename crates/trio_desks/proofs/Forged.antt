@@ -3,7 +3,7 @@
 -- nothing shows it: here is a part that calls a triple which one pass does not (`forged`, trio_desks/specs/Forged.antt).
 use Prim.Native.Nat.{ℕ, zero, suc, _-_, _*_, _/_, _≤_, _<_}
 use mathlib.Core.Bool.{Bool, true, false, not, cond, and-false, and-eq-true-iff}
-use mathlib.Core.List.{List, [], _∷_}
+use mathlib.Core.List.{List, []}
 use mathlib.Core.Logic.{_≢_}
 use mathlib.Core.Path.{_≡_, refl, sym, ap, subst, _∙_}
 use mathlib.Mathlib.Data.Bool.Basic.{and-elim-left, and-intro, and-elim-right}
@@ -14,7 +14,6 @@ use lib.Bits.{bitOr}
 use lib.Dec.{eqb, ltb, lit≤}
 use lib.ListN.{length}
 use lib.Ieee.{Float, inf, le, toBits, ofInt, isNan}
-use Rattle.floats.specs.F64.{nat}
 use Rattle.floats.specs.Key.{keyOf}
 use Rattle.refusals.specs.declared.Refusal.the-variants.{Done, Row, OtherTrio, NotComplete, BadPart}
 use Rattle.refusals.specs.Refusals.{numberOf}

@@ -13,11 +13,10 @@ use Rattle.trio_entries.specs.declared.entry.Entry.{Entry}
 use Rattle.trio_entries.specs.Best.{In, Best, Ranks}
 use Rattle.floats.specs.Key.{keyOf}
 use Rattle.trio_entries.specs.Rank.{beatsOf}
-use Rattle.trio_search.specs.Work.{takesPlace, onePass, entryAt, IsEntry, entriesFrom}
+use Rattle.trio_search.specs.Work.{takesPlace, onePass, entryAt, IsEntry, entriesFrom, Rising}
 use Rattle.trio_entries.proofs.BestLaws.{Fresh}
 use Rattle.trio_entries.proofs.KeptLaws.{OneEach, Fair, AllFair, kept-best}
 use Rattle.trio_entries.proofs.RankLaws.{ranks-apart, larger-beats, later-beats}
-use Rattle.trio_search.specs.Work.{Rising}
 
 -- ---- the entries of one score function
 
