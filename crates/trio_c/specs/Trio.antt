@@ -13,7 +13,8 @@ use Rattle.trio_family.specs.Numbers.{groundNumber}
 abbrev pub sixOf : Triple → List ℕ
 sixOf t = t .child .low ∷ t .child .high ∷ t .father .low ∷ t .father .high ∷ t .mother .low ∷ t .mother .high ∷ []
 
--- T9, T10, F7: an answer as numbers: the refusal's, the pairs, the score, the ground's, 1 where there is a runner-up, its position and score
+-- T9, T10, F7: an answer as numbers: the refusal's, the pairs, the score, the ground's, 1 where there is a runner-up, its position and its
+-- score
 abbrev pub IsCall : Closed → ℕ → List ℕ → Float → ℕ → ℕ → ℕ → Float → Type 0
 IsCall a refusal pairs score ground runner position second =
     (refusal ≡ numberOf (a .refusal))
