@@ -28,7 +28,8 @@ marked-alone r h = rw (lt-ltb r 64 h) (or-zero-l (2 ^ r))
 pub row-done : (p q s : Part) (r g : ℕ) → rightPart p ≡ true → r < g → g ≡ rowCount p → q ≡ withWork p (rowWork (g * g) (scoreIn p) r)
     → s ≡ withWork p (joined (workIn p) (workIn q)) → gives Done s ≡ rowStep p r
 unfolding rowStep
-row-done p q s r g t k e hq hs = rw (t, lt-ltb r (rowCount p) (subst (λ (n : ℕ). r < n) e k)) (ap (gives Done) (hs ∙ ap (λ (v : Work). withWork p (joined (workIn p) v)) work))
+row-done p q s r g t k e hq hs =
+    rw (t, lt-ltb r (rowCount p) (subst (λ (n : ℕ). r < n) e k)) (ap (gives Done) (hs ∙ ap (λ (v : Work). withWork p (joined (workIn p) v)) work))
   where
     back : workIn (withWork p (rowWork (g * g) (scoreIn p) r)) ≡ rowWork (g * g) (scoreIn p) r
     back = λ i. record { marks = 2 ^ r; held = pass-back (scoreIn p) (r * (g * g)) (g * g) i }

@@ -13,22 +13,22 @@ use Rattle.trio_parts.specs.Same.{sameInput}
 use Rattle.trio_triples.specs.Genotypes.{rowWidth}
 use Rattle.trio_triples.specs.Score.{scoreOf}
 
--- how many rows there are to work; in a bad part none
+-- T1, S1: how many rows there are to work; in a bad part none
 unfoldable pub rowsIn : Part → ℕ
 rowsIn p = cond (rightPart p) (rowCount p) 0
 
--- the score by which the input of a part is searched
+-- T4: the score by which the input of a part is searched
 abbrev pub scoreIn : Part → ℕ → Float
 scoreIn p = scoreOf (p .clusters) (p .counts) (p .weights)
 
--- O1: a bad part, a row past the last; else the part joined with that row alone
+-- O1, T6: a bad part (R12), a row past the last (R8); else the part joined with that row by itself
 unfoldable pub rowStep : Part → ℕ → Stepped
 rowStep p r =
     cond (rightPart p)
     (cond (ltb r (rowCount p)) (gives Done (withWork p (joined (workIn p) (rowWork (rowWidth (p .clusters)) (scoreIn p) r)))) (gives Row p))
     (gives BadPart p)
 
--- O1: a bad part on either side, two inputs; else the work of both
+-- O1, T8: a bad part on either side (R12), two inputs (R9); else the first part's input with the work of both
 unfoldable pub mergeStep : Part → Part → Stepped
 mergeStep a b =
     cond (rightPart a && rightPart b)

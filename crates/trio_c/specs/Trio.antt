@@ -1,4 +1,4 @@
--- A trio's call as numbers. Definitions only (RULES.md, T9, T10).
+-- A trio's call as numbers. Definitions only (RULES.md, T9, T10, F7).
 use Prim.Native.Nat.{ℕ}
 use mathlib.Core.Path.{_≡_}
 use mathlib.Core.Bool.{cond}
@@ -9,11 +9,12 @@ use Rattle.trio_family.specs.declared.pair.Triple.{Triple}
 use Rattle.trio_closings.specs.declared.closing.Closed.{Closed}
 use Rattle.trio_family.specs.Numbers.{groundNumber}
 
--- the pairs of child, father and mother
+-- T9: the pairs of child, father and mother
 abbrev pub sixOf : Triple → List ℕ
 sixOf t = t .child .low ∷ t .child .high ∷ t .father .low ∷ t .father .high ∷ t .mother .low ∷ t .mother .high ∷ []
 
--- an answer as numbers: the refusal's, the pairs, the score, the ground's, 1 where there is a runner-up, its position and score
+-- T9, T10, F7: an answer as numbers: the refusal's, the pairs, the score, the ground's, 1 where there is a runner-up, its position and its
+-- score
 abbrev pub IsCall : Closed → ℕ → List ℕ → Float → ℕ → ℕ → ℕ → Float → Type 0
 IsCall a refusal pairs score ground runner position second =
     (refusal ≡ numberOf (a .refusal))

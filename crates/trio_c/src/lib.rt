@@ -13,8 +13,8 @@ fn flag(b: bool) -> u32
     if b { 1 } else { 0 }
 }
 
-// Each cluster has three counts, of child, father and mother. The refusal's number is returned. Written through references: the pairs of child, father
-// and mother, the score, the ground's number, 1 if there is a runner-up and else 0, its position and its score.
+// Each cluster has three counts, of child, father and mother. The refusal's number is returned. Written through references: the pairs of
+// child, father and mother, the score, the ground's number, 1 if there is a runner-up and else 0, its position and its score.
 #[no_mangle]
 pub extern "C" fn admulfas_trio(
     clusters: u64,

@@ -9,7 +9,7 @@ use Rattle.trio_parts.specs.Right.{rightPart}
 use Rattle.trio_samples.specs.Samples.{sampleScore}
 use Rattle.trio_closings.specs.declared.animal.AnimalScore.{AnimalScore}
 
--- the score of an animal of a part under a genotype; of a bad part, zero
+-- T2, O1, O2: the score of an animal of a part under a genotype; of a bad part (R12) zero
 unfoldable pub sampleStep : Part → Sample → Pair → AnimalScore
 sampleStep p s h =
     cond (rightPart p)

@@ -1,4 +1,5 @@
--- Closing a part, at every input: the call with its ground, or a refusal; the part is handed back with either. Definitions only (RULES.md, O1, O2, T9, T10).
+-- Closing a part, at every input: the call with its ground, or a refusal; the part is handed back with either. Definitions only
+-- (RULES.md, O1, O2, T9, T10).
 use Prim.Native.Nat.{ℕ}
 use mathlib.Core.Bool.{Bool, false, cond, decide, _&&_, _||_}
 use mathlib.Core.List.{List}
@@ -22,15 +23,16 @@ use Rattle.trio_samples.specs.Samples.{columnTotal}
 use Rattle.trio_triples.specs.Genotypes.{tripleOf}
 use Rattle.trio_closings.specs.declared.closing.Closed.{Closed}
 
--- some column sums to 0
+-- T10: some column of counts sums to 0: an animal has no read
 unfoldable pub unread : ℕ → List ℕ → Bool
 unread n counts =
     eqb (columnTotal n counts Child) 0 || (eqb (columnTotal n counts Father) 0 || eqb (columnTotal n counts Mother) 0)
 
--- is there a runner-up, and has it the key of the best?
+-- T9: there is a runner-up
 abbrev pub hasRunner : Held → Bool
 hasRunner h = leb 2 (h .count)
 
+-- T10, K8: there is one, and it has the key of the best
 unfoldable pub tied : Held → Bool
 tied h = hasRunner h && decide (ℤ-discrete (keyOf (h .first .score)) (keyOf (h .second .score)))
 
@@ -65,7 +67,9 @@ refusedClosing r p =
       runner = noEntry;
     }
 
--- O1: a bad part, a row that is not marked; else the call
+-- O1: a bad part (R12), a row that is not marked (R10); else the call
 unfoldable pub closeStep : Part → Closed
 closeStep p =
-    cond (rightPart p) (cond (eqb (p .marks) (fullMarks (rowCount p))) (closedAs p) (refusedClosing NotComplete p)) (refusedClosing BadPart p)
+    cond (rightPart p)
+    (cond (eqb (p .marks) (fullMarks (rowCount p))) (closedAs p) (refusedClosing NotComplete p))
+    (refusedClosing BadPart p)

@@ -19,33 +19,33 @@ use Rattle.trio_closings.specs.Closing.{refusedClosing, closeStep}
 use Rattle.trio_desks.specs.Call.{calledBy, callOf, workedTo}
 use Rattle.trio_desks.specs.History.{History, merged, partOf, rowsOf, Promised}
 use Rattle.trio_laws.proofs.Inputs.{scores-numbers}
-use Rattle.trio_desks.proofs.Opening.{Opened, opened-tells, opened-is, fresh-places, fresh-right}
+use Rattle.trio_desks.proofs.Opening.{opened-is, fresh-places, fresh-right}
 use Rattle.trio_desks.proofs.Promises.{promised, same-rows}
 use Rattle.trio_desks.proofs.Rising.{rising-closes}
 
 -- an opened part: of the right shape, with no work in it, and its scores are numbers
-pub record Fresh (start : Part) : Type 0 where
-  pub right : rightPart start ≡ true
-  pub no-work : start ≡ withWork start noWork
-  pub numbers : (p : ℕ) → isNan (scoreIn start p) ≡ false
+record Fresh (start : Part) : Type 0 where
+  right : rightPart start ≡ true
+  no-work : start ≡ withWork start noWork
+  numbers : (p : ℕ) → isNan (scoreIn start p) ≡ false
 
 module _ (n : ℕ) (counts : List ℕ) (weights : List Float) where
-  pub fresh : Opened n counts weights → Fresh (freshPart n counts weights)
-  fresh o =
-      let p = freshPart n counts weights in
-      let r = fresh-right n counts weights o in
-      record {
-        right = r;
-        no-work = refl;
-        numbers = scores-numbers p (right-input p r) (fresh-places n counts weights o);
-      }
-
   module _ (accepted : numberOf (openStep n counts weights .refusal) ≡ 0) where
     abbrev start : Part
     start = openStep n counts weights .part
 
+    fresh : Fresh (freshPart n counts weights)
+    fresh =
+        let p = freshPart n counts weights in
+        let r = fresh-right n counts weights accepted in
+        record {
+          right = r;
+          no-work = refl;
+          numbers = scores-numbers p (right-input p r) (fresh-places n counts weights accepted);
+        }
+
     opened-fresh : Fresh start
-    opened-fresh = subst Fresh (sym (ap (λ (s : Stepped). s .part) (opened-is n counts weights accepted))) (fresh (opened-tells n counts weights accepted))
+    opened-fresh = subst Fresh (sym (ap (λ (s : Stepped). s .part) (opened-is n counts weights accepted))) fresh
 
     -- every history of its parts keeps every promise
     pub demand-three : (h : History start) → Promised start h
@@ -62,7 +62,8 @@ module _ (n : ℕ) (counts : List ℕ) (weights : List Float) where
 
     pub merging-associates : (h k l : History start) → partOf start (merged (merged h k) l) ≡ partOf start (merged h (merged k l))
     unfolding rowsOf
-    merging-associates h k l = same-part (merged (merged h k) l) (merged h (merged k l)) (λ r. or-assoc (rowsOf start h r) (rowsOf start k r) (rowsOf start l r))
+    merging-associates h k l =
+        same-part (merged (merged h k) l) (merged h (merged k l)) (λ r. or-assoc (rowsOf start h r) (rowsOf start k r) (rowsOf start l r))
 
     pub merging-with-itself : (h : History start) → partOf start (merged h h) ≡ partOf start h
     unfolding rowsOf
@@ -76,6 +77,7 @@ module _ (n : ℕ) (counts : List ℕ) (weights : List Float) where
         ∙ rw (eq-eqb (numberOf (openStep n counts weights .refusal)) 0 accepted)
 
   -- a refused opening is the call
-  pub refused-call : numberOf (openStep n counts weights .refusal) ≢ 0 → refusedClosing (openStep n counts weights .refusal) (openStep n counts weights .part) ≡ callOf n counts weights
+  pub refused-call : numberOf (openStep n counts weights .refusal) ≢ 0
+      → refusedClosing (openStep n counts weights .refusal) (openStep n counts weights .part) ≡ callOf n counts weights
   unfolding calledBy
   refused-call h = rw (ne-eqb (numberOf (openStep n counts weights .refusal)) 0 h)

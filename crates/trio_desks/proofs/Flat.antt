@@ -22,7 +22,9 @@ module _ (score : ℕ → Float) (level : Float) (flat : (p : ℕ) → score p �
   kept-flat : (n p q : ℕ) → n + p ≡ q → keptOf takesPlace (entryAt score p) (entriesFrom score (suc p) n) ≡ entryAt score q
   kept-flat zero p q e = let h : p ≡ q = omega arith in ap (entryAt score) h
   kept-flat (suc n) p q e =
-      ap (λ (t : Bool). keptOf takesPlace (cond (not t) (entryAt score (suc p)) (entryAt score p)) (entriesFrom score (suc (suc p)) n)) (alike p (suc p)) ∙ kept-flat n (suc p) q (omega arith)
+      ap (λ (t : Bool). keptOf takesPlace (cond (not t) (entryAt score (suc p)) (entryAt score p)) (entriesFrom score (suc (suc p)) n))
+      (alike p (suc p))
+      ∙ kept-flat n (suc p) q (omega arith)
 
   -- without it, those before it
   without-last : (n p q : ℕ) → n + p ≡ q → without q (entriesFrom score p (suc n)) ≡ entriesFrom score p n

@@ -1,8 +1,9 @@
--- S2: what holds of every part of the right shape, whoever made it. No row and no merge spoils its shape; it closes with what it holds, and that is a triple at least; working all its rows again gives the one pass where the scores that it holds are true.
--- Where they are not, nothing shows it: here is a part that calls a triple which one pass does not.
+-- S2: what holds of every part of the right shape, whoever made it. No row and no merge spoils its shape; it closes with what it holds, and
+-- that is a triple at least; working all its rows again gives the one pass where the scores that it holds are true. Where they are not,
+-- nothing shows it: here is a part that calls a triple which one pass does not (`forged`, trio_desks/specs/Forged.antt).
 use Prim.Native.Nat.{ℕ, zero, suc, _-_, _*_, _/_, _≤_, _<_}
 use mathlib.Core.Bool.{Bool, true, false, not, cond, and-false, and-eq-true-iff}
-use mathlib.Core.List.{List, [], _∷_}
+use mathlib.Core.List.{List, []}
 use mathlib.Core.Logic.{_≢_}
 use mathlib.Core.Path.{_≡_, refl, sym, ap, subst, _∙_}
 use mathlib.Mathlib.Data.Bool.Basic.{and-elim-left, and-intro, and-elim-right}
@@ -13,7 +14,6 @@ use lib.Bits.{bitOr}
 use lib.Dec.{eqb, ltb, lit≤}
 use lib.ListN.{length}
 use lib.Ieee.{Float, inf, le, toBits, ofInt, isNan}
-use Rattle.floats.specs.F64.{nat}
 use Rattle.floats.specs.Key.{keyOf}
 use Rattle.refusals.specs.declared.Refusal.the-variants.{Done, Row, OtherTrio, NotComplete, BadPart}
 use Rattle.refusals.specs.Refusals.{numberOf}
@@ -50,6 +50,7 @@ use Rattle.trio_desks.specs.Call.{onePassCall, workedTo}
 use Rattle.trio_laws.proofs.Inputs.{input-accepted, scores-numbers}
 use Rattle.trio_laws.proofs.ScoreBounds.{unread-least}
 use Rattle.trio_desks.proofs.UnreadCalls.{last-unread}
+use Rattle.trio_desks.specs.Forged.{forged}
 
 -- the right shape is that of the input and that of the work
 right-parts : (p : Part) → rightPart p ≡ true → (inputRight p ≡ true) × (workRight (rowCount p) (p .marks) (p .held) ≡ true)
@@ -195,17 +196,12 @@ module _ (p : Part) (right : rightPart p ≡ true) (eight : length (p .weights) 
   pub reworked-part : ((e : Entry) → In (heldList (p .held)) e → IsEntry (scoreIn p) e) → closeStep (workedTo p (rowsIn p)) ≡ onePassCall p
   unfolding rowsIn
   reworked-part true-scores =
-      let w : again (rows p) ≡ wholeWork (rows p) (width p) (score p) = reworked-rising (rows p) (score p) (p .marks) (p .held) (right-parts p right .1) true-scores in
+      let w : again (rows p) ≡ wholeWork (rows p) (width p) (score p) =
+      reworked-rising (rows p) (score p) (p .marks) (p .held) (right-parts p right .1) true-scores in
       let r = subst (λ (v : Work). rightPart (withWork p v) ≡ true) w (all-reached .1) in
       rw right (ap closeStep (all-reached .0 ∙ ap (withWork p) w) ∙ closing-says (withWork p (wholeWork (rows p) (width p) (score p))) r refl)
 
 -- ---- a forged part
-
--- two clusters without reads, all rows marked, and the first two triples held with scores that nobody worked out
-pub forged : Part
-forged =
-    withWork (freshPart 2 [] [])
-    (record { marks = 7; held = record { position = 0; score = nat 1 } ∷ record { position = 1; score = nat 0 } ∷ [] })
 
 -- its shape is right
 pub forged-right : rightPart forged ≡ true

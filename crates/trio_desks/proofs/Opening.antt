@@ -30,13 +30,16 @@ use Rattle.trio_opening.specs.Opening.{openStep}
 
 -- ---- what it tells
 
-pub record Opened (n : ℕ) (counts : List ℕ) (weights : List Float) : Type 0 where
-  pub some-clusters : 1 ≤ n
-  pub few-clusters : n ≤ 8
-  pub counts-length : length counts ≡ 3 * n
-  pub weights-length : length weights ≡ n
-  pub counts-allowed : every countAllowed counts ≡ true
-  pub weights-allowed : every weightAllowed weights ≡ true
+-- the outcomes of the five tests of an opening that is not refused
+record Passed (a b c d e : Bool) : Type 0 where
+  no-first : a ≡ false
+  no-second : b ≡ false
+  third : c ≡ true
+  fourth : d ≡ true
+  fifth : e ≡ true
+
+suc-not-zero : {k : ℕ} → suc k ≡ 0 → ⊥
+suc-not-zero q = omega arith
 
 module _ (n : ℕ) (counts : List ℕ) (weights : List Float) where
   -- openStep over the outcomes of its five tests
@@ -44,16 +47,6 @@ module _ (n : ℕ) (counts : List ℕ) (weights : List Float) where
   openedBy a b c d e =
       cond a (gives NoCluster emptyPart) (cond b (gives TooMany emptyPart) (cond (not c) (gives Shape emptyPart)
       (cond (not d) (gives Count emptyPart) (cond (not e) (gives Weight emptyPart) (gives Done (freshPart n counts weights))))))
-
-  pub record Passed (a b c d e : Bool) : Type 0 where
-    pub no-first : a ≡ false
-    pub no-second : b ≡ false
-    pub third : c ≡ true
-    pub fourth : d ≡ true
-    pub fifth : e ≡ true
-
-  suc-not-zero : {k : ℕ} → suc k ≡ 0 → ⊥
-  suc-not-zero q = omega arith
 
   passed : (a b c d e : Bool) → numberOf (openedBy a b c d e .refusal) ≡ 0 → Passed a b c d e
   passed true b c d e h = absurd (suc-not-zero h)
@@ -66,25 +59,26 @@ module _ (n : ℕ) (counts : List ℕ) (weights : List Float) where
   abbrev pub shaped : Bool
   shaped = eqb (length counts) (3 * n) && eqb (length weights) n
 
-  pub opened-tells : numberOf (openStep n counts weights .refusal) ≡ 0 → Opened n counts weights
-  unfolding openStep
-  opened-tells h =
-      let p = passed (eqb n 0) (ltb 8 n) shaped (every countAllowed counts) (every weightAllowed weights) h in
-      let z = eqb-false n 0 (p .no-first) in
-      record {
-        some-clusters = omega arith;
-        few-clusters = ltb-false 8 n (p .no-second);
-        counts-length = eqb-true (length counts) (3 * n) (and-elim-left (eqb (length counts) (3 * n)) (eqb (length weights) n) (p .third));
-        weights-length = eqb-true (length weights) n (and-elim-right (eqb (length counts) (3 * n)) (eqb (length weights) n) (p .third));
-        counts-allowed = p .fourth;
-        weights-allowed = p .fifth;
-      }
+  module _ (accepted : numberOf (openStep n counts weights .refusal) ≡ 0) where
+    tests : Passed (eqb n 0) (ltb 8 n) shaped (every countAllowed counts) (every weightAllowed weights)
+    unfolding openStep
+    tests = passed (eqb n 0) (ltb 8 n) shaped (every countAllowed counts) (every weightAllowed weights) accepted
 
-  pub opened-is : numberOf (openStep n counts weights .refusal) ≡ 0 → openStep n counts weights ≡ gives Done (freshPart n counts weights)
-  unfolding openStep
-  opened-is h =
-      let p = passed (eqb n 0) (ltb 8 n) shaped (every countAllowed counts) (every weightAllowed weights) h in
-      rw (p .no-first, p .no-second, p .third, p .fourth, p .fifth)
+    some-clusters : 1 ≤ n
+    some-clusters = let z = eqb-false n 0 (tests .no-first) in omega arith
+
+    pub few-clusters : n ≤ 8
+    few-clusters = ltb-false 8 n (tests .no-second)
+
+    counts-length : length counts ≡ 3 * n
+    counts-length = eqb-true (length counts) (3 * n) (and-elim-left (eqb (length counts) (3 * n)) (eqb (length weights) n) (tests .third))
+
+    weights-length : length weights ≡ n
+    weights-length = eqb-true (length weights) n (and-elim-right (eqb (length counts) (3 * n)) (eqb (length weights) n) (tests .third))
+
+    pub opened-is : openStep n counts weights ≡ gives Done (freshPart n counts weights)
+    unfolding openStep
+    opened-is = rw (tests .no-first, tests .no-second, tests .third, tests .fourth, tests .fifth)
 
 -- ---- the shape of what it gives
 
@@ -108,26 +102,27 @@ no-score : (p : ℕ) → isNan (nat 0) ≡ false
 unfolding isNan ofInt
 no-score p = refl
 
-module _ (n : ℕ) (counts : List ℕ) (weights : List Float) (o : Opened n counts weights) where
+module _ (n : ℕ) (counts : List ℕ) (weights : List Float) (accepted : numberOf (openStep n counts weights .refusal) ≡ 0) where
   -- no row worked is sound work of any search
   fresh-work : workRight (genotypeCount n) (noWork .marks) (heldOf (noWork .held)) ≡ true
   fresh-work =
-      let s = genotypes-some n (o .some-clusters) in
-      let f = genotypes-few n (o .few-clusters) in
+      let s = genotypes-some n (some-clusters n counts weights accepted) in
+      let f = genotypes-few n (few-clusters n counts weights accepted) in
       work-right {score = λ (p : ℕ). nat 0} no-score s (omega arith) none-sound
 
   pub fresh-places : length (freshPart n counts weights .weights) ≡ 8
   fresh-places =
-      let f = o .few-clusters in
-      padded-length 8 (nat 0) weights (omega (arith, o .weights-length))
+      let f = few-clusters n counts weights accepted in
+      padded-length 8 (nat 0) weights (omega (arith, weights-length n counts weights accepted))
 
   pub fresh-right : rightPart (freshPart n counts weights) ≡ true
   unfolding rightPart inputRight
   fresh-right =
+      let t = tests n counts weights accepted in
       and-intro
-      (and-intro (le-leb 1 n (o .some-clusters)) (and-intro (le-leb n 8 (o .few-clusters)) (and-intro
-      (ap (λ (i : ℕ). placesRight countAllowed noCount i (padded 24 0 counts)) (sym (o .counts-length))
-      ∙ places-padded countAllowed noCount 0 refl 24 counts (o .counts-allowed))
-      (ap (λ (i : ℕ). placesRight weightAllowed noWeight i (padded 8 (nat 0) weights)) (sym (o .weights-length))
-      ∙ places-padded weightAllowed noWeight (nat 0) no-weight 8 weights (o .weights-allowed)))))
+      (and-intro (le-leb 1 n (some-clusters n counts weights accepted)) (and-intro (le-leb n 8 (few-clusters n counts weights accepted)) (and-intro
+      (ap (λ (i : ℕ). placesRight countAllowed noCount i (padded 24 0 counts)) (sym (counts-length n counts weights accepted))
+      ∙ places-padded countAllowed noCount 0 refl 24 counts (t .fourth))
+      (ap (λ (i : ℕ). placesRight weightAllowed noWeight i (padded 8 (nat 0) weights)) (sym (weights-length n counts weights accepted))
+      ∙ places-padded weightAllowed noWeight (nat 0) no-weight 8 weights (t .fifth)))))
       fresh-work

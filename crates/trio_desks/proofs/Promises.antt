@@ -30,7 +30,8 @@ use Rattle.trio.specs.Steps.{scoreIn, rowStep, mergeStep}
 use Rattle.trio_closings.specs.Closing.{closedAs, refusedClosing, closeStep}
 use Rattle.trio_desks.specs.Call.{onePassCall}
 use Rattle.trio_desks.proofs.HandBack.{close-back, refused-back}
-use Rattle.trio_desks.specs.History.{History, opened, worked, merged, mergedOther, closed, partOf, rowsOf, Later, itself, then-worked, then-merged, merged-into, then-refused, then-closed, Promised}
+use Rattle.trio_desks.specs.History.{History, opened, worked, merged, mergedOther, closed, partOf, rowsOf, Later, itself}
+use Rattle.trio_desks.specs.History.{then-worked, then-merged, merged-into, then-refused, then-closed, Promised}
 
 same-self : (a : List ℕ) → sameNumbers a a ≡ true
 same-self [] = refl
@@ -109,16 +110,21 @@ module _ (start : Part) (right-start : rightPart start ≡ true) (none : start �
     work-back = λ i. record { marks = v .marks; held = held-back (InRows width score w) (v .held) (s .held-best) i }
 
     -- what a row gives
-    row-on : (r : ℕ) → rowStep (withWork start v) r ≡ cond (ltb r rows) (gives Done (withWork start (joined v (rowWork width score r)))) (gives Row (withWork start v))
+    row-on : (r : ℕ) → rowStep (withWork start v) r
+        ≡ cond (ltb r rows) (gives Done (withWork start (joined v (rowWork width score r)))) (gives Row (withWork start v))
     unfolding rowStep
-    row-on r = rw right-with (ap (λ (z : Work). cond (ltb r rows) (gives Done (withWork start (joined z (rowWork width score r)))) (gives Row (withWork start v))) work-back)
+    row-on r =
+        rw right-with
+        (ap (λ (z : Work). cond (ltb r rows) (gives Done (withWork start (joined z (rowWork width score r)))) (gives Row (withWork start v))) work-back)
 
-    other-on : (q : Part) → T (not (rightPart q && sameInput start q)) → mergeStep (withWork start v) q ≡ gives (cond (rightPart q) OtherTrio BadPart) (withWork start v)
+    other-on : (q : Part) → T (not (rightPart q && sameInput start q))
+        → mergeStep (withWork start v) q ≡ gives (cond (rightPart q) OtherTrio BadPart) (withWork start v)
     unfolding mergeStep sameInput
     other-on q o = rw right-with (go (rightPart q) (sameInput start q) o (withWork (withWork start v) (joined (workIn (withWork start v)) (workIn q))))
       where
         go : (t u : Bool) → T (not (t && u)) → (p : Part)
-            → cond t (cond u (gives Done p) (gives OtherTrio (withWork start v))) (gives BadPart (withWork start v)) ≡ gives (cond t OtherTrio BadPart) (withWork start v)
+            → cond t (cond u (gives Done p) (gives OtherTrio (withWork start v))) (gives BadPart (withWork start v))
+            ≡ gives (cond t OtherTrio BadPart) (withWork start v)
         go true true n p = absurd n
         go true false n p = refl
         go false u n p = refl
@@ -143,11 +149,13 @@ module _ (start : Part) (right-start : rightPart start ≡ true) (none : start �
       and-intro (eq-eqb (start .clusters) (start .clusters) refl)
       (and-intro (same-self (start .counts)) (same-self (map (toBits binary64) (start .weights))))
 
-  merge-on : (w u : ℕ → Bool) (v z : Work) → IsSound w v → IsSound u z → mergeStep (withWork start v) (withWork start z) ≡ gives Done (withWork start (joined v z))
+  merge-on : (w u : ℕ → Bool) (v z : Work) → IsSound w v → IsSound u z
+      → mergeStep (withWork start v) (withWork start z) ≡ gives Done (withWork start (joined v z))
   unfolding mergeStep
   merge-on w u v z s t =
       rw (right-with w v s, right-with u z t, same-on v z)
-      (ap (λ (x : Work). gives Done (withWork start (joined x (workIn (withWork start z))))) (work-back w v s) ∙ ap (λ (x : Work). gives Done (withWork start (joined v x))) (work-back u z t))
+      (ap (λ (x : Work). gives Done (withWork start (joined x (workIn (withWork start z))))) (work-back w v s)
+      ∙ ap (λ (x : Work). gives Done (withWork start (joined v x))) (work-back u z t))
 
   -- a part is the input with sound work for the rows worked into it
   came : (h : History start) → (v : Work) × (partOf start h ≡ withWork start v) × IsSound (rowsOf start h) v

@@ -32,7 +32,7 @@ use Rattle.trio_desks.specs.Call.{onePassCall, calledBy, callOf}
 use Rattle.trio_desks.specs.UnreadCall.{lastTriple, LastUnread}
 use Rattle.trio_desks.proofs.Flat.{flat-pass}
 use Rattle.trio_laws.proofs.Inputs.{input-accepted}
-use Rattle.trio_desks.proofs.Opening.{opened-tells, opened-is, fresh-places, fresh-right}
+use Rattle.trio_desks.proofs.Opening.{few-clusters, opened-is, fresh-places, fresh-right}
 use Rattle.trio_laws.proofs.ScoreBounds.{unread-least}
 
 -- the last position has the last genotype three times
@@ -102,7 +102,8 @@ pub unread-column : (n : ℕ) (counts : List ℕ) → unread n counts ≡ true �
 unfolding unread
 unread-column n counts h = go (eqb (columnTotal n counts Child) 0) refl (eqb (columnTotal n counts Father) 0) refl h
   where
-    go : (a : Bool) → eqb (columnTotal n counts Child) 0 ≡ a → (b : Bool) → eqb (columnTotal n counts Father) 0 ≡ b → (a || (b || eqb (columnTotal n counts Mother) 0)) ≡ true
+    go : (a : Bool) → eqb (columnTotal n counts Child) 0 ≡ a → (b : Bool) → eqb (columnTotal n counts Father) 0 ≡ b
+        → (a || (b || eqb (columnTotal n counts Mother) 0)) ≡ true
         → (s : Sample) × (columnTotal n counts s ≡ 0)
     go true e b f h = (Child, eqb-true (columnTotal n counts Child) 0 e)
     go false e true f h = (Father, eqb-true (columnTotal n counts Father) 0 f)
@@ -114,15 +115,17 @@ unfolding unread
 unread-of n counts e = or-inr (eqb (columnTotal n counts Child) 0) _ (or-inr (eqb (columnTotal n counts Father) 0) _ (eq-eqb (columnTotal n counts Mother) 0 e))
 
 module _ (n : ℕ) (counts : List ℕ) (weights : List Float) (accepted : numberOf (openStep n counts weights .refusal) ≡ 0) (many : 2 ≤ n) where
+  -- the whole answer, from two clusters on, as `LastUnread` says it: X2 cites it (examples), and it is by the same `last-unread` that a
+  -- forged part is found out (Forged.antt). What the position, the score and the ground are with one cluster too stands above this crate,
+  -- over what a call means: `unread-last`, `unread-score`, `ground-means` (trio_meanings)
   pub unread-call : unread n counts ≡ true → LastUnread n (callOf n counts weights)
   unfolding calledBy
   unread-call none =
-      let o = opened-tells n counts weights accepted in
-      let f = o .few-clusters in
+      let f = few-clusters n counts weights accepted in
       let p = freshPart n counts weights in
       let u : unread n (p .counts) ≡ true = unread-padded counts n ∙ none in
-      let r = right-input p (fresh-right n counts weights o) in
-      let a = input-accepted p r (fresh-places n counts weights o) in
+      let r = right-input p (fresh-right n counts weights accepted) in
+      let a = input-accepted p r (fresh-places n counts weights accepted) in
       let c = unread-column n (p .counts) u in
       subst (λ (s : Stepped). LastUnread n (calledBy s)) (sym (opened-is n counts weights accepted))
       (last-unread p many f (λ q. unread-least n (p .counts) (p .weights) a q (c .0) (c .1)) u)

@@ -15,20 +15,23 @@ use Rattle.trio_opening.specs.Opening.{openStep}
 use Rattle.trio.specs.Steps.{scoreIn, rowStep}
 use Rattle.trio_closings.specs.Closing.{closedAs, refusedClosing}
 
--- what one undivided pass over the input of a part says: it keeps the best triple and the best of the rest, a later equal score replacing an earlier one
+-- D3, T5: what one undivided pass over the input of a part says: it keeps the best triple and the best of the rest, a later equal score
+-- replacing an earlier one
 abbrev pub onePassCall : Part → Closed
 onePassCall p = closedAs (withWork p (wholeWork (rowCount p) (rowWidth (p .clusters)) (scoreIn p)))
 
--- what an opening leads to: its refusal, or the one pass over its input
+-- D2, O1: what an opening leads to: its refusal, or the one pass over its input
 unfoldable pub calledBy : Stepped → Closed
 calledBy o = cond (eqb (numberOf (o .refusal)) 0) (onePassCall (o .part)) (refusedClosing (o .refusal) (o .part))
 
+-- D2: the whole call, of a cluster number, counts and weights
 abbrev pub callOf : ℕ → List ℕ → List Float → Closed
 callOf n counts weights = calledBy (openStep n counts weights)
 
 -- ---- for the code
 
--- the part after its first k rows, in rising order
+-- T6: the part after its first k rows, in rising order; with all of them, closing it is the call: `worked-call`
+-- (trio_desks/proofs/Demand.antt)
 unfoldable pub workedTo : Part → ℕ → Part
 workedTo p zero = p
 workedTo p (suc k) = rowStep (workedTo p k) k .part

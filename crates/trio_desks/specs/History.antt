@@ -1,4 +1,4 @@
--- What desks may do with the parts of one input, and what they are promised. Definitions only (RULES.md, D3).
+-- What desks may do with the parts of one input, and what they are promised. Definitions only (RULES.md, D3, D1, O2).
 use Prim.Native.Nat.{ℕ, _<_}
 use mathlib.Core.Bool.{Bool, true, false, not, cond, _&&_, _||_}
 use mathlib.Core.Logic.{_≢_}
@@ -20,8 +20,9 @@ use Rattle.trio_closings.specs.Closing.{closeStep, refusedClosing}
 use Rattle.trio_desks.specs.Call.{onePassCall}
 use Rattle.trio_desks.specs.Steps.{Step, refusalOf, partAfter}
 
--- what desks do with the parts of one input, `start` being the part that opening it gave
+-- D3: what desks do with the parts of one input, `start` being the part that opening it gave
 pub data History (start : Part) : Type 0 where
+  -- opened, and nothing done with it yet
   opened : History start
   -- a row worked, or refused where there is no such row
   worked : History start → ℕ → History start
@@ -33,7 +34,7 @@ pub data History (start : Part) : Type 0 where
   closed : History start → History start
 
 module _ (start : Part) where
-  -- the part that a history ends with
+  -- D3: the part that a history ends with
   unfoldable pub partOf : History start → Part
   partOf opened = start
   partOf (worked h r) = rowStep (partOf h) r .part
@@ -41,7 +42,7 @@ module _ (start : Part) where
   partOf (mergedOther h q o) = mergeStep (partOf h) q .part
   partOf (closed h) = closeStep (partOf h) .part
 
-  -- the rows that went into that part, worked there or come with a merge; where a step is refused, none
+  -- D3: the rows that went into that part, worked there or come with a merge; where a step is refused, none
   unfoldable pub rowsOf : History start → ℕ → Bool
   rowsOf opened r = false
   rowsOf (worked h s) r = cond (ltb s (rowCount start)) (rowsOf h r || eqb s r) (rowsOf h r)
@@ -49,19 +50,21 @@ module _ (start : Part) where
   rowsOf (mergedOther h q o) r = rowsOf h r
   rowsOf (closed h) r = rowsOf h r
 
-  -- every row has been worked
+  -- D3: no row is missing: every row has been worked
   abbrev pub AllWorked : History start → Type 0
   AllWorked h = (r : ℕ) → r < rowCount start → rowsOf h r ≡ true
 
-  -- k goes on from h: by steps, and by merges on either side
+  -- D3, "from then on": k goes on from h, by steps, and by merges on either side
   pub data Later (h : History start) : History start → Type 0 where
     itself : Later h h
     then-worked : {k : History start} → Later h k → (r : ℕ) → Later h (worked k r)
     then-merged : {k : History start} → Later h k → (l : History start) → Later h (merged k l)
     merged-into : {k : History start} → Later h k → (l : History start) → Later h (merged l k)
-    then-refused : {k : History start} → Later h k → (q : Part) (o : T (not (rightPart q && sameInput start q))) → Later h (mergedOther k q o)
+    then-refused : {k : History start} → Later h k → (q : Part) (o : T (not (rightPart q && sameInput start q)))
+        → Later h (mergedOther k q o)
     then-closed : {k : History start} → Later h k → Later h (closed k)
 
+  -- D3, and D1 and O2 for what is refused: what is promised of the part that a history ends with
   pub record Promised (h : History start) : Type 0 where
     -- its shape is right, so that no step refuses it as a bad part
     pub right : rightPart (partOf h) ≡ true
@@ -80,7 +83,8 @@ module _ (start : Part) where
     -- a row is accepted exactly when there is such a row
     pub row-accepted : (r : ℕ) → rowStep (partOf h) r .refusal ≡ cond (ltb r (rowCount start)) Done Row
     -- a merge with a bad part is refused as such, one with a part of another input as that, and either hands the part back
-    pub other-refused : (q : Part) → T (not (rightPart q && sameInput start q)) → mergeStep (partOf h) q ≡ gives (cond (rightPart q) OtherTrio BadPart) (partOf h)
+    pub other-refused : (q : Part) → T (not (rightPart q && sameInput start q))
+        → mergeStep (partOf h) q ≡ gives (cond (rightPart q) OtherTrio BadPart) (partOf h)
     -- and a merge with the part of another history is always accepted
     pub merge-accepted : (k : History start) → mergeStep (partOf h) (partOf k) .refusal ≡ Done
     -- whatever step is not answered with Done, the part that comes back is the one that was given

@@ -1,4 +1,4 @@
--- The part that is opened, and the steps that take a part, as one kind of thing. Definitions only (RULES.md, O1, O2).
+-- For the laws: the part that is opened, and the steps that take a part, as one kind of thing. Definitions only (RULES.md, T6, O1, O2, O3).
 use Prim.Native.Nat.{ℕ}
 use mathlib.Core.List.{List}
 use lib.Ieee.{Float}
@@ -8,7 +8,7 @@ use Rattle.trio_opening.specs.Opening.{openStep}
 use Rattle.trio.specs.Steps.{rowStep, mergeStep}
 use Rattle.trio_closings.specs.Closing.{closeStep}
 
--- T6, O3: the part that opening gives
+-- T6, O3: the part that opening gives, of all zeros where it is refused
 abbrev pub openedPart : ℕ → List ℕ → List Float → Part
 openedPart n counts weights = openStep n counts weights .part
 

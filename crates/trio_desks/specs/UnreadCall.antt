@@ -1,4 +1,4 @@
--- What the call of an unread trio is. Definitions only (RULES.md, T4, T10, X2).
+-- For the laws: what the call of an unread trio is. Definitions only (RULES.md, T4, T5, T10, X2).
 use Prim.Native.Nat.{ℕ, _-_, _*_}
 use mathlib.Core.Path.{_≡_}
 use lib.Ieee.{inf}
@@ -10,11 +10,11 @@ use Rattle.trio_family.specs.declared.pair.Triple.{Triple}
 use Rattle.trio_family.specs.Genotypes.{genotypeCount, pair}
 use Rattle.trio_triples.specs.Genotypes.{rowWidth}
 
--- every animal with the last genotype: both alleles name the last cluster
+-- T1: every animal with the last genotype: both alleles name the last cluster
 abbrev pub lastTriple : ℕ → Triple
 lastTriple n = record { child = pair (n - 1) (n - 1); father = pair (n - 1) (n - 1); mother = pair (n - 1) (n - 1) }
 
--- the last position of all, with the last genotypes, and Unread
+-- T4, T5, T10: c calls the last position of all, with the last genotypes, at minus infinity, and its ground is Unread
 pub record LastUnread (n : ℕ) (c : Closed) : Type 0 where
   pub is-done : c .refusal ≡ Done
   pub at : c .part .held .first .position ≡ genotypeCount n * rowWidth n - 1

@@ -149,7 +149,8 @@ module _ {A : Type 0} (beats : A → A → Bool) where
 
     -- ---- offering a list
 
-    pub all-offered-best : (k : ℕ) (l : List A) (S : A → Type 0) (h : List A) → ((x : A) → S x → Good x) → ((x : A) → In l x → Good x) → Best beats k S h → Fresh h l
+    pub all-offered-best : (k : ℕ) (l : List A) (S : A → Type 0) (h : List A) → ((x : A) → S x → Good x) → ((x : A) → In l x → Good x)
+        → Best beats k S h → Fresh h l
         → Best beats k (Or S (In l)) (allOffered k h l)
     all-offered-best k [] S h gs gl b f = best-ext k S (Or S (In [])) (λ x s. inl s) (λ x. ⊎-elim (λ s. s) absurd) h b
     all-offered-best k (a ∷ l) S h gs gl b f =
@@ -173,8 +174,10 @@ module _ {A : Type 0} (beats : A → A → Bool) where
     absorbed (suc k) S U W [] h c i j b =
         best-ext (suc k) (Or S U) (Or S W) (λ x. ⊎-elim (λ s. inl s) (λ u. inr (j x u))) (λ x. ⊎-elim (λ s. inl s) (λ v. absurd (c x v))) h b
     absorbed (suc k) S U W (q ∷ g) [] c i j b = absurd (b q (inr (i q (inl refl))))
-    absorbed (suc k) S U W (q ∷ g) (p ∷ h) c i j b =
-        ((⊎-elim (λ s. inl s) (λ u. inr (j p u)) (b .0 .0), λ x. ⊎-elim (λ s. b .0 .1 x (inl s)) (under x)), rest (absorbed k) (b .0 .1 q (inr (i q (inl refl)))))
+    absorbed (suc k) S U W (q ∷ g) (p ∷ h) c i j b = (
+      (⊎-elim (λ s. inl s) (λ u. inr (j p u)) (b .0 .0), λ x. ⊎-elim (λ s. b .0 .1 x (inl s)) (under x)),
+      rest (absorbed k) (b .0 .1 q (inr (i q (inl refl)))),
+    )
       where
         under : (x : A) → W x → (x ≡ p) ⊎ T (beats p x)
         under x v = ⊎-elim (λ e. subst (λ (y : A). (y ≡ p) ⊎ T (beats p y)) (sym e) (b .0 .1 q (inr (i q (inl refl)))))

@@ -55,13 +55,15 @@ module _ (replaces : Entry → Entry → Bool) where
           → IsBest beatsOf (In (b ∷ e ∷ l)) (keptOf replaces (cond t e b) l)
       go true q stays goes = (
         inr (goes .0),
-        λ x. ⊎-elim (λ a. inr (best-beats (In (e ∷ l)) (keptOf replaces e l) goes e x (inl refl) (subst (λ (z : Entry). T (beatsOf e z)) (sym a) (fair .better q)))) (goes .1 x),
+        λ x. ⊎-elim (λ a. inr (best-beats (In (e ∷ l)) (keptOf replaces e l) goes e x (inl refl)
+            (subst (λ (z : Entry). T (beatsOf e z)) (sym a) (fair .better q)))) (goes .1 x),
       )
       go false q stays goes = (
         ⊎-elim (λ a. inl a) (λ i. inr (inr i)) (stays .0),
         λ x. ⊎-elim (λ a. stays .1 x (inl a))
             (⊎-elim (λ a. ⊎-elim (λ c. stays .1 x (inl (a ∙ c)))
-            (λ t. inr (best-beats (In (b ∷ l)) (keptOf replaces b l) stays b x (inl refl) (subst (λ (z : Entry). T (beatsOf b z)) (sym a) t))) (fair .no-better q))
+            (λ t. inr (best-beats (In (b ∷ l)) (keptOf replaces b l) stays b x (inl refl)
+            (subst (λ (z : Entry). T (beatsOf b z)) (sym a) t))) (fair .no-better q))
             (λ i. stays .1 x (inr i))),
       )
 
@@ -85,7 +87,8 @@ module _ (replaces : Entry → Entry → Bool) where
             (λ x i. (without-in (p .position) (e ∷ l) x i .0, λ c. without-in (p .position) (e ∷ l) x i .1 (ap (λ (z : Entry). z .position) (sym c))))
             (λ x s. in-without (p .position) (e ∷ l) x (s .0) (λ c. s .1 (one x p (s .0) (b .0) (sym c))))
             (kept replaces k others)
-            (kept-best k others (λ x y i j. one x y (without-in (p .position) (e ∷ l) x i .0) (without-in (p .position) (e ∷ l) y j .0)) (without-fair (p .position) (e ∷ l) f)),
+            (kept-best k others (λ x y i j. one x y (without-in (p .position) (e ∷ l) x i .0) (without-in (p .position) (e ∷ l) y j .0))
+            (without-fair (p .position) (e ∷ l) f)),
       )
 
 -- what is better replaces: with one entry at each position that is fair

@@ -56,7 +56,8 @@ tidy-two zero f s h k = absurd (h refl)
 tidy-two (suc zero) f s h k = absurd (k refl)
 tidy-two (suc (suc n)) f s h k = go (eqb (f .position) (s .position)) refl
   where
-    go : (t : Bool) → eqb (f .position) (s .position) ≡ t → cond (t || false) (heldOf (f ∷ [])) (heldOf (offered beatsOf 2 s (f ∷ []))) ≡ heldOf (mergedHeld (f ∷ s ∷ []) [])
+    go : (t : Bool) → eqb (f .position) (s .position) ≡ t
+        → cond (t || false) (heldOf (f ∷ [])) (heldOf (offered beatsOf 2 s (f ∷ []))) ≡ heldOf (mergedHeld (f ∷ s ∷ []) [])
     go true e = ap heldOf (sym (shared-kept f s e))
     go false e = ap heldOf (sym (apart-kept f s e))
 

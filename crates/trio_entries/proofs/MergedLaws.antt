@@ -25,7 +25,8 @@ pub held-at : (l : List Entry) (p : ℕ) → holdsAt l p ≡ true → (y : Entry
 held-at [] p h = absurd (subst T (sym h) tt)
 held-at (a ∷ l) p h = go (eqb (a .position) p) refl h (held-at l p)
   where
-    go : (t : Bool) → eqb (a .position) p ≡ t → (t || holdsAt l p) ≡ true → (holdsAt l p ≡ true → (y : Entry) × In l y × (y .position ≡ p)) → (y : Entry) × In (a ∷ l) y × (y .position ≡ p)
+    go : (t : Bool) → eqb (a .position) p ≡ t → (t || holdsAt l p) ≡ true
+        → (holdsAt l p ≡ true → (y : Entry) × In l y × (y .position ≡ p)) → (y : Entry) × In (a ∷ l) y × (y .position ≡ p)
     go true e k r = (a, inl refl, eqb-true (a .position) p e)
     go false e k r = let s = r k in (s .0, inr (s .1), s .2)
 
@@ -80,7 +81,8 @@ of-both-append (e ∷ a) b x (inl (inr i)) =
     inr (in-without (e .position) (firstAtEach (a ++ b)) x (of-both-append a b x (inl (w .0))) (w .1))
 of-both-append (e ∷ a) b x (inr i) = go (eqb (e .position) (x .position)) refl (i .1) (λ h. of-both-append a b x (inr (i .0, h)))
   where
-    go : (t : Bool) → eqb (e .position) (x .position) ≡ t → (t || holdsAt a (x .position)) ≡ false → (holdsAt a (x .position) ≡ false → In (firstAtEach (a ++ b)) x) → In (firstAtEach (e ∷ a ++ b)) x
+    go : (t : Bool) → eqb (e .position) (x .position) ≡ t → (t || holdsAt a (x .position)) ≡ false
+        → (holdsAt a (x .position) ≡ false → In (firstAtEach (a ++ b)) x) → In (firstAtEach (e ∷ a ++ b)) x
     go true q h r = absurd (true≢false h)
     go false q h r = inr (in-without (e .position) (firstAtEach (a ++ b)) x (r h) (eqb-false (e .position) (x .position) q))
 
@@ -108,7 +110,8 @@ without-holds : (l : List Entry) (q p : ℕ) → q ≢ p → holdsAt (without q 
 without-holds [] q p n = refl
 without-holds (a ∷ l) q p n = go (eqb q (a .position)) refl (without-holds l q p n)
   where
-    go : (t : Bool) → eqb q (a .position) ≡ t → holdsAt (without q l) p ≡ holdsAt l p → holdsAt (cond (not t) (a ∷ without q l) (without q l)) p ≡ (eqb (a .position) p || holdsAt l p)
+    go : (t : Bool) → eqb q (a .position) ≡ t → holdsAt (without q l) p ≡ holdsAt l p
+        → holdsAt (cond (not t) (a ∷ without q l) (without q l)) p ≡ (eqb (a .position) p || holdsAt l p)
     go true e r = rw (ne-eqb (a .position) p (λ c. n (eqb-true q (a .position) e ∙ c))) r
     go false e r = ap (λ (t : Bool). eqb (a .position) p || t) r
 
@@ -116,7 +119,8 @@ first-holds : (l : List Entry) (p : ℕ) → holdsAt (firstAtEach l) p ≡ holds
 first-holds [] p = refl
 first-holds (a ∷ l) p = go (eqb (a .position) p) refl (first-holds l p)
   where
-    go : (t : Bool) → eqb (a .position) p ≡ t → holdsAt (firstAtEach l) p ≡ holdsAt l p → (t || holdsAt (without (a .position) (firstAtEach l)) p) ≡ (t || holdsAt l p)
+    go : (t : Bool) → eqb (a .position) p ≡ t → holdsAt (firstAtEach l) p ≡ holdsAt l p
+        → (t || holdsAt (without (a .position) (firstAtEach l)) p) ≡ (t || holdsAt l p)
     go true e r = refl
     go false e r = without-holds (firstAtEach l) (a .position) p (eqb-false (a .position) p e) ∙ r
 
@@ -144,7 +148,9 @@ module _ (f s : Entry) where
 
 module _ (a : List Entry) where
   tidied-in : (x : Entry) → In (mergedHeld a []) x → In (firstAtEach a) x
-  tidied-in x i = ⊎-elim (λ j. j) (λ j. absurd (j .0)) (append-of-both a [] x (best-in beatsOf 2 (In (firstAtEach (a ++ []))) (mergedHeld a []) (merged-best-first a []) x i))
+  tidied-in x i =
+      ⊎-elim (λ j. j) (λ j. absurd (j .0))
+      (append-of-both a [] x (best-in beatsOf 2 (In (firstAtEach (a ++ []))) (mergedHeld a []) (merged-best-first a []) x i))
 
   tidied-best : Best beatsOf 2 (In (firstAtEach a)) (mergedHeld a [])
   tidied-best =
@@ -182,7 +188,8 @@ fresh-fresh own (suc k) S (q ∷ l) h b f =
     go (holdsAt own (q .position)) refl (fresh-fresh own k (Rest S q) l h (b .1) (λ x i s. f x i (s .0)))
     (fresh-fresh own k (Rest S q) l (q ∷ h) (b .1) (λ x i s. ⊎-elim (λ e. absurd (s .1 e)) (λ j. f x j (s .0)) i))
   where
-    go : (t : Bool) → holdsAt own (q .position) ≡ t → Fresh h (fresh own l) → Fresh (q ∷ h) (fresh own l) → Fresh h (cond (not t) (q ∷ fresh own l) (fresh own l))
+    go : (t : Bool) → holdsAt own (q .position) ≡ t → Fresh h (fresh own l) → Fresh (q ∷ h) (fresh own l)
+        → Fresh h (cond (not t) (q ∷ fresh own l) (fresh own l))
     go true e r s = r
     go false e r s = (λ i. absurd (subst T (sym (f q i (b .0 .0)) ∙ e) tt), s)
 
@@ -219,5 +226,6 @@ module _ (a b : List Entry) (a-whole : Whole a) where
       (fresh-fresh own 2 (In (firstAtEach b)) given own (tidied-best b) (λ x i s. in-held-at own x i))))
       (merged-best-first a b)
 
-pub merged-in-use : (n m : ℕ) (f s g h : Entry) → offeredFresh (mergedHeld (entriesUsed n f s) []) (mergedHeld (entriesUsed m g h) []) ≡ mergedHeld (entriesUsed n f s) (entriesUsed m g h)
+pub merged-in-use : (n m : ℕ) (f s g h : Entry)
+    → offeredFresh (mergedHeld (entriesUsed n f s) []) (mergedHeld (entriesUsed m g h) []) ≡ mergedHeld (entriesUsed n f s) (entriesUsed m g h)
 merged-in-use n m f s g h = tidied-merged (entriesUsed n f s) (entriesUsed m g h) (in-use-whole n f s) (in-use-whole m g h)

@@ -20,7 +20,8 @@ compared-ℕ a b = go (ltb a b) (ltb b a) refl refl
     go : (s t : Bool) → ltb a b ≡ s → ltb b a ≡ t → T (ltb a b) ⊎ ((a ≡ b) ⊎ T (ltb b a))
     go true t p q = inl (subst T (sym p) tt)
     go false true p q = inr (inr (subst T (sym q) tt))
-    go false false p q = inr (inl (le-antisymm (nltb→le b a (subst (λ (x : Bool). T (not x)) (sym q) tt)) (nltb→le a b (subst (λ (x : Bool). T (not x)) (sym p) tt))))
+    go false false p q =
+        inr (inl (le-antisymm (nltb→le b a (subst (λ (x : Bool). T (not x)) (sym q) tt)) (nltb→le a b (subst (λ (x : Bool). T (not x)) (sym p) tt))))
 
 pub compared-ℤ : (a b : ℤ) → T (ltZ a b) ⊎ ((a ≡ b) ⊎ T (ltZ b a))
 compared-ℤ (pos a) (pos b) = ⊎-elim (λ t. inl t) (⊎-elim (λ e. inr (inl (ap pos e))) (λ t. inr (inr t))) (compared-ℕ a b)
@@ -48,18 +49,24 @@ pub beats-above : (a b : Entry) → T (beatsOf a b) → Outranks a b
 unfolding beatsOf Outranks
 beats-above a b = go (ltZ (keyOf (b .score)) (keyOf (a .score))) (ltZ (keyOf (a .score)) (keyOf (b .score))) (ltb (b .position) (a .position)) refl refl refl
   where
-    go : (s t u : Bool) → ltZ (keyOf (b .score)) (keyOf (a .score)) ≡ s → ltZ (keyOf (a .score)) (keyOf (b .score)) ≡ t → ltb (b .position) (a .position) ≡ u → T (s || (not t && u)) → Outranks a b
+    go : (s t u : Bool) → ltZ (keyOf (b .score)) (keyOf (a .score)) ≡ s → ltZ (keyOf (a .score)) (keyOf (b .score)) ≡ t
+        → ltb (b .position) (a .position) ≡ u → T (s || (not t && u)) → Outranks a b
     go true t u p q r h = inl (subst T (sym p) tt)
     go false true u p q r h = absurd h
     go false false false p q r h = absurd h
     go false false true p q r h =
-        inr (⊎-elim (λ x. absurd (subst T q x)) (⊎-elim (λ e. e) (λ x. absurd (subst T p x))) (compared-ℤ (keyOf (a .score)) (keyOf (b .score))), ltb→lt _ _ (subst T (sym r) tt))
+        inr (
+          ⊎-elim (λ x. absurd (subst T q x)) (⊎-elim (λ e. e) (λ x. absurd (subst T p x)))
+              (compared-ℤ (keyOf (a .score)) (keyOf (b .score))),
+          ltb→lt _ _ (subst T (sym r) tt),
+        )
 
 above-beats : (a b : Entry) → Outranks a b → T (beatsOf a b)
 unfolding beatsOf Outranks
 above-beats a b = go (ltZ (keyOf (b .score)) (keyOf (a .score))) (ltZ (keyOf (a .score)) (keyOf (b .score))) (ltb (b .position) (a .position)) refl refl refl
   where
-    go : (s t u : Bool) → ltZ (keyOf (b .score)) (keyOf (a .score)) ≡ s → ltZ (keyOf (a .score)) (keyOf (b .score)) ≡ t → ltb (b .position) (a .position) ≡ u → Outranks a b → T (s || (not t && u))
+    go : (s t u : Bool) → ltZ (keyOf (b .score)) (keyOf (a .score)) ≡ s → ltZ (keyOf (a .score)) (keyOf (b .score)) ≡ t
+        → ltb (b .position) (a .position) ≡ u → Outranks a b → T (s || (not t && u))
     go true t u p q r h = tt
     go false t u p q r (inl x) = absurd (subst T p x)
     go false true u p q r (inr x) = absurd (irreflexive-ℤ (keyOf (b .score)) (subst (λ (k : ℤ). T (ltZ k (keyOf (b .score)))) (x .0) (subst T (sym q) tt)))
@@ -88,11 +95,13 @@ ranks-apart Good one =
       irreflexive = beats-irreflexive;
       transitive = beats-transitive;
       compared = λ a b g h. ⊎-elim (λ t. inr (inr (above-beats b a (inl t))))
-          (⊎-elim (λ e. by-position a b g h e (compared-ℕ (a .position) (b .position))) (λ t. inl (above-beats a b (inl t)))) (compared-ℤ (keyOf (a .score)) (keyOf (b .score)));
+          (⊎-elim (λ e. by-position a b g h e (compared-ℕ (a .position) (b .position))) (λ t. inl (above-beats a b (inl t))))
+          (compared-ℤ (keyOf (a .score)) (keyOf (b .score)));
     }
   where
     by-position : (a b : Entry) → Good a → Good b → keyOf (a .score) ≡ keyOf (b .score)
-        → T (ltb (a .position) (b .position)) ⊎ ((a .position ≡ b .position) ⊎ T (ltb (b .position) (a .position))) → T (beatsOf a b) ⊎ ((a ≡ b) ⊎ T (beatsOf b a))
+        → T (ltb (a .position) (b .position)) ⊎ ((a .position ≡ b .position) ⊎ T (ltb (b .position) (a .position)))
+        → T (beatsOf a b) ⊎ ((a ≡ b) ⊎ T (beatsOf b a))
     by-position a b g h e (inl t) = inr (inr (above-beats b a (inr (sym e, ltb→lt _ _ t))))
     by-position a b g h e (inr (inl p)) = inr (inl (one a b g h p))
     by-position a b g h e (inr (inr t)) = inl (above-beats a b (inr (e, ltb→lt _ _ t)))
@@ -103,4 +112,6 @@ larger-beats a b t = above-beats a b (inl t)
 
 pub later-beats : (a b : Entry) → ltZ (keyOf (a .score)) (keyOf (b .score)) ≡ false → b .position < a .position → T (beatsOf a b)
 unfolding Outranks
-later-beats a b n p = ⊎-elim (λ t. absurd (subst T n t)) (⊎-elim (λ e. above-beats a b (inr (e, p))) (λ t. above-beats a b (inl t))) (compared-ℤ (keyOf (a .score)) (keyOf (b .score)))
+later-beats a b n p =
+    ⊎-elim (λ t. absurd (subst T n t)) (⊎-elim (λ e. above-beats a b (inr (e, p))) (λ t. above-beats a b (inl t)))
+    (compared-ℤ (keyOf (a .score)) (keyOf (b .score)))

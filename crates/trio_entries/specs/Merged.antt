@@ -14,13 +14,14 @@ use Rattle.trio_entries.specs.Rank.{beatsOf}
 unfoldable pub mergedHeld : List Entry → List Entry → List Entry
 mergedHeld own given = kept beatsOf 2 (firstAtEach (own ++ given))
 
--- ---- for the code, and for what it means
+-- ---- for the code and for the laws: the entries of both as a set, of which `mergedHeld` is the best two
+-- (`merged-two-best`, trio_entries/proofs/MergedLaws.antt)
 
--- is an entry at this position among them?
+-- T8: is an entry at this position among them?
 abbrev pub holdsAt : List Entry → ℕ → Bool
 holdsAt [] p = false
 holdsAt (a ∷ more) p = eqb (a .position) p || holdsAt more p
 
--- the entries of both, as a set: the first at each position of `own`, and those of `given` at positions that `own` does not hold
+-- T8: the entries of both, as a set: the first at each position of `own`, and those of `given` at positions that `own` does not hold
 abbrev pub Both : List Entry → List Entry → Entry → Type 0
 Both own given e = In (firstAtEach own) e ⊎ (In (firstAtEach given) e × (holdsAt own (e .position) ≡ false))

@@ -5,23 +5,23 @@ use lib.ListN.{length}
 use Rattle.lists.specs.Lists.{numbers}
 use Rattle.trio_family.specs.declared.pair.Pair.{Pair}
 
--- the pair of two cluster numbers, as they are given
+-- T1: the pair of two cluster numbers, as they are given
 abbrev pub pair : ℕ → ℕ → Pair
 pair i j = record { low = i; high = j }
 
--- m pairs from (i, j) on, the second number rising
+-- T1: m pairs from (i, j) on, the second number rising
 abbrev pub pairsWith : ℕ → ℕ → ℕ → List Pair
 pairsWith i j m = map (pair i) (numbers j m)
 
--- the pairs of the m clusters from i on: (i,i), (i,i+1) .., then those from i+1 on
+-- T1: the pairs of the m clusters from i on: (i,i), (i,i+1) .., then those from i+1 on
 abbrev pub pairsFrom : ℕ → ℕ → List Pair
 pairsFrom i zero = []
 pairsFrom i (suc m) = pairsWith i i (suc m) ++ pairsFrom (suc i) m
 
--- (0,0), (0,1) .. (0,n-1), (1,1) ..
+-- T1: the genotypes of n clusters: (0,0), (0,1) .. (0,n-1), (1,1) .. (n-1,n-1)
 abbrev pub genotypes : ℕ → List Pair
 genotypes n = pairsFrom 0 n
 
--- G, counted from the list; also the number of rows, since a row is one genotype of the father
+-- T1: G, counted from the list; also the number of rows, since a row is one genotype of the father
 unfoldable pub genotypeCount : ℕ → ℕ
 genotypeCount n = length (genotypes n)

@@ -5,13 +5,13 @@ use Rattle.trio_family.specs.declared.sample.Sample.the-variants.{Child,
 use Rattle.trio_family.specs.declared.ground.Ground.{Ground}
 use Rattle.trio_family.specs.declared.ground.Ground.the-variants.{NoGround, Won, Tied, Unread}
 
--- the column of an animal
+-- T, F7: the column of an animal among the three counts of a cluster
 abbrev pub sampleNumber : Sample → ℕ
 sampleNumber Child = 0
 sampleNumber Father = 1
 sampleNumber Mother = 2
 
--- the number of a ground in the text forms
+-- T10, F7: the number of a ground in the text forms; 0 is that of a refusal, which has none (O2)
 abbrev pub groundNumber : Ground → ℕ
 groundNumber NoGround = 0
 groundNumber Won = 1

@@ -54,7 +54,8 @@ without-once p (q ∷ l) h =
     let parts = and-eq-true-iff (not (among q l)) (noRepeat l) .0 h in
     go (samePair p q) (still-gone p q l (not-true (among q l) (parts .0))) (without-once p l (parts .1))
   where
-    go : (b : Bool) → among q (withoutPair p l) ≡ false → noRepeat (withoutPair p l) ≡ true → noRepeat (cond (not b) (q ∷ withoutPair p l) (withoutPair p l)) ≡ true
+    go : (b : Bool) → among q (withoutPair p l) ≡ false → noRepeat (withoutPair p l) ≡ true
+        → noRepeat (cond (not b) (q ∷ withoutPair p l) (withoutPair p l)) ≡ true
     go true g k = k
     go false g k = rw g k
 
@@ -70,8 +71,10 @@ distinct-length (p ∷ l) = suc-le-suc (le-trans (passing-length (λ q. not (sam
 
 pub child-pairs-few : (f m : Pair) → (1 ≤ length (childPairs f m)) × (length (childPairs f m) ≤ 4)
 unfolding childPairs
-child-pairs-few f m =
-    (suc-le-suc zero-le, distinct-length (ordered (f .low) (m .low) ∷ ordered (f .low) (m .high) ∷ ordered (f .high) (m .low) ∷ ordered (f .high) (m .high) ∷ []))
+child-pairs-few f m = (
+  suc-le-suc zero-le,
+  distinct-length (ordered (f .low) (m .low) ∷ ordered (f .low) (m .high) ∷ ordered (f .high) (m .low) ∷ ordered (f .high) (m .high) ∷ []),
+)
 
 -- ---- X3 to X6
 

@@ -25,7 +25,8 @@ module _ {A : Type 0} (inUse unused : A → Bool) (d : A) where
   place-passed zero l i p h k = absurd (not-suc-le-zero h)
   place-passed (suc n) [] i p h k = absurd (not-suc-le-zero k)
   place-passed (suc n) (x ∷ l) zero p h k = and-elim-left (inUse x) (placesRight inUse unused n l) p
-  place-passed (suc n) (x ∷ l) (suc i) p h k = place-passed n l i (and-elim-right (inUse x) (placesRight inUse unused n l) p) (le-of-suc-le-suc h) (le-of-suc-le-suc k)
+  place-passed (suc n) (x ∷ l) (suc i) p h k =
+      place-passed n l i (and-elim-right (inUse x) (placesRight inUse unused n l) p) (le-of-suc-le-suc h) (le-of-suc-le-suc k)
 
 module _ (p : Part) (right : inputRight p ≡ true) (eight : length (p .weights) ≡ 8) where
   abbrev n : ℕ
@@ -48,7 +49,8 @@ module _ (p : Part) (right : inputRight p ≡ true) (eight : length (p .weights)
   count-at i h = go (ltb i (length (p .counts))) refl
     where
       go : (t : Bool) → ltb i (length (p .counts)) ≡ t → countAllowed (getD (p .counts) i 0) ≡ true
-      go true e = place-passed countAllowed noCount 0 (3 * n) (p .counts) i (and-elim-left counts-test weights-test places) h (ltb-true i (length (p .counts)) e)
+      go true e =
+          place-passed countAllowed noCount 0 (3 * n) (p .counts) i (and-elim-left counts-test weights-test places) h (ltb-true i (length (p .counts)) e)
       go false e = ap countAllowed (List·getD-eq-default (p .counts) 0 (ltb-false i (length (p .counts)) e))
 
   pub input-accepted : AcceptedTrio n (p .counts) (p .weights)
@@ -57,7 +59,9 @@ module _ (p : Part) (right : inputRight p ≡ true) (eight : length (p .weights)
         some = leb-true 1 n (and-elim-left (leb 1 n) (leb n 8 && (counts-test && weights-test)) some-clusters);
         few = few-clusters p right;
         count-allowed = count-at;
-        weight-allowed = λ c h. place-passed weightAllowed noWeight nan n (p .weights) c (and-elim-right counts-test weights-test places) h (omega (arith, few-clusters p right, eight));
+        weight-allowed =
+            λ c h. place-passed weightAllowed noWeight nan n (p .weights) c (and-elim-right counts-test weights-test places) h
+            (omega (arith, few-clusters p right, eight));
       }
 
   pub scores-numbers : (q : ℕ) → isNan (scoreIn p q) ≡ false

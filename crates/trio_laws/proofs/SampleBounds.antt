@@ -104,7 +104,8 @@ whole-within : (k : ℕ) → Within (2 ^ 36) (logBinomial k k (nat 1))
 unfolding logBinomial round ofInt le lt eq
 whole-within k = rw (le-ltb k k (le-refl k), and-false (ltb 0 k)) (within-whole (pos 0) (2 ^ 36) (lit≤ tt) (lit≤ tt))
 
-one-cluster-within : (counts : List ℕ) (s : Sample) (k c : ℕ) → c < 1 → Within (2 ^ 36) (logBinomial (reads counts (sampleNumber s) c) (columnTotal 1 counts s) (share 1 (genotypeAt 1 k) c))
+one-cluster-within : (counts : List ℕ) (s : Sample) (k c : ℕ) → c < 1
+    → Within (2 ^ 36) (logBinomial (reads counts (sampleNumber s) c) (columnTotal 1 counts s) (share 1 (genotypeAt 1 k) c))
 unfolding columnTotal
 one-cluster-within counts s k zero h = rw (only-genotype k, share-whole, add-zero) (whole-within (reads counts (sampleNumber s) 0))
 one-cluster-within counts s k (suc c) h = absurd (no-more c h)
@@ -126,7 +127,9 @@ weight-within w h =
     let high = and-r (le (nat 0) w) (le w (nat 1000)) t in
     let within = within-range w (within-whole (pos 0) 1000 (lit≤ tt) (lit≤ tt)) (within-whole (pos 1000) 1000 (lit≤ tt) (lit≤ tt)) low high in
     let total = within-add within (within-fraction 1 (10 ^ 3) 1 (lit< tt) (lit≤ tt) (lit≤ tt)) (lit≤ tt) in
-    let above = above-add (at-least-zero w (within .is-finite) low) (above-fraction 1 (10 ^ 3) 1 10 (lit< tt) (lit≤ tt) (lit≤ tt) (lit≤ tt) (lit≤ tt)) (lit≤ tt) total in
+    let above =
+    above-add (at-least-zero w (within .is-finite) low)
+    (above-fraction 1 (10 ^ 3) 1 10 (lit< tt) (lit≤ tt) (lit≤ tt) (lit≤ tt) (lit≤ tt)) (lit≤ tt) total in
     within-ln (w ⊕ decimal 1 3) (add-fits binary64 w (decimal 1 3)) (above .is-positive)
 
 -- ---- sums over the clusters
@@ -138,7 +141,8 @@ counted f b n i (suc m) each l =
     let later = counted f b n (suc i) m each (omega arith) in
     rw suc-mul (omega arith)
 
-summed : (f : ℕ → Float) (b n a i m : ℕ) {x : Float} → ((c : ℕ) → c < n → Within b (f c)) → i + m ≤ n → Within a x → a + m * b ≤ 2 ^ 53 → Within (a + m * b) (sumFrom x (map f (numbers i m)))
+summed : (f : ℕ → Float) (b n a i m : ℕ) {x : Float} → ((c : ℕ) → c < n → Within b (f c)) → i + m ≤ n → Within a x → a + m * b ≤ 2 ^ 53
+    → Within (a + m * b) (sumFrom x (map f (numbers i m)))
 summed f b n a i zero each l w s = rw (zero-mul, add-zero) w
 summed f b n a i (suc m) each l w s =
     let e : a + suc m * b ≡ a + b + m * b = rw suc-mul (omega arith) in
@@ -147,7 +151,8 @@ summed f b n a i (suc m) each l w s =
 -- ---- the score of an animal
 
 -- without reads
-pub sample-least : (n : ℕ) (counts : List ℕ) (weights : List Float) (s : Sample) (h : Pair) → columnTotal n counts s ≡ 0 → sampleScore n counts weights s h ≡ inf true
+pub sample-least : (n : ℕ) (counts : List ℕ) (weights : List Float) (s : Sample) (h : Pair) → columnTotal n counts s ≡ 0
+    → sampleScore n counts weights s h ≡ inf true
 unfolding sampleScore
 sample-least n counts weights s h z = rw z
 
@@ -164,12 +169,14 @@ module _ (n : ℕ) (counts : List ℕ) (weights : List Float) (a : AcceptedTrio 
     where
       one : 1 ≡ n → Within (2 ^ 36) (logBinomial (reads counts (sampleNumber s) c) (columnTotal n counts s) (share n (genotypeAt n k) c))
       one e =
-          subst (λ (m : ℕ). c < m → Within (2 ^ 36) (logBinomial (reads counts (sampleNumber s) c) (columnTotal m counts s) (share m (genotypeAt m k) c))) e (one-cluster-within counts s k c) h
+          subst (λ (m : ℕ). c < m → Within (2 ^ 36) (logBinomial (reads counts (sampleNumber s) c) (columnTotal m counts s) (share m (genotypeAt m k) c)))
+          e (one-cluster-within counts s k c) h
 
       more : 1 < n → Within (2 ^ 36) (logBinomial (reads counts (sampleNumber s) c) (columnTotal n counts s) (share n (genotypeAt n k) c))
       more l =
           let h′ = genotypeAt n k in
-          inside-within (reads counts (sampleNumber s) c) (columnTotal n counts s) (share n h′ c) (count-at-most n counts s c (rw (in-use n (a .few)) h)) total-small (div-fits binary64 (expectation h′ c) (expectationTotal n h′))
+          inside-within (reads counts (sampleNumber s) c) (columnTotal n counts s) (share n h′ c)
+          (count-at-most n counts s c (rw (in-use n (a .few)) h)) total-small (div-fits binary64 (expectation h′ c) (expectationTotal n h′))
           (share-inside n k c l (a .few) h)
 
   cluster-within : (k c : ℕ) → c < n → Within (2 ^ 37) (clusterTerm n counts weights s (genotypeAt n k) c)
@@ -181,9 +188,13 @@ module _ (n : ℕ) (counts : List ℕ) (weights : List Float) (a : AcceptedTrio 
   unfolding sampleScore
   sample-within k h =
       let small : 0 + n * 2 ^ 37 ≤ 2 ^ 40 = omega (arith, a .few) in
-      let all = summed (clusterTerm n counts weights s (genotypeAt n k)) (2 ^ 37) n 0 0 n (cluster-within k) (omega arith) (within-whole (pos 0) 0 (lit≤ tt) (lit≤ tt)) (omega arith) in
+      let all =
+      summed (clusterTerm n counts weights s (genotypeAt n k)) (2 ^ 37) n 0 0 n (cluster-within k) (omega arith)
+      (within-whole (pos 0) 0 (lit≤ tt) (lit≤ tt)) (omega arith) in
       rw (eqb-zero (columnTotal n counts s) h, in-use n (a .few)) (within-more all small)
 
   -- either way
   pub sample-low : (k : ℕ) → Low (2 ^ 40) (sampleScore n counts weights s (genotypeAt n k))
-  sample-low k = ⊎-elim (λ z. rw (sample-least n counts weights s (genotypeAt n k) z) least) (λ h. finite-low (sample-within k h)) (eq-zero-or-pos (columnTotal n counts s))
+  sample-low k =
+      ⊎-elim (λ z. rw (sample-least n counts weights s (genotypeAt n k) z) least) (λ h. finite-low (sample-within k h))
+      (eq-zero-or-pos (columnTotal n counts s))

@@ -49,8 +49,11 @@ mendel-within c f m = go (among (ordered (c .low) (c .high)) (childPairs f m))
     go : (t : Bool) → Within (2 ^ 12) (cond t (lnOf (nat 1 ⊘ nat d)) (lnOf (decimal 1 6)))
     go true =
         let few = child-pairs-few f m in
-        within-ln (nat 1 ⊘ nat d) (div-fits binary64 (nat 1) (nat d)) (every-between (λ (e : ℕ). positive (nat 1 ⊘ nat e)) 1 4 d reciprocals-positive (few .0) (suc-le-suc (few .1)))
-    go false = within-ln (decimal 1 6) (round-fits binary64 false 1 (10 ^ 6)) (above-fraction 1 (10 ^ 6) 1 20 (lit< tt) (lit≤ tt) (lit≤ tt) (lit≤ tt) (lit≤ tt) .is-positive)
+        within-ln (nat 1 ⊘ nat d) (div-fits binary64 (nat 1) (nat d))
+        (every-between (λ (e : ℕ). positive (nat 1 ⊘ nat e)) 1 4 d reciprocals-positive (few .0) (suc-le-suc (few .1)))
+    go false =
+        within-ln (decimal 1 6) (round-fits binary64 false 1 (10 ^ 6))
+        (above-fraction 1 (10 ^ 6) 1 20 (lit< tt) (lit≤ tt) (lit≤ tt) (lit≤ tt) (lit≤ tt) .is-positive)
 
 -- ---- the score at a position
 

@@ -65,7 +65,8 @@ module _ (n : ℕ) where
   triple-count = each-length ofFather (G * G) father-length (genotypes n) ∙ sym (mul-assoc G G G)
 
   -- kanpig's loops put the triple of f, m and c at f·G·G + m·G + c
-  placed : (f m c : ℕ) (d : Triple) → f < G → m < G → c < G → getD (triples n) (f * (G * G) + (m * G + c)) d ≡ triple (genotypeAt n f) (genotypeAt n m) (genotypeAt n c)
+  placed : (f m c : ℕ) (d : Triple) → f < G → m < G → c < G
+      → getD (triples n) (f * (G * G) + (m * G + c)) d ≡ triple (genotypeAt n f) (genotypeAt n m) (genotypeAt n c)
   unfolding genotypeAt
   placed f m c d hf hm hc =
       let none = pair 0 0 in

@@ -2,7 +2,6 @@
 -- Assumes nothing (RULES.md, T1).
 use Prim.Native.Nat.{ℕ, zero, suc, _≤_, _<_}
 use mathlib.Core.Bool.{Bool, true, false, _&&_}
-use mathlib.Core.List.{List, map}
 use mathlib.Core.Path.{_≡_, refl, sym, ap, _∙_}
 use mathlib.Mathlib.Data.Bool.Basic.{and-elim-left, and-intro, and-elim-right}
 use native.Mathlib.Nat.{zero-add, zero-mod, zero-div}
@@ -21,13 +20,9 @@ use Rattle.trio_triples.specs.Genotypes.{genotypeAt, tripleAt, tripleOf, triple
 use Rattle.trio_triples.proofs.GenotypesLaws.{triple-within}
 use Rattle.trio_laws.proofs.TripleLaws.{triple-count, triple-place, triple-once}
 use Rattle.trio_meanings.specs.Called.{positionCount}
-use Rattle.trio_meanings.specs.Loops.{noTriple, sameTriple}
+use Rattle.trio_meanings.specs.Loops.{noTriple, sameTriple, firstTriples}
 
 -- ---- the list
-
--- the triples of the first m positions
-abbrev pub firstTriples : ℕ → ℕ → List Triple
-firstTriples n m = map (tripleOf n) (numbers 0 m)
 
 listed-length : (n m : ℕ) → length (firstTriples n m) ≡ m
 listed-length n m = length-map (numbers 0 m) (tripleOf n) ∙ numbers-length 0 m

@@ -15,7 +15,7 @@ module _ (p : Part) where
   abbrev pub SomeUnmarked : Type 0
   SomeUnmarked = (r : ℕ) × (r < rowCount p) × (isMarked (p .marks) r ≡ false)
 
-  -- every row of the search has one
+  -- R10: every row of the search has one
   abbrev pub AllMarked : Type 0
   AllMarked = (r : ℕ) → r < rowCount p → isMarked (p .marks) r ≡ true
 

@@ -32,7 +32,8 @@ pub among-without : (p q : Pair) (l : List Pair) → samePair q p ≡ false → 
 among-without p q [] h = refl
 among-without p q (r ∷ l) h = go (samePair q r) refl (among-without p q l h)
   where
-    go : (b : Bool) → samePair q r ≡ b → among p (withoutPair q l) ≡ among p l → among p (cond (not b) (r ∷ withoutPair q l) (withoutPair q l)) ≡ (samePair r p || among p l)
+    go : (b : Bool) → samePair q r ≡ b → among p (withoutPair q l) ≡ among p l
+        → among p (cond (not b) (r ∷ withoutPair q l) (withoutPair q l)) ≡ (samePair r p || among p l)
     go true e k = k ∙ sym (ap (_|| among p l) (ap (λ x. samePair x p) (sym (same-is q r e)) ∙ h))
     go false e k = ap (samePair r p ||_) k
 

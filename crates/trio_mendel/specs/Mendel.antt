@@ -12,38 +12,40 @@ use Rattle.trio_family.specs.declared.pair.Pair.{Pair}
 use Rattle.trio_family.specs.Genotypes.{pair}
 use Rattle.trio_mendel.specs.declared.mendel.Possible.{Possible}
 
--- two cluster numbers as a pair, the lower first
+-- T3: two cluster numbers as a pair, the lower first
 abbrev pub ordered : ℕ → ℕ → Pair
 ordered a b = cond (leb a b) (pair a b) (pair b a)
 
+-- T3: the same pair: two pairs that are written alike
 abbrev pub samePair : Pair → Pair → Bool
 samePair p q = eqb (p .low) (q .low) && eqb (p .high) (q .high)
 
--- is p in the list?
+-- T3: is p in the list?
 abbrev pub among : Pair → List Pair → Bool
 among p [] = false
 among p (q ∷ l) = samePair q p || among p l
 
--- each pair of a list once, where it first stands
+-- T3: the different pairs of a list: each once, where it first stands
 abbrev pub distinct : List Pair → List Pair
 distinct l = distinctBy samePair l
 
--- the different pairs of one allele of the father and one of the mother; d is their number
+-- T3: the different pairs of one allele of the father and one of the mother; d is their number
 unfoldable pub childPairs : Pair → Pair → List Pair
 childPairs f m =
     distinct (ordered (f .low) (m .low) ∷ ordered (f .low) (m .high) ∷ ordered (f .high) (m .low) ∷ ordered (f .high) (m .high) ∷ [])
 
--- ln(1/d) for a child whose pair is among them, else ln(1e-6)
+-- T3: ln(1/d) for a child whose pair is among them, else ln(1e-6)
 unfoldable pub mendelTerm : Pair → Pair → Pair → Float
 mendelTerm c f m =
     cond (among (ordered (c .low) (c .high)) (childPairs f m)) (lnOf (nat 1 ⊘ nat (length (childPairs f m)))) (lnOf (decimal 1 6))
 
 -- ---- for the code
 
--- the pairs of a `Possible`
+-- T3: the pairs of a `Possible`: those in use of its four places
 abbrev pub possiblePairs : Possible → List Pair
 possiblePairs s = take (s .count) (s .pairs)
 
--- l with p at its end, unless it has it
+-- T3: l with p at its end, unless it has it; four pairs put in so are `distinct` of the four: `four-pushed`
+-- (trio_mendel/proofs/MendelLaws.antt)
 abbrev pub withPair : List Pair → Pair → List Pair
 withPair l p = cond (among p l) l (l ++ (p ∷ []))

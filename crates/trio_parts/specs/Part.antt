@@ -1,4 +1,4 @@
--- A part: its input and its work. Definitions only (RULES.md, S3, L3).
+-- A part: its input and its work. Definitions only (RULES.md, S3, L3, T6, O3).
 use Prim.Native.Nat.{ℕ}
 use mathlib.Core.Bool.{Bool}
 use mathlib.Core.List.{List, []}
@@ -15,34 +15,41 @@ use Rattle.trio_parts.specs.declared.part.Stepped.{Stepped}
 
 -- ---- the input
 
--- L3
+-- L3: a weight from 0 to 1000, ends included, and no NaN
 unfoldable pub weightAllowed : Float → Bool
 weightAllowed x = inRange (nat 0) (nat 1000) x
 
 -- ---- the work
 
--- a row is one genotype of the father
+-- T1: how many rows there are: a row is one genotype of the father
 abbrev pub rowCount : Part → ℕ
 rowCount p = genotypeCount (p .clusters)
 
+-- S3: the marks of a part and the entries that it holds
 abbrev pub workIn : Part → Work
 workIn p = record { marks = p .marks; held = heldList (p .held) }
 
--- the input of p with other work
+-- S3: the input of p with other work
 abbrev pub withWork : Part → Work → Part
 withWork p v = record { clusters = p .clusters; counts = p .counts; weights = p .weights; marks = v .marks; held = heldOf (v .held) }
 
 -- ---- parts of given lists
 
--- an input with no row worked, for at most 24 counts and 8 weights
+-- T6: an input with no row worked, for at most 24 counts and 8 weights, zeros behind them
 abbrev pub freshPart : ℕ → List ℕ → List Float → Part
 freshPart n counts weights =
-    record { clusters = n; counts = padded 24 0 counts; weights = padded 8 (nat 0) weights; marks = noWork .marks; held = heldOf (noWork .held) }
+    record {
+      clusters = n;
+      counts = padded 24 0 counts;
+      weights = padded 8 (nat 0) weights;
+      marks = noWork .marks;
+      held = heldOf (noWork .held);
+    }
 
--- all zeros: what a refused opening gives
+-- O3: all zeros, the cluster number too: what a refused opening gives
 abbrev pub emptyPart : Part
 emptyPart = freshPart 0 [] []
 
--- what a step gives
+-- O2: what a step gives: a refusal, `Done` among these, and a part
 abbrev pub gives : Refusal → Part → Stepped
 gives r p = record { refusal = r; part = p }

@@ -9,20 +9,21 @@ use Rattle.trio_search.specs.Shape.{workRight}
 use Rattle.trio_parts.specs.declared.part.Part.{Part}
 use Rattle.trio_parts.specs.Part.{weightAllowed, rowCount}
 
--- what an unused place holds: zero in every bit, so −0.0 is not
+-- S1: an unused place for a count holds zero
 abbrev pub noCount : ℕ → Bool
 noCount c = eqb c 0
 
+-- S1: and one for a weight zero in every bit, so no −0.0
 abbrev pub noWeight : Float → Bool
 noWeight x = eqb (toBits binary64 x) 0
 
--- the first n of a list pass one test, the others another
+-- S1: the first n of a list, which are in use, pass one test, the others another
 abbrev pub placesRight : {A : Type 0} → (A → Bool) → (A → Bool) → ℕ → List A → Bool
 placesRight inUse unused n [] = true
 placesRight inUse unused zero (x ∷ l) = unused x && placesRight inUse unused zero l
 placesRight inUse unused (suc n) (x ∷ l) = inUse x && placesRight inUse unused n l
 
--- 1 to 8 clusters, counts and weights in range, and all bits zero in the places beyond
+-- S1, L1 to L3: 1 to 8 clusters, counts and weights within their limits, and all bits zero in the places beyond
 unfoldable pub inputRight : Part → Bool
 inputRight p =
     leb 1 (p .clusters)

@@ -6,7 +6,7 @@ use lib.Dec.{eqb}
 use lib.Ieee.{binary64, toBits}
 use Rattle.trio_parts.specs.declared.part.Part.{Part}
 
--- the same list
+-- R9: the same list of numbers
 abbrev pub sameNumbers : List ℕ → List ℕ → Bool
 sameNumbers [] [] = true
 sameNumbers [] (y ∷ ys) = false

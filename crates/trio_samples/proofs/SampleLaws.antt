@@ -1,4 +1,5 @@
--- The clusters that are looked at, and those that a loop has still to walk; the columns; that a count is at most its column's sum; that the clusters of a kind have one share. Assumes nothing.
+-- The clusters that are looked at, and those that a loop has still to walk; the columns; that a count is at most its column's sum; that
+-- the clusters of a kind have one share. Assumes nothing.
 use mathlib.Core.Path.{_≡_, refl, sym, ap, _∙_}
 use mathlib.Core.Bool.{Bool, true, false, cond, _&&_, _||_}
 use mathlib.Core.List.{List, [], _∷_, map}
@@ -54,18 +55,21 @@ pub count-at-most : (n : ℕ) (counts : List ℕ) (s : Sample) (c : ℕ) → c <
 unfolding columnTotal
 count-at-most n counts s c h = count-in-column counts (sampleNumber s) (upToEight n) c h
 
-expectation-by : (h : Pair) (c : ℕ) (a b : Bool) → eqb c (h .low) ≡ a → eqb c (h .high) ≡ b → expectation h c ≡ cond (a && b) (nat 1) (cond (a || b) (decimal 5 1) (decimal 1 3))
+expectation-by : (h : Pair) (c : ℕ) (a b : Bool) → eqb c (h .low) ≡ a → eqb c (h .high) ≡ b
+    → expectation h c ≡ cond (a && b) (nat 1) (cond (a || b) (decimal 5 1) (decimal 1 3))
 unfolding expectation
 expectation-by h c a b e f = rw (e, f)
 
 -- every cluster that h names has the share of its lower one, and the others have one share too
-pub share-by-kind : (h : Pair) (c : ℕ) (t : Float) → cond (named h c) (withLogs (expectation h (h .low) ⊘ t)) (withLogs (decimal 1 3 ⊘ t)) ≡ withLogs (expectation h c ⊘ t)
+pub share-by-kind : (h : Pair) (c : ℕ) (t : Float)
+    → cond (named h c) (withLogs (expectation h (h .low) ⊘ t)) (withLogs (decimal 1 3 ⊘ t)) ≡ withLogs (expectation h c ⊘ t)
 share-by-kind h c t = go (eqb c (h .low)) (eqb c (h .high)) refl refl
   where
     same : {x y : Float} → x ≡ y → withLogs (x ⊘ t) ≡ withLogs (y ⊘ t)
     same e = ap (λ (z : Float). withLogs (z ⊘ t)) e
 
-    go : (a b : Bool) → eqb c (h .low) ≡ a → eqb c (h .high) ≡ b → cond (a || b) (withLogs (expectation h (h .low) ⊘ t)) (withLogs (decimal 1 3 ⊘ t)) ≡ withLogs (expectation h c ⊘ t)
+    go : (a b : Bool) → eqb c (h .low) ≡ a → eqb c (h .high) ≡ b
+        → cond (a || b) (withLogs (expectation h (h .low) ⊘ t)) (withLogs (decimal 1 3 ⊘ t)) ≡ withLogs (expectation h c ⊘ t)
     go true b e f = same (ap (expectation h) (sym (eqb-true c (h .low) e)))
     go false true e f =
         let apart = ne-eqb (h .low) (h .high) (λ k. eqb-false c (h .low) e (eqb-true c (h .high) f ∙ sym k)) in

@@ -130,7 +130,8 @@ fn expected_total(many: u64, pair: Pair) -> f64
     total
 }
 
-// The log likelihood of an animal's reads under a genotype. The clusters that it names have one share, all others another: logarithms are taken of these two.
+// The log likelihood of an animal's reads under a genotype. The clusters that it names have one share, all others another: logarithms are
+// taken of these two.
 pub fn compute_log_likelihood(
     n: u64,
     counts: [u32; 24],

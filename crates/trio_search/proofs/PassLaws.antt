@@ -13,7 +13,7 @@ use Rattle.trio_entries.specs.declared.entry.Entry.{Entry}
 use Rattle.trio_entries.specs.Best.{In, Best, Ranks}
 use Rattle.floats.specs.Key.{keyOf}
 use Rattle.trio_entries.specs.Rank.{beatsOf}
-use Rattle.trio_search.specs.Work.{takesPlace, onePass, entryAt, IsEntry, entriesFrom}
+use Rattle.trio_search.specs.Work.{takesPlace, onePass, entryAt, IsEntry, entriesFrom, Rising}
 use Rattle.trio_entries.proofs.BestLaws.{Fresh}
 use Rattle.trio_entries.proofs.KeptLaws.{OneEach, Fair, AllFair, kept-best}
 use Rattle.trio_entries.proofs.RankLaws.{ranks-apart, larger-beats, later-beats}
@@ -58,11 +58,6 @@ module _ (score : ℕ → Float) where
   )
 
 -- ---- one pass
-
--- each position is above the one before
-abbrev pub Rising : ℕ → List Entry → Type 0
-Rising p [] = Unit {0}
-Rising p (e ∷ l) = (p ≤ e .position) × Rising (suc (e .position)) l
 
 pub entries-rise : (score : ℕ → Float) (p n : ℕ) → Rising p (entriesFrom score p n)
 entries-rise score p zero = tt

@@ -27,10 +27,12 @@ unmarked-past rows marks r h k = go (isMarked marks r) refl
 
 -- two in use: the first's test, then the others
 pub list-two : (rows marks : ℕ) (h : Held) (t : Bool) → h .count ≢ 0 → h .count ≢ 1 → scoredInMarked rows marks (h .first) ≡ t
-    → (t && (scoredInMarked rows marks (h .second) && (not (eqb (h .first .position) (h .second .position)) && beatsOf (h .first) (h .second)))) ≡ listRight rows marks (heldList h)
+    → (t && (scoredInMarked rows marks (h .second) && (not (eqb (h .first .position) (h .second .position)) && beatsOf (h .first) (h .second))))
+    ≡ listRight rows marks (heldList h)
 list-two rows marks h t z o e = go (h .count) z o
   where
-    go : (n : ℕ) → n ≢ 0 → n ≢ 1 → (t && (scoredInMarked rows marks (h .second) && (not (eqb (h .first .position) (h .second .position)) && beatsOf (h .first) (h .second))))
+    go : (n : ℕ) → n ≢ 0 → n ≢ 1
+        → (t && (scoredInMarked rows marks (h .second) && (not (eqb (h .first .position) (h .second .position)) && beatsOf (h .first) (h .second))))
         ≡ listRight rows marks (entriesUsed n (h .first) (h .second))
     go zero a b = absurd (a refl)
     go (suc zero) a b = absurd (b refl)

@@ -37,10 +37,12 @@ module _ (score : ℕ → Float) (from n : ℕ) where
   -- offering them one after the other keeps what one pass keeps
   offered-pass : allOffered beatsOf 2 [] (entriesFrom score from n) ≡ onePass 2 (entriesFrom score from n)
   offered-pass =
-      best-unique beatsOf (IsEntry score) (ranks score) 2 (In (entriesFrom score from n)) (allOffered beatsOf 2 [] (entriesFrom score from n)) (onePass 2 (entriesFrom score from n))
+      best-unique beatsOf (IsEntry score) (ranks score) 2 (In (entriesFrom score from n))
+      (allOffered beatsOf 2 [] (entriesFrom score from n)) (onePass 2 (entriesFrom score from n))
       (best-ext beatsOf 2 (Or (λ x. ⊥) (In (entriesFrom score from n))) (In (entriesFrom score from n))
       (λ x. ⊎-elim absurd (λ i. i)) (λ x i. inr i) (allOffered beatsOf 2 [] (entriesFrom score from n))
-      (all-offered-best beatsOf (IsEntry score) (ranks score) 2 (entriesFrom score from n) (λ x. ⊥) [] (λ x i. absurd i) (λ x i. entries-lie score from n x i .is) (λ x i. i)
+      (all-offered-best beatsOf (IsEntry score) (ranks score) 2 (entriesFrom score from n) (λ x. ⊥) [] (λ x i. absurd i)
+      (λ x i. entries-lie score from n x i .is) (λ x i. i)
       (entries-fresh score from n [] (λ x i. absurd i))))
       (one-pass-best 2 from (entriesFrom score from n) (entries-rise score from n))
 
@@ -52,4 +54,5 @@ module _ (score : ℕ → Float) (from n : ℕ) where
   -- what it keeps fits a `Held`
   pub pass-back : heldList (heldOf (onePass 2 (entriesFrom score from n))) ≡ onePass 2 (entriesFrom score from n)
   pass-back =
-      held-back (In (entriesFrom score from n)) (onePass 2 (entriesFrom score from n)) (one-pass-best 2 from (entriesFrom score from n) (entries-rise score from n))
+      held-back (In (entriesFrom score from n)) (onePass 2 (entriesFrom score from n))
+      (one-pass-best 2 from (entriesFrom score from n) (entries-rise score from n))

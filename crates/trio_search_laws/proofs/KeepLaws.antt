@@ -93,14 +93,16 @@ module _ (rows m k : ℕ) (a b : Held) (s : Shaped rows m a) (t : Shaped rows k 
   both-fills : Fills rows (bitOr m k) (Both (heldList a) (heldList b))
   both-fills =
       record {
-        scored = λ e. ⊎-elim (λ i. scored-first e (s .scored e (first-in (heldList a) e i))) (λ i. scored-second e (t .scored e (first-in (heldList b) e (i .0))));
+        scored =
+            λ e. ⊎-elim (λ i. scored-first e (s .scored e (first-in (heldList a) e i))) (λ i. scored-second e (t .scored e (first-in (heldList b) e (i .0))));
         apart = both-one (heldList a) (heldList b);
         one = has-one;
         two = has-two;
       }
 
 -- any two of the right shape for one number of rows, forged or not
-pub joined-right : (rows m k : ℕ) (a b : Held) → workRight rows m a ≡ true → workRight rows k b ≡ true → workRight rows (bitOr m k) (heldOf (mergedHeld (heldList a) (heldList b))) ≡ true
+pub joined-right : (rows m k : ℕ) (a b : Held) → workRight rows m a ≡ true → workRight rows k b ≡ true
+    → workRight rows (bitOr m k) (heldOf (mergedHeld (heldList a) (heldList b))) ≡ true
 joined-right rows m k a b p q =
     let s = right-shaped rows m a p in
     let t = right-shaped rows k b q in

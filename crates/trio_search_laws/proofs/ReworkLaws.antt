@@ -32,7 +32,8 @@ use Rattle.trio_search_laws.proofs.WorkLaws.{row-best, best-all}
 
 module _ (width : ℕ) (score : ℕ → Float) where
   -- the last of rising rows is worked last
-  pub worked-last : (n r : ℕ) (v : Work) → workedAll width score (numbers r (suc n)) v ≡ joined (workedAll width score (numbers r n) v) (rowWork width score (r + n))
+  pub worked-last : (n r : ℕ) (v : Work) → workedAll width score (numbers r (suc n)) v
+      ≡ joined (workedAll width score (numbers r n) v) (rowWork width score (r + n))
   worked-last zero r v = rw add-zero
   worked-last (suc n) r v =
       let e : suc r + n ≡ r + suc n = omega arith in
@@ -42,7 +43,8 @@ module _ (width : ℕ) (score : ℕ → Float) where
 
   worked-below : (rows : ℕ) (l : List ℕ) (v : Work) → v .marks < 2 ^ rows → ((r : ℕ) → In l r → r < rows) → workedAll width score l v .marks < 2 ^ rows
   worked-below rows [] v h k = h
-  worked-below rows (r ∷ l) v h k = worked-below rows l (joined v (rowWork width score r)) (or-lt rows (v .marks) (2 ^ r) h (pow-lt (k r (inl refl)))) (λ s i. k s (inr i))
+  worked-below rows (r ∷ l) v h k =
+      worked-below rows l (joined v (rowWork width score r)) (or-lt rows (v .marks) (2 ^ r) h (pow-lt (k r (inl refl)))) (λ s i. k s (inr i))
 
   worked-kept : (l : List ℕ) (v : Work) (r : ℕ) → isMarked (v .marks) r ≡ true → isMarked (workedAll width score l v .marks) r ≡ true
   worked-kept [] v r e = e
@@ -90,8 +92,10 @@ in-from r (suc n) s h k = go (ℕ-discrete s r) (in-from (suc r) n s)
 pub covers-rising : (rows : ℕ) → Covers rows (numbers 0 rows)
 covers-rising rows = record { none-past = λ r i. omega (arith, from-in 0 rows r i); every = λ r k. in-from 0 rows r zero-le (omega arith) }
 
-module _ (rows : ℕ) (score : ℕ → Float) (marks : ℕ) (h : Held) (right : workRight rows marks h ≡ true) (true-scores : (e : Entry) → In (heldList h) e → IsEntry score e) where
-  pub reworked : (l : List ℕ) → Covers rows l → workedAll (rows * rows) score l (record { marks = marks; held = heldList h }) ≡ wholeWork rows (rows * rows) score
+module _ (rows : ℕ) (score : ℕ → Float) (marks : ℕ) (h : Held) (right : workRight rows marks h ≡ true)
+    (true-scores : (e : Entry) → In (heldList h) e → IsEntry score e) where
+  pub reworked : (l : List ℕ) → Covers rows l
+      → workedAll (rows * rows) score l (record { marks = marks; held = heldList h }) ≡ wholeWork rows (rows * rows) score
   reworked l c = ap₂ (λ (m : ℕ) (k : List Entry). record { marks = m; held = k }) full best
     where
       start : Work
@@ -101,10 +105,14 @@ module _ (rows : ℕ) (score : ℕ → Float) (marks : ℕ) (h : Held) (right : 
       shaped = right-shaped rows marks h right
 
       full : workedAll (rows * rows) score l start .marks ≡ fullMarks rows
-      full = marked-full rows (workedAll (rows * rows) score l start .marks) (worked-below (rows * rows) score rows l start (shaped .below) (c .none-past)) (λ r k. worked-marked (rows * rows) score l start r (c .every r k))
+      full =
+          marked-full rows (workedAll (rows * rows) score l start .marks)
+          (worked-below (rows * rows) score rows l start (shaped .below) (c .none-past)) (λ r k. worked-marked (rows * rows) score l start r (c .every r k))
 
       held-row : (e : Entry) → In (heldList h) e → e .position / (rows * rows) < rows
-      held-row e i = unmarked-above rows marks (e .position / (rows * rows)) (shaped .below) (and-elim-right (not (isNan (e .score))) (inMarked rows marks e) (shaped .scored e i))
+      held-row e i =
+          unmarked-above rows marks (e .position / (rows * rows)) (shaped .below)
+          (and-elim-right (not (isNan (e .score))) (inMarked rows marks e) (shaped .scored e i))
 
       best : workedAll (rows * rows) score l start .held ≡ onePass 2 (allEntries rows (rows * rows) score)
       best =
@@ -113,7 +121,8 @@ module _ (rows : ℕ) (score : ℕ → Float) (marks : ℕ) (h : Held) (right : 
           (λ x. ⊎-elim (λ i. (true-scores x i, lt→ltb _ rows (held-row x i))) (λ p. (p .0, lt→ltb _ rows (c .none-past _ (p .1)))))
           (λ x p. inr (p .0, c .every _ (ltb→lt _ rows (p .1))))
           (workedAll (rows * rows) score l start .held)
-          (worked-best (rows * rows) score (mul-pos (shaped .some) (shaped .some)) l (In (heldList h)) start true-scores (ordered-best (heldList h) (shaped .ordered))))
+          (worked-best (rows * rows) score (mul-pos (shaped .some) (shaped .some)) l (In (heldList h)) start true-scores
+          (ordered-best (heldList h) (shaped .ordered))))
 
   -- rows 0, 1, 2 and so on to the last
   pub reworked-rising : workedAll (rows * rows) score (numbers 0 rows) (record { marks = marks; held = heldList h }) ≡ wholeWork rows (rows * rows) score

@@ -37,7 +37,8 @@ pub record Shaped (rows marks : ℕ) (h : Held) : Type 0 where
   pub ordered : Ordered (heldList h)
   pub scored : (e : Entry) → In (heldList h) e → scoredInMarked rows marks e ≡ true
 
-right-list : (rows marks n : ℕ) (f s : Entry) → listRight rows marks (entriesUsed n f s) ≡ true → Ordered (entriesUsed n f s) × ((e : Entry) → In (entriesUsed n f s) e → scoredInMarked rows marks e ≡ true)
+right-list : (rows marks n : ℕ) (f s : Entry) → listRight rows marks (entriesUsed n f s) ≡ true
+    → Ordered (entriesUsed n f s) × ((e : Entry) → In (entriesUsed n f s) e → scoredInMarked rows marks e ≡ true)
 right-list rows marks zero f s r = (tt, λ e i. absurd i)
 right-list rows marks (suc zero) f s r = (tt, λ e. ⊎-elim (λ d. subst (λ (x : Entry). scoredInMarked rows marks x ≡ true) (sym d) r) absurd)
 right-list rows marks (suc (suc n)) f s r =
@@ -45,7 +46,8 @@ right-list rows marks (suc (suc n)) f s r =
     let b = and-eq-true-iff (scoredInMarked rows marks s) _ .0 (a .1) in
     let c = and-eq-true-iff (not (eqb (f .position) (s .position))) (beatsOf f s) .0 (b .1) in (
       (eqb-false (f .position) (s .position) (not-true _ (c .0)), subst T (sym (c .1)) tt),
-      λ e. ⊎-elim (λ d. subst (λ (x : Entry). scoredInMarked rows marks x ≡ true) (sym d) (a .0)) (⊎-elim (λ d. subst (λ (x : Entry). scoredInMarked rows marks x ≡ true) (sym d) (b .0)) absurd),
+      λ e. ⊎-elim (λ d. subst (λ (x : Entry). scoredInMarked rows marks x ≡ true) (sym d) (a .0))
+          (⊎-elim (λ d. subst (λ (x : Entry). scoredInMarked rows marks x ≡ true) (sym d) (b .0)) absurd),
     )
 
 pub right-shaped : (rows marks : ℕ) (h : Held) → workRight rows marks h ≡ true → Shaped rows marks h
@@ -166,7 +168,8 @@ module _ {rows marks : ℕ} {S : Entry → Type 0} (f : Fills rows marks S) (som
 
 -- ---- so a sound partial result has it
 
-module _ {rows : ℕ} {score : ℕ → Float} (solid : (p : ℕ) → isNan (score p) ≡ false) (some : 0 < rows) (few : rows ≤ 63) {w : ℕ → Bool} {v : Work} (s : Sound rows (rows * rows) score w v) where
+module _ {rows : ℕ} {score : ℕ → Float} (solid : (p : ℕ) → isNan (score p) ≡ false) (some : 0 < rows) (few : rows ≤ 63) {w : ℕ → Bool}
+    {v : Work} (s : Sound rows (rows * rows) score w v) where
   -- entry i of row r
   abbrev at : ℕ → ℕ → Entry
   at r i = entryAt score (r * (rows * rows) + i)
@@ -184,8 +187,13 @@ module _ {rows : ℕ} {score : ℕ → Float} (solid : (p : ℕ) → isNan (scor
         apart = λ a b p q e. p .0 ∙ ap (entryAt score) e ∙ sym (q .0);
         one = λ n. let r = some-marked (v .marks) n in (at (r .0) 0, marked-within (r .0) 0 (mul-pos some some) (r .1));
         two = λ n o.
-            let r = some-marked (v .marks) n in
-            (at (r .0) 0, at (r .0) 1, marked-within (r .0) 0 (mul-pos some some) (r .1), marked-within (r .0) 1 (omega (arith, mul-le-mul o o)) (r .1), λ e. omega arith);
+            let r = some-marked (v .marks) n in (
+              at (r .0) 0,
+              at (r .0) 1,
+              marked-within (r .0) 0 (mul-pos some some) (r .1),
+              marked-within (r .0) 1 (omega (arith, mul-le-mul o o)) (r .1),
+              λ e. omega arith,
+            );
       }
 
   pub work-right : workRight rows (v .marks) (heldOf (v .held)) ≡ true

@@ -66,8 +66,11 @@ full-marked (suc n) (suc r) h = marked-later (fullMarks (suc n)) r ∙ ap (λ (x
 pub marked-same : (n m k : ℕ) → m < 2 ^ n → k < 2 ^ n → ((r : ℕ) → r < n → isMarked m r ≡ isMarked k r) → m ≡ k
 marked-same zero m k h i all = lt-one h ∙ sym (lt-one i)
 marked-same (suc n) m k h i all =
-    let half : m / 2 ≡ k / 2 = marked-same n (m / 2) (k / 2) (omega (arith, pow-suc 2 n)) (omega (arith, pow-suc 2 n)) (λ r l. sym (marked-later m r) ∙ all (suc r) (suc-le-suc l) ∙ marked-later k r) in
-    let last : m % 2 ≡ k % 2 = digit-same (m % 2) (k % 2) (mod-lt m (lit< tt)) (mod-lt k (lit< tt)) (sym (marked-first m) ∙ all 0 (suc-le-suc zero-le) ∙ marked-first k) in
+    let half : m / 2 ≡ k / 2 =
+    marked-same n (m / 2) (k / 2) (omega (arith, pow-suc 2 n)) (omega (arith, pow-suc 2 n))
+    (λ r l. sym (marked-later m r) ∙ all (suc r) (suc-le-suc l) ∙ marked-later k r) in
+    let last : m % 2 ≡ k % 2 =
+    digit-same (m % 2) (k % 2) (mod-lt m (lit< tt)) (mod-lt k (lit< tt)) (sym (marked-first m) ∙ all 0 (suc-le-suc zero-le) ∙ marked-first k) in
     omega arith
 
 pub marked-full : (n m : ℕ) → m < 2 ^ n → ((r : ℕ) → r < n → isMarked m r ≡ true) → m ≡ fullMarks n

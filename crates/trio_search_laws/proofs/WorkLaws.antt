@@ -54,7 +54,8 @@ module _ (width : ℕ) (score : ℕ → Float) (some : 0 < width) where
 
 -- ---- the best two of all rows are what one pass keeps
 
-pub best-all : (rows width : ℕ) (score : ℕ → Float) → 0 < width → (h : List Entry) → Best beatsOf 2 (InRows width score (λ r. ltb r rows)) h → h ≡ onePass 2 (allEntries rows width score)
+pub best-all : (rows width : ℕ) (score : ℕ → Float) → 0 < width → (h : List Entry)
+    → Best beatsOf 2 (InRows width score (λ r. ltb r rows)) h → h ≡ onePass 2 (allEntries rows width score)
 best-all rows width score some h b =
     best-unique beatsOf (IsEntry score) (ranks score) 2 (In (allEntries rows width score)) h (onePass 2 (allEntries rows width score))
     (best-ext beatsOf 2 (InRows width score (λ r. ltb r rows)) (In (allEntries rows width score))
@@ -76,14 +77,16 @@ module _ {rows width : ℕ} {score : ℕ → Float} where
   pub row-sound : 0 < width → (r : ℕ) → r < rows → Sound rows width score (eqb r) (rowWork width score r)
   row-sound some r h = record { marks-are = marked-one r; marks-below = pow-lt h; held-best = row-best width score some r }
 
-  pub joined-sound : {w u : ℕ → Bool} {v z : Work} → Sound rows width score w v → Sound rows width score u z → Sound rows width score (λ r. w r || u r) (joined v z)
+  pub joined-sound : {w u : ℕ → Bool} {v z : Work} → Sound rows width score w v → Sound rows width score u z
+      → Sound rows width score (λ r. w r || u r) (joined v z)
   joined-sound {w} {u} {v} {z} s t =
       record {
         marks-are = λ r. marked-or (v .marks) (z .marks) r ∙ ap₂ _||_ (s .marks-are r) (t .marks-are r);
         marks-below = or-lt rows (v .marks) (z .marks) (s .marks-below) (t .marks-below);
         held-best =
             best-ext beatsOf 2 (Or (InRows width score w) (InRows width score u)) (InRows width score (λ r. w r || u r))
-            (λ x. ⊎-elim (λ p. (p .0, or-either (w (x .position / width)) (u (x .position / width)) (inl (p .1)))) (λ p. (p .0, or-either (w (x .position / width)) (u (x .position / width)) (inr (p .1)))))
+            (λ x. ⊎-elim (λ p. (p .0, or-either (w (x .position / width)) (u (x .position / width)) (inl (p .1))))
+            (λ p. (p .0, or-either (w (x .position / width)) (u (x .position / width)) (inr (p .1)))))
             (λ x p. ⊎-elim (λ a. inl (p .0, a)) (λ a. inr (p .0, a)) (or-split (w (x .position / width)) (u (x .position / width)) (p .1)))
             (mergedHeld (v .held) (z .held))
             (merged-best score (InRows width score w) (InRows width score u) (v .held) (z .held) (λ x p. p .0) (λ x p. p .0) (s .held-best) (t .held-best));

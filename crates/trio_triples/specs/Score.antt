@@ -9,7 +9,7 @@ use Rattle.trio_triples.specs.Genotypes.{tripleOf}
 use Rattle.trio_mendel.specs.Mendel.{mendelTerm}
 use Rattle.trio_samples.specs.Samples.{sampleScore}
 
--- ((father + mother) + child) + term
+-- T4: a triple's score: ((father + mother) + child) + term
 unfoldable pub tripleScore : ℕ → List ℕ → List Float → Triple → Float
 tripleScore n counts weights t =
     sampleScore n counts weights Father (t .father)
@@ -17,6 +17,6 @@ tripleScore n counts weights t =
     ⊕ sampleScore n counts weights Child (t .child)
     ⊕ mendelTerm (t .child) (t .father) (t .mother)
 
--- of the triple at a position
+-- T4, T1: the score of the triple at a position
 abbrev pub scoreOf : ℕ → List ℕ → List Float → ℕ → Float
 scoreOf n counts weights p = tripleScore n counts weights (tripleOf n p)

@@ -27,7 +27,13 @@ joined-requires c κs = search needs
 
 returns : tie.Need-returns
 unfolding mergeStep
-returns c = rw (right (c .before .before .before .before .before), right-2 (c .before .before .before), sym (c .before .before .same-input .ensures) ∙ c .before .if3 .taken, c .joined .ensures)
+returns c =
+    rw (
+      right (c .before .before .before .before .before),
+      right-2 (c .before .before .before),
+      sym (c .before .before .same-input .ensures) ∙ c .before .if3 .taken,
+      c .joined .ensures,
+    )
 
 returns-2 : tie.Need-returns-2
 unfolding mergeStep

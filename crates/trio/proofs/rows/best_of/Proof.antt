@@ -37,7 +37,8 @@ loop-again : tie.Need-loop-again Inv-loop μ-loop
 loop-again c =
     let a = c .before .before .before .before .before .args in
     let s = c .before .before .before .loop in
-    offering-more (scoreOf (a .clusters) (a .counts) (a .weights)) (a .from) (a .many) (s .h) (c .offer .result) (s .i) (search needs) (rw (c .before .score-at .ensures) at (c .offer .ensures)) (s .inv)
+    offering-more (scoreOf (a .clusters) (a .counts) (a .weights)) (a .from) (a .many) (s .h) (c .offer .result) (s .i) (search needs)
+    (rw (c .before .score-at .ensures) at (c .offer .ensures)) (s .inv)
 
 returns : tie.Need-returns Inv-loop μ-loop
 returns c =

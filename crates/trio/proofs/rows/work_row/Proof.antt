@@ -39,7 +39,8 @@ returns : tie.Need-returns
 returns c =
     let a = c .before .before .before .before .before .before .before .args in
     let g = c .before .before .before .genotype-count in
-    row-done (a .p) (c .before .row-part .result) (c .joined .result) (a .r) (g .result) (right (c .before .before .before .before .before)) (c .before .before .if2 .taken) (g .ensures) (c .before .row-part .ensures) (c .joined .ensures)
+    row-done (a .p) (c .before .row-part .result) (c .joined .result) (a .r) (g .result)
+    (right (c .before .before .before .before .before)) (c .before .before .if2 .taken) (g .ensures) (c .before .row-part .ensures) (c .joined .ensures)
 
 returns-2 : tie.Need-returns-2
 unfolding rowStep

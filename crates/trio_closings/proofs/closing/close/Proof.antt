@@ -16,9 +16,12 @@ use Rattle.trio_closings.proofs.closing.close.Tie as tie
 right : (c : tie.Then1) → rightPart (c .before .before .args .p) ≡ true
 right c = sym (c .before .right-part .ensures) ∙ c .if1 .taken
 
-marks : (c : tie.After-all-marked) → eqb (c .before .before .before .before .before .args .p .marks) (fullMarks (rowCount (c .before .before .before .before .before .args .p))) ≡ c .all-marked .result
+marks : (c : tie.After-all-marked) → let p = c .before .before .before .before .before .args .p in
+    eqb (p .marks) (fullMarks (rowCount p)) ≡ c .all-marked .result
 marks c =
-    ap (λ (n : ℕ). eqb (c .before .before .before .before .before .args .p .marks) (fullMarks n)) (sym (c .before .genotype-count .ensures)) ∙ sym (c .all-marked .ensures)
+    ap (λ (n : ℕ). eqb (c .before .before .before .before .before .args .p .marks) (fullMarks n))
+    (sym (c .before .genotype-count .ensures))
+    ∙ sym (c .all-marked .ensures)
 
 right-part-requires : tie.Need-right-part-requires
 right-part-requires c κs = search needs

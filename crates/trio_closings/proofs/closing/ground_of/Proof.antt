@@ -21,7 +21,11 @@ returns c = rw (sym (c .before .is-unread .ensures) ∙ c .if1 .taken)
 
 returns-2 : tie.Need-returns-2
 unfolding groundOf tied
-returns-2 c = rw (sym (c .before .before .before .is-unread .ensures) ∙ c .before .before .if1 .left, lt-leb 2 (c .before .before .before .before .args .h .count) (c .if2 .taken))
+returns-2 c =
+    rw (
+      sym (c .before .before .before .is-unread .ensures) ∙ c .before .before .if1 .left,
+      lt-leb 2 (c .before .before .before .before .args .h .count) (c .if2 .taken),
+    )
 
 key-requires : tie.Need-key-requires
 key-requires c κs = search needs
@@ -46,7 +50,12 @@ returns-4 c =
     let h = c .before .before .before .before .before .before .before .args .h in
     let u = sym (c .before .before .before .before .before .before .is-unread .ensures) ∙ c .before .before .before .before .before .if1 .left in
     let two = le-leb 2 (h .count) (c .before .before .before .if2 .left) in
-    rw (u, two, decide-false (ℤ-discrete (keyOf (h .first .score)) (keyOf (h .second .score))) (λ e. c .if3 .left (ap (ofZ w64) (c .before .before .key .ensures ∙ e ∙ sym (c .before .key2 .ensures)))))
+    rw (
+      u,
+      two,
+      decide-false (ℤ-discrete (keyOf (h .first .score)) (keyOf (h .second .score)))
+          (λ e. c .if3 .left (ap (ofZ w64) (c .before .before .key .ensures ∙ e ∙ sym (c .before .key2 .ensures)))),
+    )
 
 pub ground-of-spec : {M : Type 1} → statement M
 ground-of-spec =

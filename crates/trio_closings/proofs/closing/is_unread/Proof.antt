@@ -24,7 +24,10 @@ returns-2 : tie.Need-returns-2
 unfolding unread
 returns-2 c =
     let a = c .before .before .before .before .args in
-    rw (ne-eqb (columnTotal (a .n) (a .counts) Child) 0 (λ e. c .before .before .if1 .left (c .before .before .before .column-total .ensures ∙ e)), eq-eqb (columnTotal (a .n) (a .counts) Father) 0 (sym (c .before .column-total2 .ensures) ∙ c .if2 .taken))
+    rw (
+      ne-eqb (columnTotal (a .n) (a .counts) Child) 0 (λ e. c .before .before .if1 .left (c .before .before .before .column-total .ensures ∙ e)),
+      eq-eqb (columnTotal (a .n) (a .counts) Father) 0 (sym (c .before .column-total2 .ensures) ∙ c .if2 .taken),
+    )
 
 column-total-requires-3 : tie.Need-column-total-requires-3
 column-total-requires-3 c κs = search needs
@@ -33,7 +36,11 @@ returns-3 : tie.Need-returns-3
 unfolding unread
 returns-3 c =
     let a = c .before .before .before .before .before .args in
-    rw (ne-eqb (columnTotal (a .n) (a .counts) Child) 0 (λ e. c .before .before .before .if1 .left (c .before .before .before .before .column-total .ensures ∙ e)), ne-eqb (columnTotal (a .n) (a .counts) Father) 0 (λ e. c .before .if2 .left (c .before .before .column-total2 .ensures ∙ e)))
+    rw (
+      ne-eqb (columnTotal (a .n) (a .counts) Child) 0
+          (λ e. c .before .before .before .if1 .left (c .before .before .before .before .column-total .ensures ∙ e)),
+      ne-eqb (columnTotal (a .n) (a .counts) Father) 0 (λ e. c .before .if2 .left (c .before .before .column-total2 .ensures ∙ e)),
+    )
     (ap (λ (n : ℕ). eqb n 0) (c .column-total3 .ensures))
 
 pub is-unread-spec : {M : Type 1} → statement M

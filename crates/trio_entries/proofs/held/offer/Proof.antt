@@ -23,7 +23,9 @@ two-requires c κs = search needs
 returns-2 : tie.Need-returns-2
 returns-2 c =
     let a = c .before .before .before .before .before .args in
-    c .two .ensures ∙ offer-first (a .h .first) (a .h .second) (a .e) (a .h .count) (c .before .before .before .if1 .left) (sym (c .before .before .beats .ensures) ∙ c .before .if2 .taken)
+    c .two .ensures
+    ∙ offer-first (a .h .first) (a .h .second) (a .e) (a .h .count) (c .before .before .before .if1 .left)
+    (sym (c .before .before .beats .ensures) ∙ c .before .if2 .taken)
 
 two-requires-2 : tie.Need-two-requires-2
 two-requires-2 c κs = search needs
@@ -31,7 +33,9 @@ two-requires-2 c κs = search needs
 returns-3 : tie.Need-returns-3
 returns-3 c =
     let a = c .before .before .before .before .before .before .args in
-    rw (c .before .if3 .taken) (c .two2 .ensures ∙ offer-last (a .h .first) (a .h .second) (a .e) (sym (c .before .before .before .beats .ensures) ∙ c .before .before .if2 .left))
+    rw (c .before .if3 .taken)
+    (c .two2 .ensures
+    ∙ offer-last (a .h .first) (a .h .second) (a .e) (sym (c .before .before .before .beats .ensures) ∙ c .before .before .if2 .left))
 
 better-requires : tie.Need-better-requires
 better-requires c κs = search needs
@@ -44,7 +48,8 @@ returns-4 c =
     let a = c .before .before .before .before .before .before .before .before .args in
     let l = c .before .before .before .before in
     c .two3 .ensures ∙ ap (λ (x : Entry). heldOf (a .h .first ∷ x ∷ [])) (c .before .better .ensures)
-    ∙ offer-second (a .h .first) (a .h .second) (a .e) (a .h .count) (l .before .before .if1 .left) (c .before .before .before .if3 .left) (sym (l .before .beats .ensures) ∙ l .if2 .left)
+    ∙ offer-second (a .h .first) (a .h .second) (a .e) (a .h .count) (l .before .before .if1 .left) (c .before .before .before .if3 .left)
+    (sym (l .before .beats .ensures) ∙ l .if2 .left)
 
 pub offer-spec : {M : Type 1} → statement M
 offer-spec =

@@ -20,7 +20,8 @@ returns-3 c =
 returns-4 : tie.Need-returns-4
 returns-4 c =
     let a = c .before .before .before .before .before .args in
-    holds-second (a .h .first) (a .h .second) (a .position) (a .h .count) (c .before .before .before .before .if1 .left) (c .before .if3 .left) (ne-eqb _ _ (c .before .before .if2 .left))
+    holds-second (a .h .first) (a .h .second) (a .position) (a .h .count) (c .before .before .before .before .if1 .left)
+    (c .before .if3 .left) (ne-eqb _ _ (c .before .before .if2 .left))
 
 pub holds-spec : {M : Type 1} → statement M
 holds-spec = tie.close (tie.spec returns returns-2 returns-3 returns-4)

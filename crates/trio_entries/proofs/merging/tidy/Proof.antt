@@ -34,7 +34,9 @@ returns-2 : tie.Need-returns-2
 returns-2 c =
     let b = c .before in
     let a = b .before .before .before .before .args in
-    rw (c .if2 .taken) (alone (b .before .nothing2 .result) (b .offer .result) (a .h .first) (b .before .nothing2 .ensures) (b .offer .ensures) ∙ ap heldOf (sym (alone-kept (a .h .first))))
+    rw (c .if2 .taken)
+    (alone (b .before .nothing2 .result) (b .offer .result) (a .h .first) (b .before .nothing2 .ensures) (b .offer .ensures)
+    ∙ ap heldOf (sym (alone-kept (a .h .first))))
 
 offer-fresh-requires : tie.Need-offer-fresh-requires
 offer-fresh-requires c κs = search needs

@@ -1,4 +1,5 @@
--- `trio_family::genotypes::genotype_count` meets its contract. n clusters have n (n + 1) / 2 genotypes, and the product of a u32 and the next number fits a word.
+-- `trio_family::genotypes::genotype_count` meets its contract. n clusters have n (n + 1) / 2 genotypes, and the product of a u32 and the
+-- next number fits a word.
 -- Assumes nothing.
 use Prim.Native.Nat.{_+_, _^_, _-_, _≤_}
 use mathlib.Core.Path.{sym}

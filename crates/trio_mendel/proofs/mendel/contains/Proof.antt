@@ -41,7 +41,9 @@ returns c =
     let a = c .before .before .before .before .before .before .before .args in
     let now = c .before .before .before .before .loop in
     let same : samePair (getD (a .s .pairs) (now .i) (pair 0 0)) (a .p) ≡ true = sym (c .before .same-pair .ensures) ∙ c .if1 .taken in
-    sym (among-here (a .p) (a .s .pairs) (a .s .count) (now .i) (fits (c .before .before .before .before .before .before .before)) (omega arith) same) ∙ now .inv .1
+    sym (among-here (a .p) (a .s .pairs) (a .s .count) (now .i) (fits (c .before .before .before .before .before .before .before))
+    (omega arith) same)
+    ∙ now .inv .1
 
 add-i : tie.Need-add-i Inv-loop μ-loop
 add-i c = search needs
@@ -53,8 +55,11 @@ loop-again : tie.Need-loop-again Inv-loop μ-loop
 loop-again c =
     let a = c .before .before .before .before .before .before .before .args in
     let now = c .before .before .before .before .loop in
-    let other : samePair (getD (a .s .pairs) (now .i) (pair 0 0)) (a .p) ≡ false = sym (c .before .same-pair .ensures) ∙ c .if1 .left in
-    (omega arith, sym (among-next (a .p) (a .s .pairs) (a .s .count) (now .i) (fits (c .before .before .before .before .before .before .before)) (omega arith) other) ∙ now .inv .1)
+    let other : samePair (getD (a .s .pairs) (now .i) (pair 0 0)) (a .p) ≡ false = sym (c .before .same-pair .ensures) ∙ c .if1 .left in (
+      omega arith,
+      sym (among-next (a .p) (a .s .pairs) (a .s .count) (now .i) (fits (c .before .before .before .before .before .before .before))
+          (omega arith) other) ∙ now .inv .1,
+    )
 
 returns-2 : tie.Need-returns-2 Inv-loop μ-loop
 returns-2 c =

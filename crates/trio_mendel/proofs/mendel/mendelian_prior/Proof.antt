@@ -23,7 +23,8 @@ ln-requires : tie.Need-ln-requires
 ln-requires c κs = search needs
 
 -- what the test tells
-found : (c : tie.After-contains) → let a = c .before .before .before .args in among (ordered (a .child .low) (a .child .high)) (childPairs (a .father) (a .mother)) ≡ c .contains .result
+found : (c : tie.After-contains) → let a = c .before .before .before .args in
+    among (ordered (a .child .low) (a .child .high)) (childPairs (a .father) (a .mother)) ≡ c .contains .result
 found c = rw (← c .before .sorted .ensures, ← c .before .before .child-pairs .ensures .0) (sym (c .contains .ensures))
 
 returns : tie.Need-returns
@@ -31,7 +32,8 @@ unfolding mendelTerm round ofInt ofBits
 returns c =
     let s = c .before .before .before .before .before in
     let a = s .before .args in
-    let there : among (ordered (a .child .low) (a .child .high)) (childPairs (a .father) (a .mother)) ≡ true = found (c .before .before .before) ∙ c .before .before .if1 .taken in
+    let there : among (ordered (a .child .low) (a .child .high)) (childPairs (a .father) (a .mother)) ≡ true =
+    found (c .before .before .before) ∙ c .before .before .if1 .taken in
     rw (there, ← s .child-pairs .ensures .1 .0) (c .ln .ensures)
 
 ln-requires-2 : tie.Need-ln-requires-2
@@ -42,7 +44,8 @@ unfolding mendelTerm round ofInt ofBits
 returns-2 c =
     let s = c .before .before .before .before in
     let a = s .before .args in
-    let there : among (ordered (a .child .low) (a .child .high)) (childPairs (a .father) (a .mother)) ≡ false = found (c .before .before) ∙ c .before .if1 .left in
+    let there : among (ordered (a .child .low) (a .child .high)) (childPairs (a .father) (a .mother)) ≡ false =
+    found (c .before .before) ∙ c .before .if1 .left in
     rw there (c .ln2 .ensures)
 
 pub mendelian-prior-spec : {M : Type 1} → statement M

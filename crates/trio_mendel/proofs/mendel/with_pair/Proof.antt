@@ -15,7 +15,10 @@ contains-requires : tie.Need-contains-requires
 contains-requires c κs = search needs
 
 returns : tie.Need-returns
-returns c = let a = c .before .before .args in let there : among (a .p) (possiblePairs (a .s)) ≡ true = sym (c .before .contains .ensures) ∙ c .if1 .taken in (rw there, omega arith)
+returns c =
+    let a = c .before .before .args in
+    let there : among (a .p) (possiblePairs (a .s)) ≡ true = sym (c .before .contains .ensures) ∙ c .if1 .taken in
+    (rw there, omega arith)
 
 cast-pairs : tie.Need-cast-pairs
 cast-pairs c = search needs

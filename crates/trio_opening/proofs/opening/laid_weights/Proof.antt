@@ -43,8 +43,10 @@ loop-less c = search needs
 loop-again : tie.Need-loop-again Inv-loop μ-loop
 loop-again c =
     let a = c .before .before .before .args in
-    let s = c .before .before .loop in
-    (search needs, ap (λ l. set l (s .i) (getD (a .weights .now) (s .i) nan)) (s .inv .1) ∙ laid-more (nat 0) nan 8 (s .i) (a .weights .now) (omega arith) (search needs))
+    let s = c .before .before .loop in (
+      search needs,
+      ap (λ l. set l (s .i) (getD (a .weights .now) (s .i) nan)) (s .inv .1) ∙ laid-more (nat 0) nan 8 (s .i) (a .weights .now) (omega arith) (search needs),
+    )
 
 returns : tie.Need-returns Inv-loop μ-loop
 returns c =

@@ -23,16 +23,19 @@ not-none c = ne-eqb (c .before .before .before .args .n) 0 (c .if1 .left)
 not-many : (c : tie.Else2) → ltb 8 (c .before .before .before .before .args .n) ≡ false
 not-many c = le-ltb 8 (c .before .before .before .before .args .n) (c .if2 .left)
 
-counts-fit : (c : tie.Else3) → eqb (length (c .before .before .before .before .before .args .counts .now)) (3 * c .before .before .before .before .before .args .n) ≡ true
+counts-fit : (c : tie.Else3)
+    → eqb (length (c .before .before .before .before .before .args .counts .now)) (3 * c .before .before .before .before .before .args .n) ≡ true
 counts-fit c = let a = c .before .before .before .before .before .args in eq-eqb (length (a .counts .now)) (3 * a .n) (c .if3 .left)
 
-weights-fit : (c : tie.Else4) → eqb (length (c .before .before .before .before .before .before .args .weights .now)) (c .before .before .before .before .before .before .args .n) ≡ true
+weights-fit : (c : tie.Else4)
+    → eqb (length (c .before .before .before .before .before .before .args .weights .now)) (c .before .before .before .before .before .before .args .n) ≡ true
 weights-fit c = let a = c .before .before .before .before .before .before .args in eq-eqb (length (a .weights .now)) (a .n) (c .if4 .left)
 
 counts-pass : (c : tie.Else5) → countsAllowed (c .before .before .before .before .before .before .before .before .args .counts .now) ≡ true
 counts-pass c = sym (c .before .counts-allowed .ensures) ∙ not-false (c .before .counts-allowed .result) (c .if5 .left)
 
-weights-pass : (c : tie.Else6) → every weightAllowed (c .before .before .before .before .before .before .before .before .before .before .args .weights .now) ≡ true
+weights-pass : (c : tie.Else6)
+    → every weightAllowed (c .before .before .before .before .before .before .before .before .before .before .args .weights .now) ≡ true
 unfolding weightAllowed round ofInt ofBits
 weights-pass c = sym (c .before .all-in .ensures) ∙ not-false (c .before .all-in .result) (c .if6 .left)
 
@@ -62,7 +65,11 @@ returns-3 : tie.Need-returns-3
 unfolding openStep
 returns-3 c =
     let a = c .before .before .before .before .before .before .args in
-    rw (not-none (c .before .before .before), not-many (c .before .before), ne-eqb (length (a .counts .now)) (3 * a .n) (c .before .if3 .taken)) (c .refused3 .ensures)
+    rw (
+      not-none (c .before .before .before),
+      not-many (c .before .before),
+      ne-eqb (length (a .counts .now)) (3 * a .n) (c .before .if3 .taken),
+    ) (c .refused3 .ensures)
 
 refused-requires-4 : tie.Need-refused-requires-4
 refused-requires-4 c κs = search needs
@@ -71,7 +78,12 @@ returns-4 : tie.Need-returns-4
 unfolding openStep
 returns-4 c =
     let a = c .before .before .before .before .before .before .before .args in
-    rw (not-none (c .before .before .before .before), not-many (c .before .before .before), counts-fit (c .before .before), ne-eqb (length (a .weights .now)) (a .n) (c .before .if4 .taken)) (c .refused4 .ensures)
+    rw (
+      not-none (c .before .before .before .before),
+      not-many (c .before .before .before),
+      counts-fit (c .before .before),
+      ne-eqb (length (a .weights .now)) (a .n) (c .before .if4 .taken),
+    ) (c .refused4 .ensures)
 
 counts-allowed-requires : tie.Need-counts-allowed-requires
 counts-allowed-requires c κs = search needs
@@ -83,7 +95,13 @@ returns-5 : tie.Need-returns-5
 unfolding openStep
 returns-5 c =
     let counts = c .before .before .counts-allowed in
-    rw (not-none (c .before .before .before .before .before .before), not-many (c .before .before .before .before .before), counts-fit (c .before .before .before .before), weights-fit (c .before .before .before), sym (counts .ensures) ∙ not-true (counts .result) (c .before .if5 .taken)) (c .refused5 .ensures)
+    rw (
+      not-none (c .before .before .before .before .before .before),
+      not-many (c .before .before .before .before .before),
+      counts-fit (c .before .before .before .before),
+      weights-fit (c .before .before .before),
+      sym (counts .ensures) ∙ not-true (counts .result) (c .before .if5 .taken),
+    ) (c .refused5 .ensures)
 
 all-in-requires : tie.Need-all-in-requires
 all-in-requires c κs = search needs
@@ -95,7 +113,14 @@ returns-6 : tie.Need-returns-6
 unfolding openStep weightAllowed round ofInt ofBits
 returns-6 c =
     let weights = c .before .before .all-in in
-    rw (not-none (c .before .before .before .before .before .before .before .before), not-many (c .before .before .before .before .before .before .before), counts-fit (c .before .before .before .before .before .before), weights-fit (c .before .before .before .before .before), counts-pass (c .before .before .before), sym (weights .ensures) ∙ not-true (weights .result) (c .before .if6 .taken)) (c .refused6 .ensures)
+    rw (
+      not-none (c .before .before .before .before .before .before .before .before),
+      not-many (c .before .before .before .before .before .before .before),
+      counts-fit (c .before .before .before .before .before .before),
+      weights-fit (c .before .before .before .before .before),
+      counts-pass (c .before .before .before),
+      sym (weights .ensures) ∙ not-true (weights .result) (c .before .if6 .taken),
+    ) (c .refused6 .ensures)
 
 fresh-part-requires : tie.Need-fresh-part-requires
 fresh-part-requires c κs = search needs
@@ -103,7 +128,14 @@ fresh-part-requires c κs = search needs
 returns-7 : tie.Need-returns-7
 unfolding openStep
 returns-7 c =
-    rw (not-none (c .before .before .before .before .before .before .before .before), not-many (c .before .before .before .before .before .before .before), counts-fit (c .before .before .before .before .before .before), weights-fit (c .before .before .before .before .before), counts-pass (c .before .before .before), weights-pass (c .before))
+    rw (
+      not-none (c .before .before .before .before .before .before .before .before),
+      not-many (c .before .before .before .before .before .before .before),
+      counts-fit (c .before .before .before .before .before .before),
+      weights-fit (c .before .before .before .before .before),
+      counts-pass (c .before .before .before),
+      weights-pass (c .before),
+    )
     (ap (gives Done) (c .fresh-part .ensures))
 
 pub open-part-spec : {M : Type 1} → statement M

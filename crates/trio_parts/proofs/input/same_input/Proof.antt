@@ -22,7 +22,10 @@ returns-2 : tie.Need-returns-2
 unfolding sameInput
 returns-2 c =
     let a = c .before .before .before .before .before .before .before .before .before .before .args in
-    rw (eq-eqb (a .a .clusters) (a .b .clusters) (c .before .before .before .before .before .before .before .if1 .left), sym (c .before .before .before .before .same-counts .ensures) ∙ c .before .before .before .if2 .taken) (c .same-weights .ensures)
+    rw (
+      eq-eqb (a .a .clusters) (a .b .clusters) (c .before .before .before .before .before .before .before .if1 .left),
+      sym (c .before .before .before .before .same-counts .ensures) ∙ c .before .before .before .if2 .taken,
+    ) (c .same-weights .ensures)
 
 returns-3 : tie.Need-returns-3
 unfolding sameInput

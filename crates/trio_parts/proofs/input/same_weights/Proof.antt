@@ -49,7 +49,9 @@ returns c =
     let lb : length (bitsOf (a .t2)) ≡ 8 = length-map (a .t2) (toBits binary64) ∙ search needs in
     let x = List·getD-map (toBits binary64) (a .t1) (s .i) nan in
     let y = List·getD-map (toBits binary64) (a .t2) (s .i) nan in
-    same-differ (bitsOf (a .t1)) (bitsOf (a .t2)) (toBits binary64 nan) (s .i) (omega arith) (omega arith) (λ e. c .if1 .taken (c .before .before .bits .ensures ∙ sym x ∙ e ∙ y ∙ sym (c .before .bits2 .ensures))) ∙ s .inv .1
+    same-differ (bitsOf (a .t1)) (bitsOf (a .t2)) (toBits binary64 nan) (s .i) (omega arith) (omega arith)
+    (λ e. c .if1 .taken (c .before .before .bits .ensures ∙ sym x ∙ e ∙ y ∙ sym (c .before .bits2 .ensures)))
+    ∙ s .inv .1
 
 add-i : tie.Need-add-i Inv-loop μ-loop
 add-i c = search needs
@@ -64,8 +66,11 @@ loop-again c =
     let la : length (bitsOf (a .t1)) ≡ 8 = length-map (a .t1) (toBits binary64) ∙ search needs in
     let lb : length (bitsOf (a .t2)) ≡ 8 = length-map (a .t2) (toBits binary64) ∙ search needs in
     let x = List·getD-map (toBits binary64) (a .t1) (s .i) nan in
-    let y = List·getD-map (toBits binary64) (a .t2) (s .i) nan in
-    (omega arith, same-more (bitsOf (a .t1)) (bitsOf (a .t2)) (toBits binary64 nan) (s .i) (omega arith) (omega arith) (x ∙ sym (c .before .before .bits .ensures) ∙ c .if1 .left ∙ c .before .bits2 .ensures ∙ sym y) ∙ s .inv .1)
+    let y = List·getD-map (toBits binary64) (a .t2) (s .i) nan in (
+      omega arith,
+      same-more (bitsOf (a .t1)) (bitsOf (a .t2)) (toBits binary64 nan) (s .i) (omega arith) (omega arith)
+          (x ∙ sym (c .before .before .bits .ensures) ∙ c .if1 .left ∙ c .before .bits2 .ensures ∙ sym y) ∙ s .inv .1,
+    )
 
 returns-2 : tie.Need-returns-2 Inv-loop μ-loop
 returns-2 c =

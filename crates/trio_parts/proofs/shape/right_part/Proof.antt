@@ -19,7 +19,8 @@ some c = le-leb 1 (c .before .before .before .before .args .p .clusters) (c .if1
 few : (c : tie.Else2) → leb (c .before .before .before .before .before .args .p .clusters) 8 ≡ true
 few c = le-leb (c .before .before .before .before .before .args .p .clusters) 8 (c .if2 .left)
 
-counts : (c : tie.Then3) → placesRight countAllowed noCount (3 * c .before .before .before .before .before .before .before .args .p .clusters) (c .before .before .before .before .before .before .before .args .p .counts) ≡ true
+counts : (c : tie.Then3) → let p = c .before .before .before .before .before .before .before .args .p in
+    placesRight countAllowed noCount (3 * p .clusters) (p .counts) ≡ true
 counts c = sym (c .before .counts-right .ensures) ∙ c .if3 .taken
 
 -- ---- the needs
@@ -54,13 +55,23 @@ returns-3 : tie.Need-returns-3
 unfolding rightPart inputRight
 returns-3 c =
     let p = c .before .before .before .before .before .before .before .before .before .before .before .args .p in
-    rw (some (c .before .before .before .before .before .before .before), few (c .before .before .before .before .before .before), counts (c .before .before .before .before), sym (c .before .before .before .weights-right .ensures) ∙ c .before .before .if4 .taken)
+    rw (
+      some (c .before .before .before .before .before .before .before),
+      few (c .before .before .before .before .before .before),
+      counts (c .before .before .before .before),
+      sym (c .before .before .before .weights-right .ensures) ∙ c .before .before .if4 .taken,
+    )
     (c .work-right .ensures ∙ ap (λ (n : ℕ). workRight n (p .marks) (p .held)) (c .before .genotype-count .ensures))
 
 returns-4 : tie.Need-returns-4
 unfolding rightPart inputRight
 returns-4 c =
-    rw (some (c .before .before .before .before .before), few (c .before .before .before .before), counts (c .before .before), sym (c .before .weights-right .ensures) ∙ c .if4 .left)
+    rw (
+      some (c .before .before .before .before .before),
+      few (c .before .before .before .before),
+      counts (c .before .before),
+      sym (c .before .weights-right .ensures) ∙ c .if4 .left,
+    )
 
 returns-5 : tie.Need-returns-5
 unfolding rightPart inputRight

@@ -40,8 +40,10 @@ loop-again : tie.Need-loop-again Inv-loop μ-loop
 loop-again c =
     let a = c .before .before .before .before .args in
     let s = c .before .before .before .loop in
-    let n : length (a .t1) ≡ 8 = search needs in
-    (omega arith, places-more weightAllowed noWeight nan (a .t1) (a .used) (s .i) (omega arith) (sym (c .before .weight-right .ensures) ∙ c .if1 .taken) ∙ s .inv .1)
+    let n : length (a .t1) ≡ 8 = search needs in (
+      omega arith,
+      places-more weightAllowed noWeight nan (a .t1) (a .used) (s .i) (omega arith) (sym (c .before .weight-right .ensures) ∙ c .if1 .taken) ∙ s .inv .1,
+    )
 
 returns : tie.Need-returns Inv-loop μ-loop
 returns c =

@@ -36,7 +36,8 @@ score-is n counts weights s pair many column total whole m k t w some =
 abbrev Inv-loop : tie.InvT-loop
 Inv-loop n pair counts weights many column total whole called other log-lik₀ c₀ log-lik c =
     (c ≤ many) × (many ≤ 8) × (column < 3)
-    × (sumFrom log-lik (map (term counts weights pair column total whole) (numbers c (many - c))) ≡ sumFrom (nat 0) (map (term counts weights pair column total whole) (numbers 0 many)))
+    × (sumFrom log-lik (map (term counts weights pair column total whole) (numbers c (many - c)))
+    ≡ sumFrom (nat 0) (map (term counts weights pair column total whole) (numbers 0 many)))
 
 abbrev μ-loop : tie.MeasureT-loop
 μ-loop n pair counts weights many column total whole called other log-lik₀ c₀ log-lik c = many - c
@@ -56,7 +57,8 @@ below c = rw (c .sample-number .ensures) (sample-below (c .before .before .args 
 column-sum-requires : tie.Need-column-sum-requires Inv-loop μ-loop
 column-sum-requires c κs = (few (c .before), below c)
 
-total-is : (c : tie.After-column-sum Inv-loop μ-loop) → let start = c .before .before .before .args in c .column-sum .result ≡ columnTotal (start .n) (start .t2) (start .s)
+total-is : (c : tie.After-column-sum Inv-loop μ-loop) → let start = c .before .before .before .args in
+    c .column-sum .result ≡ columnTotal (start .n) (start .t2) (start .s)
 unfolding columnTotal
 total-is c = rw (c .column-sum .ensures .0, c .before .sample-number .ensures, c .before .before .in-use .ensures)
 
@@ -67,7 +69,8 @@ returns c = rw (← total-is (c .before), eq-eqb (c .before .column-sum .result)
 expected-total-requires : tie.Need-expected-total-requires Inv-loop μ-loop
 expected-total-requires c κs = search needs
 
-whole-is : (c : tie.After-expected-total Inv-loop μ-loop) → let start = c .before .before .before .before .before .args in c .expected-total .result ≡ expectationTotal (start .n) (start .pair)
+whole-is : (c : tie.After-expected-total Inv-loop μ-loop) → let start = c .before .before .before .before .before .args in
+    c .expected-total .result ≡ expectationTotal (start .n) (start .pair)
 unfolding expectationTotal
 whole-is c = rw (c .expected-total .ensures, c .before .before .before .before .in-use .ensures)
 
@@ -127,8 +130,12 @@ log-binomial-requires : tie.Need-log-binomial-requires Inv-loop μ-loop
 log-binomial-requires c κs =
     let begun = c .before .before .before .before .before .before .before .before in
     let start = begun .before .before .before .args in
-    let all = begun .column-sum .ensures in
-    (rw (all .0) (count-in-column (start .t2) (begun .before .sample-number .result) (begun .before .before .in-use .result) (c .before .before .loop .c) (c .before .loop-test .taken)), all .1, rw (chosen c))
+    let all = begun .column-sum .ensures in (
+      rw (all .0) (count-in-column (start .t2) (begun .before .sample-number .result) (begun .before .before .in-use .result)
+          (c .before .before .loop .c) (c .before .loop-test .taken)),
+      all .1,
+      rw (chosen c),
+    )
 
 ln-requires : tie.Need-ln-requires Inv-loop μ-loop
 ln-requires c κs = search needs
@@ -145,7 +152,8 @@ turn : (c : tie.After-ln Inv-loop μ-loop) →
     let begun = whole .before .before in
     let start = begun .before .before .before .args in
     c .before .log-binomial .result ⊕ c .ln .result
-    ≡ term (start .t2) (start .t3) (start .pair) (begun .before .sample-number .result) (begun .column-sum .result) (whole .expected-total .result) (c .before .before .before .before .loop .c)
+    ≡ term (start .t2) (start .t3) (start .pair) (begun .before .sample-number .result) (begun .column-sum .result)
+    (whole .expected-total .result) (c .before .before .before .before .loop .c)
 unfolding round ofBits
 turn c = rw (c .before .log-binomial .ensures, c .ln .ensures, chosen (c .before .before))
 
@@ -165,7 +173,8 @@ returns-2 c =
     let start = begun .before .before .before .args in
     let total = begun .column-sum .result in
     (rw (up-done (now .c) (many .result) (c .loop-test .left)) at (now .inv .3))
-    ∙ score-is (start .n) (start .t2) (start .t3) (start .s) (start .pair) (many .result) (begun .before .sample-number .result) total (whole .expected-total .result) (many .ensures) (begun .before .sample-number .ensures) (total-is begun) (whole-is whole) (read .if1 .left)
+    ∙ score-is (start .n) (start .t2) (start .t3) (start .s) (start .pair) (many .result) (begun .before .sample-number .result) total
+    (whole .expected-total .result) (many .ensures) (begun .before .sample-number .ensures) (total-is begun) (whole-is whole) (read .if1 .left)
 
 pub compute-log-likelihood-spec : {M : Type 1} → statement M
 compute-log-likelihood-spec =

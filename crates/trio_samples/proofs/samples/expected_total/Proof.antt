@@ -1,4 +1,5 @@
--- `trio_samples::samples::expected_total` meets its contract. The loop's invariant: the running sum, carried through the clusters left, is the whole. Assumes nothing.
+-- `trio_samples::samples::expected_total` meets its contract. The loop's invariant: the running sum, carried through the clusters left,
+-- is the whole. Assumes nothing.
 use mathlib.Core.Path.{_≡_}
 use mathlib.Core.List.{map}
 use Prim.Native.Nat.{_-_, _≤_}
@@ -14,7 +15,8 @@ use Rattle.trio_samples.proofs.samples.expected_total.Statement.{statem
 use Rattle.trio_samples.proofs.samples.expected_total.Tie as tie
 
 abbrev Inv-loop : tie.InvT-loop
-Inv-loop n pair total₀ c₀ total c = (c ≤ n) × (sumFrom total (map (expectation pair) (numbers c (n - c))) ≡ sumFrom (nat 0) (map (expectation pair) (numbers 0 n)))
+Inv-loop n pair total₀ c₀ total c =
+    (c ≤ n) × (sumFrom total (map (expectation pair) (numbers c (n - c))) ≡ sumFrom (nat 0) (map (expectation pair) (numbers 0 n)))
 
 abbrev μ-loop : tie.MeasureT-loop
 μ-loop n pair total₀ c₀ total c = n - c

@@ -43,7 +43,12 @@ returns-3 : tie.Need-returns-3
 unfolding logBinomial round ofInt ofBits
 returns-3 c =
     let logs = c .before .before .before .before .before .before .pre .2 in
-    rw (c .before .before .before .before .before .if1 .left, c .before .before .before .before .if2 .left, ap (λ (x : Share). x .log) logs, ap (λ (x : Share). x .rest) logs)
+    rw (
+      c .before .before .before .before .before .if1 .left,
+      c .before .before .before .before .if2 .left,
+      ap (λ (x : Share). x .log) logs,
+      ap (λ (x : Share). x .rest) logs,
+    )
 
 pub log-binomial-spec : {M : Type 1} → statement M
 log-binomial-spec = tie.close (tie.spec impossible-requires returns returns-2 int-to-float-result sub-result int-to-float-result-2 returns-3)

@@ -19,7 +19,8 @@ list-right-requires c κs = search needs
 returns : tie.Need-returns
 returns c =
     let a = c .before .before .before .before .before .before .before .args in
-    let n : a .h .count ≡ heldCount (a .rows) (a .marks) = c .before .before .before .before .before .if1 .taken ∙ c .before .before .before .before .before .before .held-count .ensures in
+    let n : a .h .count ≡ heldCount (a .rows) (a .marks) =
+    c .before .before .before .before .before .if1 .taken ∙ c .before .before .before .before .before .before .held-count .ensures in
     let u : unusedZero (a .h .count) (a .h .first) (a .h .second) ≡ true = sym (c .before .before .unused-zero .ensures) ∙ c .before .if2 .taken in
     rw (eq-eqb (a .h .count) (heldCount (a .rows) (a .marks)) n, u) (c .list-right .ensures)
 

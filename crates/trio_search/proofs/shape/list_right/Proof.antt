@@ -26,7 +26,9 @@ returns-3 : tie.Need-returns-3
 returns-3 c =
     let a = c .before .before .before .before .before .before .before .args in
     let d = c .before .before in
-    c .pair-right .ensures ∙ list-two (a .rows) (a .marks) (a .h) true (d .before .before .if1 .left) (d .before .if2 .left) (sym (d .scored-in-marked2 .ensures) ∙ c .before .if3 .taken)
+    c .pair-right .ensures
+    ∙ list-two (a .rows) (a .marks) (a .h) true (d .before .before .if1 .left) (d .before .if2 .left)
+    (sym (d .scored-in-marked2 .ensures) ∙ c .before .if3 .taken)
 
 returns-4 : tie.Need-returns-4
 returns-4 c =

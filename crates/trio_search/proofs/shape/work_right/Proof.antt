@@ -41,7 +41,11 @@ unfolding workRight
 returns-4 c =
     let a = c .before .before .before .before .args in
     let k : a .marks < 2 ^ a .rows = rw (one-shifted (a .rows) (omega arith)) at (c .before .if3 .left) in
-    rw (le-leb 1 (a .rows) (c .before .before .before .if1 .left), le-leb (a .rows) 63 (c .before .before .if2 .left), lt-ltb (a .marks) (2 ^ a .rows) k) (c .held-right .ensures)
+    rw (
+      le-leb 1 (a .rows) (c .before .before .before .if1 .left),
+      le-leb (a .rows) 63 (c .before .before .if2 .left),
+      lt-ltb (a .marks) (2 ^ a .rows) k,
+    ) (c .held-right .ensures)
 
 pub work-right-spec : {M : Type 1} → statement M
 work-right-spec =

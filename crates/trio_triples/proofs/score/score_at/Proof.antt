@@ -23,9 +23,16 @@ returns : tie.Need-returns
 unfolding tripleScore
 returns c =
     let t = c .before .before .before .before .before .before .before .triple-of .ensures in
-    rw (c .mendelian-prior .ensures, c .before .compute-log-likelihood3 .ensures, c .before .before .compute-log-likelihood2 .ensures, c .before .before .before .compute-log-likelihood .ensures, t)
+    rw (
+      c .mendelian-prior .ensures,
+      c .before .compute-log-likelihood3 .ensures,
+      c .before .before .compute-log-likelihood2 .ensures,
+      c .before .before .before .compute-log-likelihood .ensures,
+      t,
+    )
 
 pub score-at-spec : {M : Type 1} → statement M
 score-at-spec =
     tie.close
-    (tie.spec triple-of-requires compute-log-likelihood-requires compute-log-likelihood-requires-2 compute-log-likelihood-requires-3 mendelian-prior-requires returns)
+    (tie.spec triple-of-requires compute-log-likelihood-requires compute-log-likelihood-requires-2
+    compute-log-likelihood-requires-3 mendelian-prior-requires returns)
