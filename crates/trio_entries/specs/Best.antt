@@ -9,12 +9,12 @@ use lib.ListN.{take}
 
 -- a set, as T5, T8 and D3 speak of it, is a type for each element: that it is in
 module _ {A : Type 0} where
-  -- the elements of a list
+  -- T5: the elements of a list, as a set
   abbrev pub In : List A → A → Type 0
   In [] x = ⊥
   In (a ∷ l) x = (x ≡ a) ⊎ In l x
 
-  -- for the laws: S, and whatever is in U
+  -- for the laws (T8): S, and whatever is in U
   abbrev pub Or : (A → Type 0) → (A → Type 0) → A → Type 0
   Or S U x = S x ⊎ U x
 
@@ -42,8 +42,8 @@ module _ {A : Type 0} (beats : A → A → Bool) where
   offered (suc k) a [] = a ∷ []
   offered (suc k) a (b ∷ h) = cond (beats a b) (a ∷ take k (b ∷ h)) (b ∷ offered k a h)
 
--- for the laws: beats is a strict order, and of any two of the set that are not equal one beats the other; so `beatsOf` is over entries of
--- which no two are at one position (`ranks-apart`, trio_entries/proofs/RankLaws.antt)
+-- for the laws (T7): beats is a strict order, and of any two of the set that are not equal one beats the other; so `beatsOf` is over
+-- entries of which no two are at one position (`ranks-apart`, trio_entries/proofs/RankLaws.antt)
 pub record Ranks {A : Type 0} (Good : A → Type 0) (beats : A → A → Bool) : Type 0 where
   pub irreflexive : (a : A) → T (beats a a) → ⊥
   pub transitive : (a b c : A) → T (beats a b) → T (beats b c) → T (beats a c)
