@@ -324,7 +324,3 @@ module _ (max : Pick) (is-max : IsMax max) (m : Model) (three : ThreeEach m) (al
   pub way-within : (ref this other total : ℕ) → ref + this < 2 ^ 22 → other ≤ total → total < 2 ^ 22 → Within (2 ^ 40) (oneWay m ref this other total)
   way-within ref this other total h k l = one-way-within m ref this other total (share-at 0 (lit< tt)) (share-at 1 (lit< tt)) h k l
 
--- ---- a number that an f64 holds
-
-abbrev pub Fits : Float → Type 0
-Fits x = T (fits binary64 x)

@@ -16,7 +16,7 @@ use lib.Ieee.Exact.{HasValue, odd-sign}
 use lib.Ieee.Nearest.{div-same}
 use Rattle.text_writing.specs.declared.figures.Figure.the-variants.{Is, TooLarge}
 use Rattle.text_writing.specs.Laying.{glyphOf, wholeText}
-use Rattle.text_writing.specs.Figures.{nearestHundredths, figureAt, figureOf, figureText}
+use Rattle.text_writing.specs.Figures.{nearestHundredths, figureAt, figureOf, figureText, Nearest}
 
 -- ---- by any fraction of the same value
 
@@ -144,11 +144,6 @@ unfolding figureText
 figure-text s h k c d e f g = append-assoc (take k (45 ∷ [])) (wholeText (h / 100)) (46 ∷ c ∷ d ∷ []) ∙ rw (e, f, g, sign-text s)
 
 -- ---- the definition gives the nearest
-
-pub record Nearest (a c h : ℕ) : Type 0 where
-  -- h − 1/2 ≤ 100·a / c < h + 1/2
-  pub not-above : 2 * h * c ≤ 200 * a + c
-  pub not-below : 200 * a < (2 * h + 1) * c
 
 pub nearest-hundredths : (a c : ℕ) → 0 < c → Nearest a c (nearestHundredths a c)
 nearest-hundredths a c C =
