@@ -1,5 +1,5 @@
 -- The VAFs of somatic alleles: where they start, what they leave for germline alleles, and their candidates. Definitions only
--- (RULES.md, M1, M3, M5); what they add to the prior is here for the code, and M4 in mosaic_hypotheses/specs/Prior.antt.
+-- (RULES.md, M1, M3, M5).
 use Prim.Native.Nat.{ℕ}
 use mathlib.Core.Bool.{Bool, true, false, _||_, cond}
 use mathlib.Core.List.{List}
@@ -20,14 +20,14 @@ anyOver counts g = over (λ i b. b || somaticIn counts g i) false
 abbrev pub anySomatic : List ℕ → GermlinePair → Bool
 anySomatic counts g = anyOver counts g (length counts)
 
--- M1: a somatic allele starts at 0.05; the place of any other allele is zero
+-- M1: a somatic allele starts at 0.05, and the place of any other allele is zero: of the first k alleles, and of all
 abbrev pub startOver : List ℕ → GermlinePair → ℕ → List Float
 startOver counts g = placed (replicate 8 (nat 0)) (λ i. cond (somaticIn counts g i) (decimal 5 2) (nat 0))
 
 unfoldable pub startVafs : List ℕ → GermlinePair → List Float
 startVafs counts g = startOver counts g (length counts)
 
--- the VAF of a somatic allele
+-- M3: the VAF of a somatic allele
 abbrev pub vafAt : List Float → ℕ → Float
 vafAt vafs i = getD vafs i nan
 
@@ -42,13 +42,6 @@ massOf counts g vafs = massOver counts g vafs (length counts)
 unfoldable pub germlineShare : GermlinePair → Float → Float
 germlineShare g mass = let rest = larger (nat 1 ⊖ mass) (decimal 1 2) in cond (alone g) rest (rest ⊘ nat 2)
 
--- for the code: M4's gain of a VAF (`gainOf`, mosaic_hypotheses/specs/Prior.antt), by the numbers of the density that are kept;
--- the law is `gain-by` (mosaic_hypotheses/proofs/Terms.antt)
-unfoldable pub gainBy : Density → Float → Float
-gainBy d v =
-    let inside = d .a ⊗ lnOf v ⊕ d .b ⊗ lnOf (nat 1 ⊖ v) ⊖ d .«gamma_alpha» ⊖ d .«gamma_beta» ⊕ d .«gamma_sum» in
-    cond (le (nat 1) v) (inf true) (cond (lt (nat 0) v) inside (nat 0))
-
 -- M5: the observed share, count / total, which no limit touches
 abbrev pub observedShare : ℕ → Float → Float
 observedShare count total = nat count ⊘ total
@@ -56,3 +49,12 @@ observedShare count total = nat count ⊘ total
 -- M5: step s of the highest VAF, the quotient rounded first
 abbrev pub stepOf : Float → ℕ → Float
 stepOf highest s = highest ⊗ (nat s ⊘ nat 20)
+
+-- ---- for the code
+
+-- M4: the gain of a VAF (`gainOf`, mosaic_hypotheses/specs/Prior.antt), by the numbers of the density that are kept; the law is `gain-by`
+-- (mosaic_hypotheses/proofs/Terms.antt)
+unfoldable pub gainBy : Density → Float → Float
+gainBy d v =
+    let inside = d .a ⊗ lnOf v ⊕ d .b ⊗ lnOf (nat 1 ⊖ v) ⊖ d .«gamma_alpha» ⊖ d .«gamma_beta» ⊕ d .«gamma_sum» in
+    cond (le (nat 1) v) (inf true) (cond (lt (nat 0) v) inside (nat 0))

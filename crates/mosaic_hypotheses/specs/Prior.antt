@@ -25,7 +25,7 @@ lnDensity lnGamma p v =
 unfoldable pub gainOf : (Float → Float) → Params → Float → Float
 gainOf lnGamma p v = cond (le (nat 1) v) (inf true) (cond (lt (nat 0) v) (lnDensity lnGamma p v) (nat 0))
 
--- M4: the gains of the somatic alleles in rising order, from 0.0
+-- M4: the gains of the somatic alleles in rising order, from 0.0: over the first k alleles
 abbrev pub gainsOver : Edition → Params → List ℕ → GermlinePair → List Float → ℕ → Float
 gainsOver e p counts g vafs = over (λ i s. cond (somaticIn counts g i) (s ⊕ gainOf (e .lnGamma) p (vafAt vafs i)) s) (nat 0)
 

@@ -40,8 +40,9 @@ use Rattle.mosaic_alleles.proofs.CountLaws.{count-bound, total-bound}
 use Rattle.lists.proofs.OverLaws.{length-placed, at-set}
 use Rattle.mosaic_laws.specs.AtOnce.{VafsFromZero}
 use Rattle.mosaic_laws.specs.Accepted.{AcceptedMosaic}
+use Rattle.mosaic_laws.specs.Found.{Vaf, KeptValue, none-yet, finite-value, Tryable, AllBelowOne, KeptBest, FiniteBest}
 use Rattle.mosaic_laws.proofs.Quotients.{observed-share}
-use Rattle.mosaic_laws.proofs.Terms.{either, within-factorial, highest-within, Vaf, ln-within, one-at, gain-within, share-ln-within}
+use Rattle.mosaic_laws.proofs.Terms.{either, within-factorial, highest-within, ln-within, one-at, gain-within, share-ln-within}
 use Rattle.mosaic_laws.proofs.Sums.{over-keeps, grows, of-eight}
 use Rattle.mosaic_laws.proofs.PriorAtOnce.{density, germline-within, prior-least}
 use Rattle.mosaic_laws.proofs.Least.{under-finite, least-stays}
@@ -67,14 +68,7 @@ module _ (p : Params) (counts : List ℕ) (ok : AcceptedMosaic p counts) (g : Ge
   steps : (i B : ℕ) → i < n → i * B ≤ 8 * B
   steps i B l = of-eight i B (omega (arith, ok .few))
 
-  -- every somatic VAF may be tried; and all are below 1
-  abbrev Tryable : List Float → Type 0
-  Tryable l = (i : ℕ) → i < n → somaticIn counts g i ≡ true → Vaf (vafAt l i)
-
-  abbrev Low1 : List Float → Type 0
-  Low1 l = (i : ℕ) → i < n → somaticIn counts g i ≡ true → lt (vafAt l i) (nat 1) ≡ true
-
-  mass-within : (l : List Float) → Tryable l → Within 160 (massOf counts g l)
+  mass-within : (l : List Float) → Tryable counts g l → Within 160 (massOf counts g l)
   mass-within l h =
       within-more
       (grows Within 0 20 (λ i s. cond (somaticIn counts g i) (s ⊕ vafAt l i) s) (nat 0) n
@@ -86,7 +80,8 @@ module _ (p : Params) (counts : List ℕ) (ok : AcceptedMosaic p counts) (g : Ge
       (omega (arith, eight 20))
 
   -- the term of an allele that is seen
-  term-within : (l : List Float) → Tryable l → (i : ℕ) → i < n → seenIn counts i ≡ true → Within (1000000 * 2 ^ 12) (nat (countAt counts i) ⊗ lnOf (alleleShare counts g l i))
+  term-within : (l : List Float) → Tryable counts g l → (i : ℕ) → i < n → seenIn counts i ≡ true
+      → Within (1000000 * 2 ^ 12) (nat (countAt counts i) ⊗ lnOf (alleleShare counts g l i))
   term-within l h i m s =
       within-mul (within-whole (pos (countAt counts i)) 1000000 (count-bound counts (ok .counts-are) i) (lit≤ tt))
       (either (λ v. Within (2 ^ 12) (lnOf v)) (germlineIn g i) (germlineShare g (massOf counts g l)) (vafAt l i)
@@ -94,7 +89,7 @@ module _ (p : Params) (counts : List ℕ) (ok : AcceptedMosaic p counts) (g : Ge
       (λ e. ln-within (vafAt l i) (h i m (rw (s, e)))))
       (lit≤ tt)
 
-  likelihood-within : (l : List Float) → Tryable l → Within (2 ^ 43) (likelihoodOf firstEdition counts g l)
+  likelihood-within : (l : List Float) → Tryable counts g l → Within (2 ^ 43) (likelihoodOf firstEdition counts g l)
   unfolding likelihoodOf
   likelihood-within l h =
       within-more
@@ -112,7 +107,7 @@ module _ (p : Params) (counts : List ℕ) (ok : AcceptedMosaic p counts) (g : Ge
 
   -- ---- the prior
 
-  prior-within : (l : List Float) → Tryable l → Low1 l → Within (2 ^ 45) (priorOf firstEdition p counts g l)
+  prior-within : (l : List Float) → Tryable counts g l → AllBelowOne counts g l → Within (2 ^ 45) (priorOf firstEdition p counts g l)
   unfolding priorOf
   prior-within l h k =
       within-more
@@ -128,32 +123,19 @@ module _ (p : Params) (counts : List ℕ) (ok : AcceptedMosaic p counts) (g : Ge
 
   -- ---- what is kept
 
-  -- minus infinity, or finite
-  pub data Value : Float → Type 0 where
-    none : Value (inf true)
-    some : {v : Float} → Within (2 ^ 46) v → T (fits binary64 v) → Value v
-
-  pub record KeptBest (b : BestVafs) : Type 0 where
-    pub eight-vafs : length (b .vafs) ≡ 8
-    pub tryable : Tryable (b .vafs)
-    pub low : Low1 (b .vafs)
-    pub value-is : Value (b .value)
-
-  -- a value that is finite
-  pub record FiniteBest (b : BestVafs) : Type 0 where
-    pub kept : KeptBest b
-    pub within : Within (2 ^ 46) (b .value)
-
-  value-within : (l : List Float) → Tryable l → Low1 l → Within (2 ^ 46) (valueOf firstEdition p counts g l)
+  value-within : (l : List Float) → Tryable counts g l → AllBelowOne counts g l → Within (2 ^ 46) (valueOf firstEdition p counts g l)
   value-within l h k = within-more (within-add (likelihood-within l h) (prior-within l h k) (lit≤ tt)) (lit≤ tt)
 
-  set-vafs : (l : List Float) → length l ≡ 8 → (P : Float → Type 0) → (i : ℕ) → i < n → (x : Float) → P x → ((j : ℕ) → j < n → somaticIn counts g j ≡ true → P (vafAt l j)) → (j : ℕ) → j < n → somaticIn counts g j ≡ true → P (vafAt (set l i x) j)
+  set-vafs : (l : List Float) → length l ≡ 8 → (P : Float → Type 0) → (i : ℕ) → i < n → (x : Float) → P x
+      → ((j : ℕ) → j < n → somaticIn counts g j ≡ true → P (vafAt l j))
+      → (j : ℕ) → j < n → somaticIn counts g j ≡ true → P (vafAt (set l i x) j)
   set-vafs l e P i m x h k j q s = at-set l i j x nan (omega (arith, ok .few)) (eqb j i) refl P (λ r. h) (λ r. k j q s)
 
-  set-tryable : (b : BestVafs) → KeptBest b → (i : ℕ) → i < n → (x : Float) → Vaf x → Tryable (set (b .vafs) i x)
+  set-tryable : (b : BestVafs) → KeptBest counts g b → (i : ℕ) → i < n → (x : Float) → Vaf x → Tryable counts g (set (b .vafs) i x)
   set-tryable b h i m x v = set-vafs (b .vafs) (h .eight-vafs) Vaf i m x v (h .tryable)
 
-  made : (b : BestVafs) → KeptBest b → (i : ℕ) → i < n → (x : Float) → Vaf x → lt x (nat 1) ≡ true → let l = set (b .vafs) i x in FiniteBest (record { vafs = l; value = valueOf firstEdition p counts g l })
+  made : (b : BestVafs) → KeptBest counts g b → (i : ℕ) → i < n → (x : Float) → Vaf x → lt x (nat 1) ≡ true
+      → let l = set (b .vafs) i x in FiniteBest counts g (record { vafs = l; value = valueOf firstEdition p counts g l })
   made b h i m x v e =
       let l = set (b .vafs) i x in
       let t = set-tryable b h i m x v in
@@ -164,21 +146,22 @@ module _ (p : Params) (counts : List ℕ) (ok : AcceptedMosaic p counts) (g : Ge
           eight-vafs = length-set (b .vafs) i x ∙ h .eight-vafs;
           tryable = t;
           low = low;
-          value-is = some w (add-fits binary64 (likelihoodOf firstEdition counts g l) (priorOf firstEdition p counts g l));
+          value-is = finite-value w (add-fits binary64 (likelihoodOf firstEdition counts g l) (priorOf firstEdition p counts g l));
         };
         within = w;
       }
 
-  number : {v : Float} → Value v → isNan v ≡ false
-  number none = unfold isNan in refl
-  number (some w f) = within-number w
+  number : {v : Float} → KeptValue v → isNan v ≡ false
+  number none-yet = unfold isNan in refl
+  number (finite-value w f) = within-number w
 
-  fit : {v : Float} → Value v → T (fits binary64 v)
-  fit none = unfold fits in tt
-  fit (some w f) = f
+  fit : {v : Float} → KeptValue v → T (fits binary64 v)
+  fit none-yet = unfold fits in tt
+  fit (finite-value w f) = f
 
   -- a candidate from 1 on is not kept
-  pub beyond : (b : BestVafs) → KeptBest b → (i : ℕ) → i < n → somaticIn counts g i ≡ true → (x : Float) → Vaf x → le (nat 1) x ≡ true → tried firstEdition p counts g i x b ≡ b
+  pub beyond : (b : BestVafs) → KeptBest counts g b → (i : ℕ) → i < n → somaticIn counts g i ≡ true → (x : Float) → Vaf x
+      → le (nat 1) x ≡ true → tried firstEdition p counts g i x b ≡ b
   beyond b h i m s x v e =
       let l = set (b .vafs) i x in
       let t = set-tryable b h i m x v in
@@ -202,25 +185,30 @@ module _ (p : Params) (counts : List ℕ) (ok : AcceptedMosaic p counts) (g : Ge
   unfolding tried
   tried-is i x b = refl
 
-  tried-some : (i : ℕ) → i < n → somaticIn counts g i ≡ true → (x : Float) → Vaf x → (b : BestVafs) → FiniteBest b → FiniteBest (tried firstEdition p counts g i x b)
+  tried-some : (i : ℕ) → i < n → somaticIn counts g i ≡ true → (x : Float) → Vaf x → (b : BestVafs) → FiniteBest counts g b
+      → FiniteBest counts g (tried firstEdition p counts g i x b)
   tried-some i m s x v b h = go (le (nat 1) x) refl
     where
-      go : (t : Bool) → le (nat 1) x ≡ t → FiniteBest (tried firstEdition p counts g i x b)
-      go true e = subst FiniteBest (sym (beyond b (h .kept) i m s x v e)) h
-      go false e = subst FiniteBest (tried-is i x b) (either FiniteBest (larger i x b) (better i x b) b (λ q. made b (h .kept) i m x v (not-one x v e)) (λ q. h))
+      go : (t : Bool) → le (nat 1) x ≡ t → FiniteBest counts g (tried firstEdition p counts g i x b)
+      go true e = subst (FiniteBest counts g) (sym (beyond b (h .kept) i m s x v e)) h
+      go false e =
+          subst (FiniteBest counts g) (tried-is i x b)
+          (either (FiniteBest counts g) (larger i x b) (better i x b) b (λ q. made b (h .kept) i m x v (not-one x v e)) (λ q. h))
 
   -- a candidate below 1 leaves a finite value, whatever stood before
-  pub first-some : (i : ℕ) → i < n → somaticIn counts g i ≡ true → (x : Float) → Vaf x → lt x (nat 1) ≡ true → (b : BestVafs) → KeptBest b → FiniteBest (tried firstEdition p counts g i x b)
+  pub first-some : (i : ℕ) → i < n → somaticIn counts g i ≡ true → (x : Float) → Vaf x → lt x (nat 1) ≡ true
+      → (b : BestVafs) → KeptBest counts g b → FiniteBest counts g (tried firstEdition p counts g i x b)
   first-some i m s x v e b h = go (b .value) refl (h .value-is)
     where
-      go : (w : Float) → w ≡ b .value → Value w → FiniteBest (tried firstEdition p counts g i x b)
-      go w q (some k f) = tried-some i m s x v b (record { kept = h; within = subst (Within (2 ^ 46)) q k })
-      go w q none =
+      go : (w : Float) → w ≡ b .value → KeptValue w → FiniteBest counts g (tried firstEdition p counts g i x b)
+      go w q (finite-value k f) = tried-some i m s x v b (record { kept = h; within = subst (Within (2 ^ 46)) q k })
+      go w q none-yet =
           let a = made b h i m x v e in
           let y = better i x b .value in
           let test : larger i x b ≡ true =
-          ap (λ (z : Float). ltZ (keyOf z) (keyOf y)) (sym q) ∙ key-order (inf true) y (fit none) (fit (a .kept .value-is)) (number none) (number (a .kept .value-is)) ∙ under-finite y (a .within .is-finite) in
-          subst FiniteBest (tried-is i x b) (subst (λ (t : Bool). FiniteBest (cond t (better i x b) b)) (sym test) a)
+          ap (λ (z : Float). ltZ (keyOf z) (keyOf y)) (sym q)
+          ∙ key-order (inf true) y (fit none-yet) (fit (a .kept .value-is)) (number none-yet) (number (a .kept .value-is)) ∙ under-finite y (a .within .is-finite) in
+          subst (FiniteBest counts g) (tried-is i x b) (subst (λ (t : Bool). FiniteBest counts g (cond t (better i x b) b)) (sym test) a)
 
   -- ---- the candidates
 
@@ -253,19 +241,21 @@ module _ (p : Params) (counts : List ℕ) (ok : AcceptedMosaic p counts) (g : Ge
         within = w;
       }
 
-  step-some : (i : ℕ) → i < n → somaticIn counts g i ≡ true → (s : ℕ) → s < 21 → (b : BestVafs) → FiniteBest b → FiniteBest (triedStep firstEdition p counts g i s b)
+  step-some : (i : ℕ) → i < n → somaticIn counts g i ≡ true → (s : ℕ) → s < 21 → (b : BestVafs) → FiniteBest counts g b
+      → FiniteBest counts g (triedStep firstEdition p counts g i s b)
   step-some i m t s l b h = go (lt (decimal 1 3) (stepOf (p .highest) s)) refl
     where
-      go : (c : Bool) → lt (decimal 1 3) (stepOf (p .highest) s) ≡ c → FiniteBest (cond c (tried firstEdition p counts g i (stepOf (p .highest) s) b) b)
+      go : (c : Bool) → lt (decimal 1 3) (stepOf (p .highest) s) ≡ c → FiniteBest counts g (cond c (tried firstEdition p counts g i (stepOf (p .highest) s) b) b)
       go true e = tried-some i m t (stepOf (p .highest) s) (step-vaf s (omega arith) e) b h
       go false e = h
 
-  allele-some : (i : ℕ) → i < n → somaticIn counts g i ≡ true → (b : BestVafs) → KeptBest b → FiniteBest (searchedAllele firstEdition p counts g i b)
+  allele-some : (i : ℕ) → i < n → somaticIn counts g i ≡ true → (b : BestVafs) → KeptBest counts g b → FiniteBest counts g (searchedAllele firstEdition p counts g i b)
   unfolding searchedAllele
   allele-some i m s b h =
       let x = observedShare (countAt counts i) (nat (totalOf counts)) in
       let o = observed i m s in
-      over-keeps FiniteBest (triedStep firstEdition p counts g i) (tried firstEdition p counts g i x b) 21 (step-some i m s) (first-some i m s x (o .0) (o .1) b h)
+      over-keeps (FiniteBest counts g) (triedStep firstEdition p counts g i) (tried firstEdition p counts g i x b) 21
+      (step-some i m s) (first-some i m s x (o .0) (o .1) b h)
 
   -- ---- the search, and the posterior
 
@@ -276,24 +266,24 @@ module _ (p : Params) (counts : List ℕ) (ok : AcceptedMosaic p counts) (g : Ge
     within = within-fraction 5 100 20 (lit< tt) (lit≤ tt) (lit≤ tt);
   }
 
-  start-tryable : Tryable (startVafs counts g)
+  start-tryable : Tryable counts g (startVafs counts g)
   start-tryable i l s = subst Vaf (sym (start-at p counts (ok .few) g i l s)) start-vaf
 
-  start-low : Low1 (startVafs counts g)
+  start-low : AllBelowOne counts g (startVafs counts g)
   start-low i l s = subst (λ (v : Float). lt v (nat 1) ≡ true) (sym (start-at p counts (ok .few) g i l s)) (unfold round lt ofInt in refl)
 
-  start-kept : KeptBest (record { vafs = startVafs counts g; value = inf true })
+  start-kept : KeptBest counts g (record { vafs = startVafs counts g; value = inf true })
   start-kept = record {
     eight-vafs = unfold startVafs in (length-placed (replicate 8 (nat 0)) (λ i. cond (somaticIn counts g i) (decimal 5 2) (nat 0)) n);
     tryable = start-tryable;
     low = start-low;
-    value-is = none;
+    value-is = none-yet;
   }
 
   -- after a somatic allele the value is finite
   record Gone (k : ℕ) (b : BestVafs) : Type 0 where
-    pub kept : KeptBest b
-    pub then-some : anyOver counts g k ≡ true → FiniteBest b
+    pub kept : KeptBest counts g b
+    pub then-some : anyOver counts g k ≡ true → FiniteBest counts g b
 
   abbrev searchStep : ℕ → BestVafs → BestVafs
   searchStep i b = cond (somaticIn counts g i) (searchedAllele firstEdition p counts g i b) b
@@ -321,13 +311,14 @@ module _ (p : Params) (counts : List ℕ) (ok : AcceptedMosaic p counts) (g : Ge
           → let b = cond t (searchedAll firstEdition p counts g) (record { vafs = startVafs counts g; value = likelihoodOf firstEdition counts g (startVafs counts g) }) in
           Within (2 ^ 47) (cond (t && not true) (b .value) (b .value ⊕ priorOf firstEdition p counts g (b .vafs)))
       go true e =
-          let s : FiniteBest (searchedAll firstEdition p counts g) = unfold searchedAll in (gone n (omega arith) .then-some e) in
+          let s : FiniteBest counts g (searchedAll firstEdition p counts g) = unfold searchedAll in (gone n (omega arith) .then-some e) in
           within-more (within-add (s .within) (prior-within (searchedAll firstEdition p counts g .vafs) (s .kept .tryable) (s .kept .low)) (lit≤ tt)) (lit≤ tt)
       go false e =
           within-more (within-add (likelihood-within (startVafs counts g) start-tryable) (prior-within (startVafs counts g) start-tryable start-low) (lit≤ tt)) (lit≤ tt)
 
   -- every somatic VAF that was found is above zero and below 1
-  pub found-vafs : (i : ℕ) → i < n → somaticIn counts g i ≡ true → Vaf (vafAt (foundOf firstEdition p counts g .vafs) i) × (lt (vafAt (foundOf firstEdition p counts g .vafs) i) (nat 1) ≡ true)
+  pub found-vafs : (i : ℕ) → i < n → somaticIn counts g i ≡ true
+      → Vaf (vafAt (foundOf firstEdition p counts g .vafs) i) × (lt (vafAt (foundOf firstEdition p counts g .vafs) i) (nat 1) ≡ true)
   unfolding foundOf
   found-vafs i l s = go (anySomatic counts g) refl
     where
@@ -335,7 +326,7 @@ module _ (p : Params) (counts : List ℕ) (ok : AcceptedMosaic p counts) (g : Ge
           → let b = cond t (searchedAll firstEdition p counts g) (record { vafs = startVafs counts g; value = likelihoodOf firstEdition counts g (startVafs counts g) }) in
           Vaf (vafAt (b .vafs) i) × (lt (vafAt (b .vafs) i) (nat 1) ≡ true)
       go true e =
-          let k : KeptBest (searchedAll firstEdition p counts g) = unfold searchedAll in (gone n (omega arith) .kept) in
+          let k : KeptBest counts g (searchedAll firstEdition p counts g) = unfold searchedAll in (gone n (omega arith) .kept) in
           (k .tryable i l s, k .low i l s)
       go false e = (start-tryable i l s, start-low i l s)
 

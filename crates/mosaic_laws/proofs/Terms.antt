@@ -30,6 +30,7 @@ use Rattle.mosaic_hypotheses.specs.Prior.{gainOf}
 use Rattle.mosaic_params.specs.declared.params.Params.{Params}
 use Rattle.mosaic_alleles.specs.declared.pair.GermlinePair.{GermlinePair}
 use Rattle.mosaic_laws.proofs.Quotients.{above-div}
+use Rattle.mosaic_laws.specs.Found.{Vaf}
 
 -- ---- the short log gamma of a number above zero and at most 2 ^ 23
 
@@ -141,11 +142,6 @@ dense p allowed f g =
     }
 
 -- ---- a VAF that is tried: above zero, an f64, not large
-
-pub record Vaf (v : Float) : Type 0 where
-  pub above-zero : T (positive v)
-  pub is-f64 : T (fits binary64 v)
-  pub within : Within 20 v
 
 pub ln-within : (v : Float) → Vaf v → Within (2 ^ 12) (lnOf v)
 ln-within v h = within-ln v (h .is-f64) (h .above-zero)
