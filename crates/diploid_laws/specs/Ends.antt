@@ -1,5 +1,5 @@
--- For the law that a segment's formula can pass its end (`can-pass`, `passes-by`, proofs/AlongBounds.antt): two values between which it does.
--- Definitions only (RULES.md, G5, W1).
+-- For the law that a segment's formula can pass its end (`can-pass`, `passes-by`, proofs/AlongBounds.antt): two values between which it
+-- does. Definitions only (RULES.md, G5, W1).
 use Prim.Native.Nat.{_+_, _^_}
 use mathlib.Core.Bool.{false}
 use lib.IntN.{negsuc}

@@ -23,7 +23,8 @@ use Rattle.kernels_laws.proofs.GammaBounds.{within-ln-gamma}
 factorial-within : (n : ℕ) → n < 2 ^ 23 → Within (2 ^ 36) (lnGammaOf (nat n ⊕ nat 1))
 factorial-within n h =
     rw (add-whole n 1 (omega arith) (lit≤ tt))
-    (within-ln-gamma (nat (n + 1)) (ofInt-fits binary64 (pos (n + 1))) (above-whole (n + 1) (omega arith) (omega arith) .is-positive) (within-whole (pos (n + 1)) (2 ^ 23) (omega arith) (lit≤ tt)))
+    (within-ln-gamma (nat (n + 1)) (ofInt-fits binary64 (pos (n + 1))) (above-whole (n + 1) (omega arith) (omega arith) .is-positive)
+    (within-whole (pos (n + 1)) (2 ^ 23) (omega arith) (lit≤ tt)))
 
 pub within-ln-choose : (k n : ℕ) → k ≤ n → n < 2 ^ 23 → Within (2 ^ 38) (lnChoose k n)
 unfolding lnChoose
@@ -39,7 +40,8 @@ term-within n l h w = within-mul (within-whole (pos n) (2 ^ 23) (omega arith) (l
 by-logs : (k n : ℕ) (p : Float) → k ≤ n → n < 2 ^ 23 → Within (2 ^ 12) (lnOf p) → Within (2 ^ 12) (lnOf (nat 1 ⊖ p)) → Within (2 ^ 39) (lnPmf k n p)
 unfolding lnPmfBy
 by-logs k n p h l a b =
-    let rest : Within (2 ^ 35) ((nat n ⊖ nat k) ⊗ lnOf (nat 1 ⊖ p)) = rw (sub-whole n k h (omega arith)) (term-within (n - k) (lnOf (nat 1 ⊖ p)) (omega arith) b) in
+    let rest : Within (2 ^ 35) ((nat n ⊖ nat k) ⊗ lnOf (nat 1 ⊖ p)) = rw (sub-whole n k h (omega arith))
+    (term-within (n - k) (lnOf (nat 1 ⊖ p)) (omega arith) b) in
     within-more (within-add (within-add (within-ln-choose k n h l) (term-within k (lnOf p) (omega arith) a) (lit≤ tt)) rest (lit≤ tt)) (lit≤ tt)
 
 -- p and 1 − p are above zero

@@ -44,7 +44,8 @@ module _ (counts : List ℕ) (shared : Shared) where
       let l = passing (bothSeen counts) (take k allPairs) in
       let g = getD allPairs k (twoAlleles 0 0) in
       let few = passing-few (bothSeen counts) allPairs k in
-      rw (passing-next (bothSeen counts) allPairs k (twoAlleles 0 0) (omega arith), scan-so-far k (omega arith)) (scan-step (bothSeen counts g) l g (omega arith))
+      rw (passing-next (bothSeen counts) allPairs k (twoAlleles 0 0) (omega arith), scan-so-far k (omega arith))
+      (scan-step (bothSeen counts g) l g (omega arith))
 
   -- no more hypotheses than pairs were looked at
   pub scanned-low : (k : ℕ) → k ≤ 36 → scanOver counts shared k .count ≤ k

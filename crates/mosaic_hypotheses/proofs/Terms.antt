@@ -77,11 +77,15 @@ module _ (p : Params) (counts : List ℕ) (few : length counts ≤ 8) (g : Germl
   unfolding sharedOf likelihoodBy likelihoodOf termAt
   likelihood-same k h =
       over-same
-      (λ i s. cond (seenIn counts i) (s ⊖ getD (factorialsOf counts) i nan ⊕ termAt counts g (k .terms) (lnOf (germlineShare g (massOf counts g (k .vafs)))) i) (s ⊖ getD (factorialsOf counts) i nan))
-      (λ i s. cond (seenIn counts i) (s ⊖ lnFactorial stirlingOf (countAt counts i) ⊕ nat (countAt counts i) ⊗ lnOf (alleleShare counts g (k .vafs) i)) (s ⊖ lnFactorial stirlingOf (countAt counts i)))
+      (λ i s. cond (seenIn counts i) (s ⊖ getD (factorialsOf counts) i nan ⊕ termAt counts g (k .terms)
+      (lnOf (germlineShare g (massOf counts g (k .vafs)))) i) (s ⊖ getD (factorialsOf counts) i nan))
+      (λ i s. cond (seenIn counts i) (s ⊖ lnFactorial stirlingOf (countAt counts i) ⊕ nat (countAt counts i) ⊗ lnOf
+      (alleleShare counts g (k .vafs) i)) (s ⊖ lnFactorial stirlingOf (countAt counts i)))
       (lnFactorial stirlingOf (totalOf counts))
       (length counts)
-      (λ i l s. rw (factorial-at i l) (likelihood-step (seenIn counts i) (germlineIn g i) s (lnFactorial stirlingOf (countAt counts i)) (nat (countAt counts i)) (germlineShare g (massOf counts g (k .vafs))) (getD (k .terms) i nan) (vafAt (k .vafs) i) (h .term-is i l)))
+      (λ i l s. rw (factorial-at i l)
+      (likelihood-step (seenIn counts i) (germlineIn g i) s (lnFactorial stirlingOf (countAt counts i)) (nat (countAt counts i))
+      (germlineShare g (massOf counts g (k .vafs))) (getD (k .terms) i nan) (vafAt (k .vafs) i) (h .term-is i l)))
 
   prior-same : (k : Progress) → Caches k → priorHere counts g shared (k .gains) ≡ priorOf firstEdition p counts g (k .vafs)
   unfolding sharedOf priorBy priorOf
@@ -120,7 +124,8 @@ module _ (p : Params) (counts : List ℕ) (few : length counts ≤ 8) (g : Germl
     eight-vafs = length-set (k .vafs) i x ∙ h .eight-vafs;
     eight-terms = length-set (k .terms) i (nat (countAt counts i) ⊗ lnOf x) ∙ h .eight-terms;
     eight-gains = length-set (k .gains) i (gainBy (densityOf stirlingOf p) x) ∙ h .eight-gains;
-    term-is = λ j m s. set-both (λ j v. nat (countAt counts j) ⊗ lnOf v) (k .vafs) (k .terms) i j x (in-eight i l (k .vafs) (h .eight-vafs)) (in-eight i l (k .terms) (h .eight-terms)) (h .term-is j m s);
+    term-is = λ j m s. set-both (λ j v. nat (countAt counts j) ⊗ lnOf v) (k .vafs) (k .terms) i j x (in-eight i l (k .vafs) (h .eight-vafs))
+        (in-eight i l (k .terms) (h .eight-terms)) (h .term-is j m s);
     gain-is = λ j m s.
         rw (gain-by stirlingOf p x)
         (set-both (λ j v. gainOf stirlingOf p v) (k .vafs) (k .gains) i j x (in-eight i l (k .vafs) (h .eight-vafs))
@@ -131,31 +136,40 @@ module _ (p : Params) (counts : List ℕ) (few : length counts ≤ 8) (g : Germl
   follows-cond true k m b c h q = h
   follows-cond false k m b c h q = q
 
-  attempt-follows : (i : ℕ) → i < length counts → (x : Float) (k : Progress) (b : BestVafs) → Follows k b → Follows (progressTried counts g shared k i x) (tried firstEdition p counts g i x b)
+  attempt-follows : (i : ℕ) → i < length counts → (x : Float) (k : Progress) (b : BestVafs) → Follows k b
+      → Follows (progressTried counts g shared k i x) (tried firstEdition p counts g i x b)
   unfolding progressTried tried
   attempt-follows i l x k b h =
       let d = progressWith counts g shared k i x in
       let cs = changed-caches k i x l (h .caches) in
       let value : d .value ≡ valueOf firstEdition p counts g (d .vafs) = rw (likelihood-same d cs, prior-same d cs) in
       subst (λ (b : BestVafs). Follows (progressTried counts g shared k i x) (tried firstEdition p counts g i x b)) (h .same)
-      (subst (λ (v : Float). Follows (cond (ltZ (keyOf (k .value)) (keyOf (d .value))) d k) (cond (ltZ (keyOf (k .value)) (keyOf v)) (record { vafs = d .vafs; value = v }) (best k))) value
-      (follows-cond (ltZ (keyOf (k .value)) (keyOf (d .value))) d k (best d) (best k) (record { same = refl; caches = cs }) (record { same = refl; caches = h .caches })))
+      (subst (λ (v : Float). Follows (cond (ltZ (keyOf (k .value)) (keyOf (d .value))) d k)
+      (cond (ltZ (keyOf (k .value)) (keyOf v)) (record { vafs = d .vafs; value = v }) (best k))) value
+      (follows-cond (ltZ (keyOf (k .value)) (keyOf (d .value))) d k (best d) (best k) (record {
+        same = refl;
+        caches = cs;
+      }) (record { same = refl; caches = h .caches })))
 
-  step-follows : (i : ℕ) → i < length counts → (s : ℕ) (k : Progress) (b : BestVafs) → Follows k b → Follows (progressStep counts g shared i s k) (triedStep firstEdition p counts g i s b)
+  step-follows : (i : ℕ) → i < length counts → (s : ℕ) (k : Progress) (b : BestVafs) → Follows k b
+      → Follows (progressStep counts g shared i s k) (triedStep firstEdition p counts g i s b)
   unfolding sharedOf progressStep
   step-follows i l s k b h =
       let x = stepOf (p .highest) s in
       follows-cond (lt (decimal 1 3) x) (progressTried counts g shared k i x) k (tried firstEdition p counts g i x b) b (attempt-follows i l x k b h) h
 
-  allele-follows : (i : ℕ) → i < length counts → (k : Progress) (b : BestVafs) → Follows k b → Follows (progressAllele counts g shared i k) (searchedAllele firstEdition p counts g i b)
+  allele-follows : (i : ℕ) → i < length counts → (k : Progress) (b : BestVafs) → Follows k b
+      → Follows (progressAllele counts g shared i k) (searchedAllele firstEdition p counts g i b)
   unfolding sharedOf progressAllele searchedAllele
   allele-follows i l k b h =
       let x = observedShare (countAt counts i) (nat (totalOf counts)) in
-      over-related Follows (progressStep counts g shared i) (triedStep firstEdition p counts g i) (progressTried counts g shared k i x) (tried firstEdition p counts g i x b) 21
+      over-related Follows (progressStep counts g shared i) (triedStep firstEdition p counts g i) (progressTried counts g shared k i x)
+      (tried firstEdition p counts g i x b) 21
       (λ s m k b h. step-follows i l s k b h)
       (attempt-follows i l x k b h)
 
-  offer-follows : (i : ℕ) → i < length counts → (k : Progress) (b : BestVafs) → Follows k b → Follows (progressOffered counts g shared i k) (cond (somaticIn counts g i) (searchedAllele firstEdition p counts g i b) b)
+  offer-follows : (i : ℕ) → i < length counts → (k : Progress) (b : BestVafs) → Follows k b
+      → Follows (progressOffered counts g shared i k) (cond (somaticIn counts g i) (searchedAllele firstEdition p counts g i b) b)
   unfolding progressOffered
   offer-follows i l k b h =
       follows-cond (somaticIn counts g i) (progressAllele counts g shared i k) k (searchedAllele firstEdition p counts g i b) b (allele-follows i l k b h) h
@@ -171,7 +185,8 @@ module _ (p : Params) (counts : List ℕ) (few : length counts ≤ 8) (g : Germl
     eight-vafs = unfold startVafs in (length-placed (replicate 8 (nat 0)) (λ i. cond (somaticIn counts g i) (decimal 5 2) (nat 0)) (length counts));
     eight-terms = length-placed (replicate 8 (nat 0)) (λ i. nat (countAt counts i) ⊗ lnOf (decimal 5 2)) 8;
     eight-gains = refl;
-    term-is = λ i l s. rw (start-at i l s) (placed-at (replicate 8 (nat 0)) (λ i. nat (countAt counts i) ⊗ lnOf (decimal 5 2)) nan 8 (rw length-replicate (lit≤ tt)) i (omega arith));
+    term-is = λ i l s. rw (start-at i l s)
+        (placed-at (replicate 8 (nat 0)) (λ i. nat (countAt counts i) ⊗ lnOf (decimal 5 2)) nan 8 (rw length-replicate (lit≤ tt)) i (omega arith));
     gain-is = λ i l s.
         rw (start-at i l s)
         (getD-replicate 8 i (gainBy (densityOf stirlingOf p) (decimal 5 2)) nan (omega arith) ∙ gain-by stirlingOf p (decimal 5 2));
@@ -180,7 +195,9 @@ module _ (p : Params) (counts : List ℕ) (few : length counts ≤ 8) (g : Germl
   search-follows : anySomatic counts g ≡ true → Follows (progressAll counts g shared (progressStart counts g shared)) (searchedAll firstEdition p counts g)
   unfolding progressStart startValue progressAll searchedAll
   search-follows h =
-      over-related Follows (progressOffered counts g shared) (λ i b. cond (somaticIn counts g i) (searchedAllele firstEdition p counts g i b) b) (progressStart counts g shared) (record { vafs = startVafs counts g; value = inf true }) (length counts) offer-follows (record { same = rw h; caches = start-caches })
+      over-related Follows (progressOffered counts g shared)
+      (λ i b. cond (somaticIn counts g i) (searchedAllele firstEdition p counts g i b) b) (progressStart counts g shared)
+      (record { vafs = startVafs counts g; value = inf true }) (length counts) offer-follows (record { same = rw h; caches = start-caches })
 
   -- without somatic alleles nothing is searched
   none-offered : (n : ℕ) → anyOver counts g n ≡ false → (k : Progress) → over (progressOffered counts g shared) k n ≡ k
@@ -199,7 +216,9 @@ module _ (p : Params) (counts : List ℕ) (few : length counts ≤ 8) (g : Germl
   found-by = rw (le-leb (length counts) 8 few) (go (anySomatic counts g) refl)
     where
       go : (b : Bool) → anySomatic counts g ≡ b → progressFound counts g shared ≡ foundOf firstEdition p counts g
-      go true h = let k = progressAll counts g shared (progressStart counts g shared) in rw (h, prior-same k (search-follows h .caches)) (ap made (search-follows h .same))
+      go true h =
+          let k = progressAll counts g shared (progressStart counts g shared) in rw (h, prior-same k (search-follows h .caches))
+          (ap made (search-follows h .same))
       go false h =
           let s = progressStart counts g shared in
           unfold progressAll progressStart startValue in (rw (none-offered (length counts) h s, h, likelihood-same s start-caches, prior-same s start-caches))

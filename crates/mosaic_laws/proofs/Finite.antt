@@ -94,12 +94,15 @@ module _ (p : Params) (counts : List ℕ) (ok : AcceptedMosaic p counts) (g : Ge
   likelihood-within l h =
       within-more
       (grows Within (2 ^ 38) (2 ^ 39)
-      (λ i s. cond (seenIn counts i) (s ⊖ lnFactorial stirlingOf (countAt counts i) ⊕ nat (countAt counts i) ⊗ lnOf (alleleShare counts g l i)) (s ⊖ lnFactorial stirlingOf (countAt counts i)))
+      (λ i s. cond (seenIn counts i) (s ⊖ lnFactorial stirlingOf (countAt counts i) ⊕ nat (countAt counts i) ⊗ lnOf
+      (alleleShare counts g l i)) (s ⊖ lnFactorial stirlingOf (countAt counts i)))
       (lnFactorial stirlingOf (totalOf counts)) n
       (λ i m x w.
       let b = count-bound counts (ok .counts-are) i in
       let less = within-sub w (within-factorial (countAt counts i) (omega arith)) (omega (arith, steps i (2 ^ 39) m)) in
-      either (Within (2 ^ 38 + i * 2 ^ 39 + 2 ^ 39)) (seenIn counts i) (x ⊖ lnFactorial stirlingOf (countAt counts i) ⊕ nat (countAt counts i) ⊗ lnOf (alleleShare counts g l i)) (x ⊖ lnFactorial stirlingOf (countAt counts i))
+      either (Within (2 ^ 38 + i * 2 ^ 39 + 2 ^ 39)) (seenIn counts i)
+      (x ⊖ lnFactorial stirlingOf (countAt counts i) ⊕ nat (countAt counts i) ⊗ lnOf (alleleShare counts g l i))
+      (x ⊖ lnFactorial stirlingOf (countAt counts i))
       (λ e. within-more (within-add less (term-within l h i m e) (omega (arith, steps i (2 ^ 39) m))) (omega arith))
       (λ e. within-more less (omega arith)))
       (within-factorial (totalOf counts) total-small))
@@ -165,7 +168,8 @@ module _ (p : Params) (counts : List ℕ) (ok : AcceptedMosaic p counts) (g : Ge
   beyond b h i m s x v e =
       let l = set (b .vafs) i x in
       let t = set-tryable b h i m x v in
-      let here : vafAt l i ≡ x = at-set (b .vafs) i i x nan (omega (arith, h .eight-vafs, ok .few)) (eqb i i) refl (λ y. y ≡ x) (λ r. refl) (λ r. absurd (r refl)) in
+      let here : vafAt l i ≡ x = at-set (b .vafs) i i x nan (omega (arith, h .eight-vafs, ok .few)) (eqb i i) refl (λ y. y ≡ x) (λ r. refl)
+      (λ r. absurd (r refl)) in
       let prior = prior-least p counts ok g both l (λ j q r. t j q r .is-f64) i m s (rw here e) in
       let value : valueOf firstEdition p counts g l ≡ inf true =
       rw prior (finite-least (likelihoodOf firstEdition counts g l) (likelihood-within l t .is-finite)) in
@@ -207,7 +211,8 @@ module _ (p : Params) (counts : List ℕ) (ok : AcceptedMosaic p counts) (g : Ge
           let y = better i x b .value in
           let test : larger i x b ≡ true =
           ap (λ (z : Float). ltZ (keyOf z) (keyOf y)) (sym q)
-          ∙ key-order (inf true) y (fit none-yet) (fit (a .kept .value-is)) (number none-yet) (number (a .kept .value-is)) ∙ under-finite y (a .within .is-finite) in
+          ∙ key-order (inf true) y (fit none-yet) (fit (a .kept .value-is)) (number none-yet) (number (a .kept .value-is))
+          ∙ under-finite y (a .within .is-finite) in
           subst (FiniteBest counts g) (tried-is i x b) (subst (λ (t : Bool). FiniteBest counts g (cond t (better i x b) b)) (sym test) a)
 
   -- ---- the candidates
@@ -227,13 +232,15 @@ module _ (p : Params) (counts : List ℕ) (ok : AcceptedMosaic p counts) (g : Ge
 
   observed : (i : ℕ) → i < n → somaticIn counts g i ≡ true → let x = observedShare (countAt counts i) (nat (totalOf counts)) in Vaf x × (lt x (nat 1) ≡ true)
   observed i m s =
-      let v = observed-share (countAt counts i) (totalOf counts) (seen-some counts i (and-elim-left (seenIn counts i) (not (germlineIn g i)) s)) (other-seen i m s) (omega (arith, total-small)) in
+      let v = observed-share (countAt counts i) (totalOf counts)
+      (seen-some counts i (and-elim-left (seenIn counts i) (not (germlineIn g i)) s)) (other-seen i m s) (omega (arith, total-small)) in
       (record { above-zero = v .above-zero; is-f64 = v .is-f64; within = within-more (v .within) (lit≤ tt) }, v .below-one)
 
   step-vaf : (s : ℕ) → s ≤ 20 → lt (decimal 1 3) (stepOf (p .highest) s) ≡ true → Vaf (stepOf (p .highest) s)
   step-vaf s h e =
       let x = stepOf (p .highest) s in
-      let w = within-mul (highest-within p (ok .params-are)) (within-div (within-whole (pos s) 20 h (lit≤ tt)) (above-whole 20 (lit< tt) (lit≤ tt)) (lit≤ tt)) (lit≤ tt) in
+      let w = within-mul (highest-within p (ok .params-are))
+      (within-div (within-whole (pos s) 20 h (lit≤ tt)) (above-whole 20 (lit< tt) (lit≤ tt)) (lit≤ tt)) (lit≤ tt) in
       let low = above-fraction 1 1000 1 10 (lit< tt) (lit≤ tt) (lit≤ tt) (lit≤ tt) (lit≤ tt) in
       record {
         above-zero = above-finite x (above-of-le (decimal 1 3) x (low .is-positive) (below-is-most (decimal 1 3) x e)) (w .is-finite);
@@ -245,11 +252,13 @@ module _ (p : Params) (counts : List ℕ) (ok : AcceptedMosaic p counts) (g : Ge
       → FiniteBest counts g (triedStep firstEdition p counts g i s b)
   step-some i m t s l b h = go (lt (decimal 1 3) (stepOf (p .highest) s)) refl
     where
-      go : (c : Bool) → lt (decimal 1 3) (stepOf (p .highest) s) ≡ c → FiniteBest counts g (cond c (tried firstEdition p counts g i (stepOf (p .highest) s) b) b)
+      go : (c : Bool) → lt (decimal 1 3) (stepOf (p .highest) s) ≡ c
+          → FiniteBest counts g (cond c (tried firstEdition p counts g i (stepOf (p .highest) s) b) b)
       go true e = tried-some i m t (stepOf (p .highest) s) (step-vaf s (omega arith) e) b h
       go false e = h
 
-  allele-some : (i : ℕ) → i < n → somaticIn counts g i ≡ true → (b : BestVafs) → KeptBest counts g b → FiniteBest counts g (searchedAllele firstEdition p counts g i b)
+  allele-some : (i : ℕ) → i < n → somaticIn counts g i ≡ true → (b : BestVafs) → KeptBest counts g b
+      → FiniteBest counts g (searchedAllele firstEdition p counts g i b)
   unfolding searchedAllele
   allele-some i m s b h =
       let x = observedShare (countAt counts i) (nat (totalOf counts)) in
@@ -308,13 +317,16 @@ module _ (p : Params) (counts : List ℕ) (ok : AcceptedMosaic p counts) (g : Ge
   posterior-within = go (anySomatic counts g) refl
     where
       go : (t : Bool) → anySomatic counts g ≡ t
-          → let b = cond t (searchedAll firstEdition p counts g) (record { vafs = startVafs counts g; value = likelihoodOf firstEdition counts g (startVafs counts g) }) in
+          → let b =
+          cond t (searchedAll firstEdition p counts g)
+          (record { vafs = startVafs counts g; value = likelihoodOf firstEdition counts g (startVafs counts g) }) in
           Within (2 ^ 47) (cond (t && not true) (b .value) (b .value ⊕ priorOf firstEdition p counts g (b .vafs)))
       go true e =
           let s : FiniteBest counts g (searchedAll firstEdition p counts g) = unfold searchedAll in (gone n (omega arith) .then-some e) in
           within-more (within-add (s .within) (prior-within (searchedAll firstEdition p counts g .vafs) (s .kept .tryable) (s .kept .low)) (lit≤ tt)) (lit≤ tt)
       go false e =
-          within-more (within-add (likelihood-within (startVafs counts g) start-tryable) (prior-within (startVafs counts g) start-tryable start-low) (lit≤ tt)) (lit≤ tt)
+          within-more (within-add (likelihood-within (startVafs counts g) start-tryable)
+          (prior-within (startVafs counts g) start-tryable start-low) (lit≤ tt)) (lit≤ tt)
 
   -- every somatic VAF that was found is above zero and below 1
   pub found-vafs : (i : ℕ) → i < n → somaticIn counts g i ≡ true
@@ -323,7 +335,9 @@ module _ (p : Params) (counts : List ℕ) (ok : AcceptedMosaic p counts) (g : Ge
   found-vafs i l s = go (anySomatic counts g) refl
     where
       go : (t : Bool) → anySomatic counts g ≡ t
-          → let b = cond t (searchedAll firstEdition p counts g) (record { vafs = startVafs counts g; value = likelihoodOf firstEdition counts g (startVafs counts g) }) in
+          → let b =
+          cond t (searchedAll firstEdition p counts g)
+          (record { vafs = startVafs counts g; value = likelihoodOf firstEdition counts g (startVafs counts g) }) in
           Vaf (vafAt (b .vafs) i) × (lt (vafAt (b .vafs) i) (nat 1) ≡ true)
       go true e =
           let k : KeptBest counts g (searchedAll firstEdition p counts g) = unfold searchedAll in (gone n (omega arith) .kept) in

@@ -89,7 +89,8 @@ pub observed-share : (c t : ℕ) → 0 < c → c < t → t ≤ 2 ^ 23 → Proper
 observed-share c t C l h =
     let u = share-under c t C l h in
     let y = above-whole t (omega arith) (omega arith) in
-    let a = above-div {x = nat c} {y = nat t} 23 (above-whole c C (omega arith)) (within-whole (pos t) (2 ^ 23) h (lit≤ tt)) (y .is-positive) (lit≤ tt) (u .is-finite) in
+    let a = above-div {x = nat c} {y = nat t} 23 (above-whole c C (omega arith)) (within-whole (pos t) (2 ^ 23) h (lit≤ tt))
+    (y .is-positive) (lit≤ tt) (u .is-finite) in
     record {
       above-zero = a .is-positive;
       is-f64 = div-fits binary64 (nat c) (nat t);

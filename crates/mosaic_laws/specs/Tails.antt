@@ -1,6 +1,6 @@
 -- For the laws on what K4 says below −708, on which fields of an answer it bears and on which not: the answer of mosaic with the
--- exponential as an argument. At `expOf` these are the rules' own definitions: `mosaic-by-exp` (proofs/AnyTail.antt). Definitions only (RULES.md,
--- M7, M8, O1, R11).
+-- exponential as an argument. At `expOf` these are the rules' own definitions: `mosaic-by-exp` (proofs/AnyTail.antt). Definitions only
+-- (RULES.md, M7, M8, O1, R11).
 use Prim.Native.Nat.{ℕ, _<_}
 use mathlib.Core.Path.{_≡_}
 use mathlib.Core.Bool.{cond, _||_}

@@ -25,7 +25,8 @@ densityOf lnGamma p = record {
   «gamma_sum» = lnGamma (p .alpha ⊕ p .beta);
 }
 
--- M4: what it adds for one germline allele of n, and what for two (`forGermline`, mosaic_hypotheses/specs/Prior.antt); the law is `germline-by`
+-- M4: what it adds for one germline allele of n, and what for two (`forGermline`, mosaic_hypotheses/specs/Prior.antt); the law is
+-- `germline-by`
 unfoldable pub forOne : ℕ → Float
 forOne n = neg (lnOf (nat n))
 
@@ -39,7 +40,8 @@ factorialsOver counts = placed (replicate 8 (nat 0)) (λ i. lnFactorial stirling
 unfoldable pub factorialsOf : List ℕ → List Float
 factorialsOf counts = factorialsOver counts 8
 
--- M1, M3: each of the first k counts, and of all eight, times the logarithm of the VAF that a somatic allele starts at; the law is `found-by`
+-- M1, M3: each of the first k counts, and of all eight, times the logarithm of the VAF that a somatic allele starts at; the law is
+-- `found-by`
 abbrev pub startsOver : List ℕ → ℕ → List Float
 startsOver counts = placed (replicate 8 (nat 0)) (λ i. nat (countAt counts i) ⊗ lnOf (decimal 5 2))
 

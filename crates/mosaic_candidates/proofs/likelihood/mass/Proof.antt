@@ -42,7 +42,9 @@ loop-again : tie.Need-loop-again Inv-loop μ-loop
 loop-again c = (search needs, rw (add-one, c .gained .ensures, c .before .somatic .ensures, c .before .before .before .loop .inv .1))
 
 returns : tie.Need-returns Inv-loop μ-loop
-returns c = let a = c .before .before .before .args in let e : c .before .loop .i ≡ length (a .counts .now) = omega arith in c .before .loop .inv .1 ∙ ap (massOver (a .counts .now) (a .g) (a .t3)) e
+returns c =
+    let a = c .before .before .before .args in let e : c .before .loop .i ≡ length (a .counts .now) = omega arith in c .before .loop .inv .1
+    ∙ ap (massOver (a .counts .now) (a .g) (a .t3)) e
 
 pub mass-spec : {M : Type 1} → statement M
 mass-spec =
