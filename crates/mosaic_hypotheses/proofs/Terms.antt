@@ -19,7 +19,7 @@ use Rattle.mosaic_alleles.specs.Alleles.{countAt, seenIn, germlineIn, somaticIn
 use Rattle.mosaic_candidates.specs.Shares.{anyOver, anySomatic, vafAt, massOf, germlineShare, gainBy, startVafs, stepOf, observedShare}
 use Rattle.mosaic_hypotheses.specs.Likelihood.{alleleShare, likelihoodOf}
 use Rattle.mosaic_shared.specs.Shared.{densityOf, forOne, forTwo, factorialsOf, startsOf, sharedOf}
-use Rattle.mosaic_hypotheses.specs.Prior.{gainOf, gainsOver, forGermline, priorOf}
+use Rattle.mosaic_hypotheses.specs.Prior.{gainOf, gainsOf, forGermline, priorOf}
 use Rattle.mosaic_hypotheses.specs.Search.{BestVafs, valueOf, tried, triedStep, searchedAllele, searchedAll, foundOf}
 use Rattle.mosaic_candidates.specs.Progress.{termAt, likelihoodBy, priorByOver, priorBy, likelihoodHere, priorHere, startValue, progressStart, progressWith}
 use Rattle.mosaic_candidates.specs.Progress.{progressTried, progressStep, progressAllele, progressOffered, progressAll, progressFound, foundOfEight}
@@ -30,6 +30,7 @@ use Rattle.mosaic_candidates.specs.declared.search.Progress.{Progress}
 use Rattle.mosaic_candidates.specs.declared.search.Found.{Found}
 use Rattle.lists.specs.Over.{over}
 use Rattle.lists.proofs.OverLaws.{over-related, over-same, length-placed, at-set, placed-at}
+use Rattle.mosaic_candidates.proofs.ShareLaws.{sum-passing, any-over}
 
 -- M4: the density's numbers that are worked out once give each VAF the gain of the rule
 pub gain-by : (lnGamma : Float → Float) (p : Params) (v : Float) → gainBy (densityOf lnGamma p) v ≡ gainOf lnGamma p v
@@ -90,13 +91,14 @@ module _ (p : Params) (counts : List ℕ) (few : length counts ≤ 8) (g : Germl
   prior-same : (k : Progress) → Caches k → priorHere counts g shared (k .gains) ≡ priorOf firstEdition p counts g (k .vafs)
   unfolding sharedOf priorBy priorOf
   prior-same k h =
-      let gains : priorByOver counts g (k .gains) (length counts) ≡ gainsOver firstEdition p counts g (k .vafs) (length counts) =
+      let gains : priorByOver counts g (k .gains) (length counts) ≡ gainsOf firstEdition p counts g (k .vafs) =
       over-same
       (λ i s. cond (somaticIn counts g i) (s ⊕ getD (k .gains) i nan) s)
       (λ i s. cond (somaticIn counts g i) (s ⊕ gainOf stirlingOf p (vafAt (k .vafs) i)) s)
       (nat 0)
       (length counts)
-      (λ i l s. prior-step (somaticIn counts g i) s (getD (k .gains) i nan) (gainOf stirlingOf p (vafAt (k .vafs) i)) (h .gain-is i l)) in
+      (λ i l s. prior-step (somaticIn counts g i) s (getD (k .gains) i nan) (gainOf stirlingOf p (vafAt (k .vafs) i)) (h .gain-is i l))
+      ∙ sum-passing (somaticIn counts g) (λ i. gainOf stirlingOf p (vafAt (k .vafs) i)) (nat 0) (length counts) in
       rw (gains, germline-by (length counts) g)
 
   -- what is kept stands for VAFs and a value of the definition
@@ -221,4 +223,4 @@ module _ (p : Params) (counts : List ℕ) (few : length counts ≤ 8) (g : Germl
           (ap made (search-follows h .same))
       go false h =
           let s = progressStart counts g shared in
-          unfold progressAll progressStart startValue in (rw (none-offered (length counts) h s, h, likelihood-same s start-caches, prior-same s start-caches))
+          unfold progressAll progressStart startValue in (rw (none-offered (length counts) (any-over counts g ∙ h) s, h, likelihood-same s start-caches, prior-same s start-caches))

@@ -25,7 +25,7 @@ hypothesesOf l = singles l ++ pairs l
 unfoldable pub hypotheses : List ℕ → List GermlinePair
 hypotheses counts = hypothesesOf (seenAlleles counts)
 
--- ---- for the code
+-- ---- for the code, and for the laws
 
 -- M1: a pair whose alleles are seen; that these of all 36 are the hypotheses is `scanned` (proofs/Scanned.antt)
 abbrev pub bothSeen : List ℕ → GermlinePair → Bool

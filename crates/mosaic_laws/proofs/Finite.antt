@@ -26,6 +26,7 @@ use Rattle.floats.proofs.Fractions.{above-by-test}
 use Rattle.kernels.specs.Ln.{lnOf}
 use Rattle.kernels_stirling.specs.Stirling.{stirlingOf, lnFactorial}
 use Rattle.lists.specs.Over.{over}
+use Rattle.mosaic_candidates.proofs.ShareLaws.{sum-passing, mass-over, any-over}
 use Rattle.mosaic_hypotheses.proofs.Terms.{start-at}
 use Rattle.mosaic_hypotheses.specs.Edition.{firstEdition}
 use Rattle.mosaic_alleles.specs.Alleles.{countAt, seenIn, germlineIn, somaticIn, totalOf}
@@ -36,7 +37,7 @@ use Rattle.mosaic_hypotheses.specs.Prior.{gainOf, priorOf}
 use Rattle.mosaic_hypotheses.specs.Search.{BestVafs, valueOf, tried, triedStep, searchedAllele, searchedAll, foundOf}
 use Rattle.mosaic_params.specs.declared.params.Params.{Params}
 use Rattle.mosaic_alleles.specs.declared.pair.GermlinePair.{GermlinePair}
-use Rattle.mosaic_alleles.proofs.CountLaws.{count-bound, total-bound}
+use Rattle.mosaic_alleles.proofs.CountLaws.{count-bound, total-bound, total-over}
 use Rattle.lists.proofs.OverLaws.{length-placed, at-set}
 use Rattle.mosaic_laws.specs.AtOnce.{VafsFromZero}
 use Rattle.mosaic_laws.specs.Accepted.{AcceptedMosaic}
@@ -59,7 +60,7 @@ module _ (p : Params) (counts : List ℕ) (ok : AcceptedMosaic p counts) (g : Ge
   second-in = seen-in counts (g .second) (and-elim-right (seenIn counts (g .first)) (seenIn counts (g .second)) both)
 
   total-small : totalOf counts ≤ 8000000
-  total-small = omega (arith, total-bound counts (ok .counts-are) n, ok .few)
+  total-small = omega (arith, total-bound counts (ok .counts-are) n, ok .few, total-over counts)
 
   -- a bound of n steps
   eight : (B : ℕ) → n * B ≤ 8 * B
@@ -70,14 +71,15 @@ module _ (p : Params) (counts : List ℕ) (ok : AcceptedMosaic p counts) (g : Ge
 
   mass-within : (l : List Float) → Tryable counts g l → Within 160 (massOf counts g l)
   mass-within l h =
-      within-more
+      subst (Within 160) (mass-over counts g l)
+      (within-more
       (grows Within 0 20 (λ i s. cond (somaticIn counts g i) (s ⊕ vafAt l i) s) (nat 0) n
       (λ i m x w.
       either (Within (0 + i * 20 + 20)) (somaticIn counts g i) (x ⊕ vafAt l i) x
       (λ e. within-add w (h i m e .within) (omega (arith, steps i 20 m)))
       (λ e. within-more w (omega arith)))
       (within-whole (pos 0) 0 (lit≤ tt) (lit≤ tt)))
-      (omega (arith, eight 20))
+      (omega (arith, eight 20)))
 
   -- the term of an allele that is seen
   term-within : (l : List Float) → Tryable counts g l → (i : ℕ) → i < n → seenIn counts i ≡ true
@@ -115,12 +117,13 @@ module _ (p : Params) (counts : List ℕ) (ok : AcceptedMosaic p counts) (g : Ge
   prior-within l h k =
       within-more
       (within-add
+      (subst (Within (0 + n * 2 ^ 41)) (sum-passing (somaticIn counts g) (λ i. gainOf stirlingOf p (vafAt l i)) (nat 0) n)
       (grows Within 0 (2 ^ 41) (λ i s. cond (somaticIn counts g i) (s ⊕ gainOf stirlingOf p (vafAt l i)) s) (nat 0) n
       (λ i m x w.
       either (Within (0 + i * 2 ^ 41 + 2 ^ 41)) (somaticIn counts g i) (x ⊕ gainOf stirlingOf p (vafAt l i)) x
       (λ e. within-add w (gain-within p (density p counts ok g both) (vafAt l i) (h i m e) (k i m e)) (omega (arith, steps i (2 ^ 41) m)))
       (λ e. within-more w (omega arith)))
-      (within-whole (pos 0) 0 (lit≤ tt) (lit≤ tt)))
+      (within-whole (pos 0) 0 (lit≤ tt) (lit≤ tt))))
       (germline-within p counts ok g both) (omega (arith, eight (2 ^ 41))))
       (omega (arith, eight (2 ^ 41)))
 
@@ -221,7 +224,7 @@ module _ (p : Params) (counts : List ℕ) (ok : AcceptedMosaic p counts) (g : Ge
   other-seen i m s =
       let one = seen-some counts (g .first) (and-elim-left (seenIn counts (g .first)) (seenIn counts (g .second)) both) in
       let unlike : i ≡ g .first → ⊥ = (λ q. clash (seenIn counts i) (eqb i (g .first)) (eqb i (g .second)) (same i (g .first) q) s) in
-      omega (arith, counts-in counts i (g .first) n m first-in unlike)
+      omega (arith, counts-in counts i (g .first) n m first-in unlike, total-over counts)
     where
       same : (i j : ℕ) → i ≡ j → eqb i j ≡ true
       same i j q = eq-eqb i j q
@@ -322,7 +325,7 @@ module _ (p : Params) (counts : List ℕ) (ok : AcceptedMosaic p counts) (g : Ge
           (record { vafs = startVafs counts g; value = likelihoodOf firstEdition counts g (startVafs counts g) }) in
           Within (2 ^ 47) (cond (t && not true) (b .value) (b .value ⊕ priorOf firstEdition p counts g (b .vafs)))
       go true e =
-          let s : FiniteBest counts g (searchedAll firstEdition p counts g) = unfold searchedAll in (gone n (omega arith) .then-some e) in
+          let s : FiniteBest counts g (searchedAll firstEdition p counts g) = unfold searchedAll in (gone n (omega arith) .then-some (any-over counts g ∙ e)) in
           within-more (within-add (s .within) (prior-within (searchedAll firstEdition p counts g .vafs) (s .kept .tryable) (s .kept .low)) (lit≤ tt)) (lit≤ tt)
       go false e =
           within-more (within-add (likelihood-within (startVafs counts g) start-tryable)

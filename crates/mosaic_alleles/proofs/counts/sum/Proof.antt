@@ -4,7 +4,7 @@ use mathlib.Core.Path.{_≡_, refl, ap, _∙_}
 use Prim.Native.Nat.{_≤_, _-_}
 use lib.ListN.{length}
 use Rattle.mosaic_alleles.specs.Alleles.{totalOver}
-use Rattle.mosaic_alleles.proofs.CountLaws.{count-bound, total-bound}
+use Rattle.mosaic_alleles.proofs.CountLaws.{count-bound, total-bound, total-over}
 use borrow.Author.Needs.{needs}
 use native.Mathlib.Omega.{arith}
 use native.Mathlib.Numerals.{add-one}
@@ -47,7 +47,7 @@ loop-again c = (search needs, rw (add-one, c .before .before .loop .inv .1))
 returns : tie.Need-returns Inv-loop μ-loop
 returns c =
     let a = c .before .before .args in let e : c .before .loop .i ≡ length (a .counts .now) = omega arith in c .before .loop .inv .1
-    ∙ ap (totalOver (a .counts .now)) e
+    ∙ ap (totalOver (a .counts .now)) e ∙ total-over (a .counts .now)
 
 pub sum-spec : {M : Type 1} → statement M
 sum-spec =
