@@ -22,13 +22,7 @@ use Rattle.diploid_scores.specs.Scores.{scoredBy}
 use Rattle.diploid_qualities.specs.Quality.{qualsOf}
 use Rattle.diploid_tables.specs.Calibration.{calibrated}
 
--- what it means to win: a key that is at least each earlier one's, and above each later one's
-pub data Wins (s : Scores) : State → Type 0 where
-  ref-wins : keyOf (s .het) <ℤ keyOf (s .homref) → keyOf (s .homalt) <ℤ keyOf (s .homref) → Wins s Ref
-  het-wins : keyOf (s .homref) ≤ℤ keyOf (s .het) → keyOf (s .homalt) <ℤ keyOf (s .het) → Wins s Het
-  hom-wins : keyOf (s .homref) ≤ℤ keyOf (s .homalt) → keyOf (s .het) ≤ℤ keyOf (s .homalt) → Wins s Hom
-
--- the state that wins
+-- G3: the state that wins: the largest key, the later state on equality (`winner-wins`, `winner-only`, diploid_laws/proofs/WinnerLaws.antt)
 unfoldable pub winningState : Scores → State
 winningState s =
     let k0 = keyOf (s .homref) in
@@ -36,11 +30,11 @@ winningState s =
     let k2 = keyOf (s .homalt) in
     cond (leZ k0 k2 && leZ k1 k2) Hom (cond (leZ k0 k1) Het Ref)
 
--- a refusal, and a total of zero, carry zeros
+-- O2, G1: a refusal, and a total of zero, carry zeros
 abbrev pub blankDiploid : Refusal → GenotypeResult
 blankDiploid r = record { refusal = r; state = Non; gq = nat 0; sq = nat 0 }
 
--- what the scores make
+-- G3 to G5: what the scores make
 unfoldable pub called : Pick → Pick → List Float → Scores → GenotypeResult
 called max min table s =
     let q = qualsOf max min s in
@@ -61,6 +55,14 @@ genotypeBy max min m table ref alt1 alt2 =
     (blankDiploid Table))
     (blankDiploid BadModel)
 
--- the answer, by `larger` and `smaller`
+-- D2: the answer, by `larger` and `smaller`
 abbrev pub genotypeOf : Model → List Float → ℕ → ℕ → ℕ → GenotypeResult
 genotypeOf = genotypeBy larger smaller
+
+-- ---- for the laws
+
+-- G3, K8: what it means to win: a key that is at least each earlier one's, and above each later one's
+pub data Wins (s : Scores) : State → Type 0 where
+  ref-wins : keyOf (s .het) <ℤ keyOf (s .homref) → keyOf (s .homalt) <ℤ keyOf (s .homref) → Wins s Ref
+  het-wins : keyOf (s .homref) ≤ℤ keyOf (s .het) → keyOf (s .homalt) <ℤ keyOf (s .het) → Wins s Het
+  hom-wins : keyOf (s .homref) ≤ℤ keyOf (s .homalt) → keyOf (s .het) ≤ℤ keyOf (s .homalt) → Wins s Hom

@@ -15,25 +15,26 @@ use Rattle.diploid.specs.declared.genotype.GenotypeResult.{GenotypeResult}
 use Rattle.diploid_models.specs.Models.{stateNumber}
 use Rattle.diploid.specs.Genotype.{blankDiploid, genotypeOf}
 
--- the mode of a number; what is above 2 makes no model
+-- F7: the mode of a number; what is above 2 makes no model
 abbrev pub modeOf : ℕ → Mode
 modeOf n = cond (eqb n 0) Beta (cond (eqb n 1) Bino Phased)
 
+-- G: the model of a mode's number and three lists of parameters
 abbrev pub modelOf : ℕ → List Float → List Float → List Float → Model
 modelOf mode fractions means precisions = record { mode = modeOf mode; fractions = fractions; means = means; precisions = precisions }
 
--- the number of a mode, and three parameters of each kind
+-- G, R6: what makes a model: the number of a mode, and three parameters of each kind
 abbrev pub makesModel : ℕ → List Float → List Float → List Float → Bool
 makesModel mode fractions means precisions =
     leb mode 2 && (eqb (length fractions) 3 && (eqb (length means) 3 && eqb (length precisions) 3))
 
--- what makes no model is refused as a model that is not allowed, before all else
+-- R6: what makes no model is refused as a model that is not allowed, before all else
 unfoldable pub diploidOf : ℕ → List Float → List Float → List Float → List Float → ℕ → ℕ → ℕ → GenotypeResult
 diploidOf mode fractions means precisions table ref alt1 alt2 =
     cond (makesModel mode fractions means precisions)
     (genotypeOf (modelOf mode fractions means precisions) table ref alt1 alt2)
     (blankDiploid BadModel)
 
--- an answer as four numbers: the refusal's, the state's, gq and sq
+-- F7: an answer as four numbers: the refusal's, the state's, gq and sq
 abbrev pub IsNumbers : GenotypeResult → ℕ → ℕ → Float → Float → Type 0
 IsNumbers a refusal state gq sq = (refusal ≡ numberOf (a .refusal)) × (state ≡ stateNumber (a .state)) × (gq ≡ a .gq) × (sq ≡ a .sq)

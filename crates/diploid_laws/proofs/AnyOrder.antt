@@ -15,7 +15,8 @@ use Rattle.diploid_qualities.specs.Quality.{eachInTens, normalised, gapOf}
 use Rattle.diploid_laws.specs.Sorted.{Order, abc, acb, bac, bca, cab, cba, FromLarge, Told, EachTold}
 use Rattle.floats.proofs.Signs.{lt-itself, no-trans}
 use Rattle.diploid_laws.proofs.SortedThree.{order-first, order-second, order-last}
-use Rattle.diploid_laws.proofs.SortedThree.{first, order, order-descends, first-is, second-is, TwoOf}
+use Rattle.diploid_laws.proofs.SortedThree.{order, order-descends, first-is, second-is, TwoOf}
+use Rattle.diploid_laws.specs.Sorted.{firstSorted}
 use Rattle.diploid_laws.proofs.Told.{told-normal, normal-numbers-any}
 
 -- ---- from the three to an order of them, and back
@@ -136,7 +137,7 @@ module _ (n : Scores) (told : EachTold n) where
     pub any-order : gapOf n ≡ y ⊖ x
     unfolding gapOf
     any-order =
-        ap (λ (t : Float). t ⊖ first n) (second-is n ∙ sym same-second) ∙ ap (λ (t : Float). y ⊖ t) (first-is n ∙ sym same-first)
+        ap (λ (t : Float). t ⊖ firstSorted n) (second-is n ∙ sym same-second) ∙ ap (λ (t : Float). y ⊖ t) (first-is n ∙ sym same-first)
 
 -- ---- the normalised values, by any max and any min
 

@@ -17,7 +17,8 @@ use lib.Ieee.Positive.{positive, between, sub-anti, le-trans-positive}
 use Rattle.lists.proofs.EveryLaws.{every-at}
 use Rattle.floats.specs.F64.{_⊕_, _⊖_, _⊗_, nat, decimal}
 use Rattle.floats.specs.Within.{Within, Above, NotBelow}
-use Rattle.floats.proofs.Bounds.{within-more, within-whole, within-fraction, within-add, within-sub, within-mul, above-whole, above-mul, above-add, above-not-below}
+use Rattle.floats.proofs.Bounds.{within-more, within-whole, within-fraction, within-add, within-sub, within-mul, above-whole, above-mul}
+use Rattle.floats.proofs.Bounds.{above-add, above-not-below}
 use Rattle.floats.proofs.Ranges.{within-range, above-range, one-minus}
 use Rattle.floats.proofs.Whole.{sub-whole}
 use Rattle.kernels.specs.Ln.{lnOf}
@@ -35,7 +36,8 @@ use Rattle.diploid_models.specs.declared.model.Model.{Model}
 use Rattle.limits.specs.Limits.{inRange, allIn}
 use Rattle.diploid_models.specs.Allowed.{modelAllowed}
 use Rattle.floats.specs.MaxMin.{Pick, IsMax}
-use Rattle.diploid_scores.specs.Scores.{fraction, mean, precision, betaLnPmf, betaScore, binoScore, oneWay, eitherWay, phasedScores, scoresBy, scoresOf, ThreeEach, EachScore}
+use Rattle.diploid_scores.specs.Scores.{fraction, mean, precision, betaLnPmf, betaScore, binoScore, oneWay, eitherWay, phasedScores}
+use Rattle.diploid_scores.specs.Scores.{scoresBy, scoresOf, ThreeEach, EachScore}
 use Rattle.floats.proofs.Differences.{less-itself, less-larger, add-either, not-below}
 use Rattle.floats.specs.Zeros.{nought}
 
@@ -179,7 +181,8 @@ weight p ρ s h =
     let lo = decimal 1 3 in
     let hi = nat 1000000 in
     let above = above-range {j = 10} lo ρ (record { is-positive = tt; large = lit≤ tt }) (between lo ρ hi tt tt (h .low) (h .high)) (h .low) in
-    let within = within-range {n = 2 ^ 20} ρ (within-fraction 1 (10 ^ 3) (2 ^ 20) (lit< tt) (lit≤ tt) (lit≤ tt)) (within-whole (pos 1000000) (2 ^ 20) (lit≤ tt) (lit≤ tt)) (h .low) (h .high) in
+    let within = within-range {n = 2 ^ 20} ρ (within-fraction 1 (10 ^ 3) (2 ^ 20) (lit< tt) (lit≤ tt) (lit≤ tt))
+    (within-whole (pos 1000000) (2 ^ 20) (lit≤ tt) (lit≤ tt)) (h .low) (h .high) in
     let product = within-mul (s .within) within (lit≤ tt) in
     record { is-float = mul-fits binary64 p ρ; above = above-mul (s .above) above (lit≤ tt) (product .is-finite); within = product }
 
@@ -233,7 +236,8 @@ joined-within x h =
     let e = exp-at-most-one x h in
     let above : Above 0 one = record { is-positive = tt; large = lit≤ tt } in
     let within : Within 1 one = record { is-finite = tt; small = lit≤ tt } in
-    rw (exp-of-zero false) (within-ln (expOf x ⊕ one) (add-fits binary64 (expOf x) one) (above-add (e .1) above (lit≤ tt) (within-add (e .0) within (lit≤ tt)) .is-positive))
+    rw (exp-of-zero false) (within-ln (expOf x ⊕ one) (add-fits binary64 (expOf x) one)
+    (above-add (e .1) above (lit≤ tt) (within-add (e .0) within (lit≤ tt)) .is-positive))
 
 exp-finite : (x : Float) → T (le x nought) → T (finite (expOf x))
 unfolding ofInt
@@ -253,10 +257,12 @@ either-way-within {n} max a b is-max A B l = ⊎-elim by-first by-second (is-max
 
     by-second : (max a b ≡ b) × T (le a b) → Within (n + 2 ^ 12) (eitherWay max a b)
     by-second h =
-        let x = less-larger a b (A .is-finite) (B .is-finite) (h .1) in unfold eitherWay in rw (h .0, less-itself b (B .is-finite)) (within-add B (joined-within (a ⊖ b) x) l)
+        let x = less-larger a b (A .is-finite) (B .is-finite) (h .1) in unfold eitherWay in rw (h .0, less-itself b (B .is-finite))
+        (within-add B (joined-within (a ⊖ b) x) l)
 
 -- where no reads remain the second factor is 0
-one-way-within : (m : Model) (ref this other total : ℕ) → Share (mean m 0) → Share (mean m 1) → ref + this < 2 ^ 22 → other ≤ total → total < 2 ^ 22 → Within (2 ^ 40) (oneWay m ref this other total)
+one-way-within : (m : Model) (ref this other total : ℕ) → Share (mean m 0) → Share (mean m 1) → ref + this < 2 ^ 22 → other ≤ total
+    → total < 2 ^ 22 → Within (2 ^ 40) (oneWay m ref this other total)
 unfolding oneWay
 one-way-within m ref this other total s0 s1 h k l = within-add (pmf-within other total (mean m 0) k l s0) (factor (eqb (ref + this) 0)) (lit≤ tt)
   where
@@ -298,8 +304,10 @@ module _ (max : Pick) (is-max : IsMax max) (m : Model) (three : ThreeEach m) (al
       let a = one-way-within m ref alt1 alt2 total s0 s1 (omega arith) (omega arith) l in
       let b = one-way-within m ref alt2 alt1 total s0 s1 (omega arith) (omega arith) l in
       record {
-        for-homref = with-fraction 0 (lit< tt) (pmf-within ref total (nat 1 ⊖ mean m 0) (omega arith) l (rest-share (mean m 0) (at 0 (lit< tt) .mean-in))) (lit≤ tt);
-        for-het = with-fraction 1 (lit< tt) (either-way-within max (oneWay m ref alt1 alt2 total) (oneWay m ref alt2 alt1 total) is-max a b (lit≤ tt)) (lit≤ tt);
+        for-homref = with-fraction 0 (lit< tt)
+            (pmf-within ref total (nat 1 ⊖ mean m 0) (omega arith) l (rest-share (mean m 0) (at 0 (lit< tt) .mean-in))) (lit≤ tt);
+        for-het = with-fraction 1 (lit< tt)
+            (either-way-within max (oneWay m ref alt1 alt2 total) (oneWay m ref alt2 alt1 total) is-max a b (lit≤ tt)) (lit≤ tt);
         for-homalt = with-fraction 2 (lit< tt) (pmf-within (alt1 + alt2) total (mean m 2) (omega arith) l (share-at 2 (lit< tt))) (lit≤ tt);
       }
 
@@ -309,12 +317,20 @@ module _ (max : Pick) (is-max : IsMax max) (m : Model) (three : ThreeEach m) (al
       let alt = alt1 + alt2 in
       let total = ref + alt1 + alt2 in
       let k : alt ≤ total = omega arith in
-      record { for-homref = beta-within alt total 0 (lit< tt) k l; for-het = beta-within alt total 1 (lit< tt) k l; for-homalt = beta-within alt total 2 (lit< tt) k l }
+      record {
+        for-homref = beta-within alt total 0 (lit< tt) k l;
+        for-het = beta-within alt total 1 (lit< tt) k l;
+        for-homalt = beta-within alt total 2 (lit< tt) k l;
+      }
   by-mode Bino ref alt1 alt2 l =
       let alt = alt1 + alt2 in
       let total = ref + alt1 + alt2 in
       let k : alt ≤ total = omega arith in
-      record { for-homref = bino-within alt total 0 (lit< tt) k l; for-het = bino-within alt total 1 (lit< tt) k l; for-homalt = bino-within alt total 2 (lit< tt) k l }
+      record {
+        for-homref = bino-within alt total 0 (lit< tt) k l;
+        for-het = bino-within alt total 1 (lit< tt) k l;
+        for-homalt = bino-within alt total 2 (lit< tt) k l;
+      }
   by-mode Phased ref alt1 alt2 l = phased-within ref alt1 alt2 l
 
   pub scores-within : (ref alt1 alt2 : ℕ) → ref ≤ 1000000 → alt1 ≤ 1000000 → alt2 ≤ 1000000 → EachScore (Within (2 ^ 41)) (scoresOf max m ref alt1 alt2)
@@ -323,8 +339,3 @@ module _ (max : Pick) (is-max : IsMax max) (m : Model) (three : ThreeEach m) (al
   -- each way round of a phased Het
   pub way-within : (ref this other total : ℕ) → ref + this < 2 ^ 22 → other ≤ total → total < 2 ^ 22 → Within (2 ^ 40) (oneWay m ref this other total)
   way-within ref this other total h k l = one-way-within m ref this other total (share-at 0 (lit< tt)) (share-at 1 (lit< tt)) h k l
-
--- ---- a number that an f64 holds
-
-abbrev pub Fits : Float → Type 0
-Fits x = T (fits binary64 x)

@@ -1,5 +1,5 @@
--- The diploid answer with the exponential as an argument, for the law that what K4 says below −708 changes no answer. At `expOf` these are
--- the rules' own definitions: `genotype-by-exp` (proofs/AnyTail.antt). Definitions only (RULES.md, G1 to G4, M7, O1, R4).
+-- For the law that what K4 says below −708 changes no answer: the diploid answer with the exponential as an argument. At `expOf` these are
+-- the rules' own definitions: `genotype-by-exp` (proofs/AnyTail.antt). Definitions only (RULES.md, L1, G1 to G5, O1, R4).
 use Prim.Native.Nat.{ℕ, _+_}
 use mathlib.Core.Bool.{cond, _&&_}
 use mathlib.Core.List.{List}
@@ -51,7 +51,7 @@ scoredWith e m ref alt1 alt2 =
     (cond (eqb (ref + alt1 + alt2) 0) NoReads (Are (scoresWith e (m .mode) m ref alt1 alt2)))
     Beyond
 
--- G4: the three less that, and at most 0
+-- G4: the three normalised: each less log10 of the sum of ten to each, and at most 0
 abbrev pub normalisedWith : (Float → Float) → Scores → Scores
 normalisedWith e l =
     let w = wholeWith e (scoreList l) in
@@ -63,7 +63,7 @@ qualsWith e s =
     let n = normalisedWith e (eachInTens s) in
     record { gq = smaller (minusTen ⊗ gapOf n) (nat 1000); sq = smaller (absolute (minusTen ⊗ n .homref)) (nat 1000) }
 
--- G3, G5: what the scores make
+-- R4, G1, G3, G5: a count beyond its limit is refused, without reads the answer is blank, and else it is what the scores make
 abbrev pub calledWith : (Float → Float) → List Float → Scored → GenotypeResult
 calledWith e table Beyond = blankDiploid Count
 calledWith e table NoReads = blankDiploid Done

@@ -8,20 +8,20 @@ use Rattle.diploid_models.specs.declared.model.Model.{Model}
 use Rattle.diploid_models.specs.declared.state.State.{State}
 use Rattle.diploid_models.specs.declared.state.State.the-variants.{Ref, Het, Hom, Non}
 
--- the number of a mode in the text forms
+-- F7: the number of a mode, in the text forms and for callers in other languages
 abbrev pub modeNumber : Mode → ℕ
 modeNumber Beta = 0
 modeNumber Bino = 1
 modeNumber Phased = 2
 
--- the number of a state in the text forms
+-- F7: the number of a state, likewise
 abbrev pub stateNumber : State → ℕ
 stateNumber Ref = 0
 stateNumber Het = 1
 stateNumber Hom = 2
 stateNumber Non = 3
 
--- G6
+-- G6: the default model
 abbrev pub defaultModel : Model
 defaultModel = record {
   mode = Beta;

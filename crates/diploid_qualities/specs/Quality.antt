@@ -60,6 +60,8 @@ qualsOf max min s =
     let n = normalised max min (eachInTens s) in
     record { gq = min (minusTen ⊗ gapOf n) (nat 1000); sq = min (absolute (minusTen ⊗ n .homref)) (nat 1000) }
 
+-- ---- for the laws
+
 -- G4, G5: what a quality is: finite, from 0 to 1000; −0.0 counts as 0
 abbrev pub Quality : Float → Type 0
 Quality x = UpTo 1000 x

@@ -8,7 +8,8 @@ use Rattle.floats.proofs.Whole.{sub-whole}
 use Rattle.kernels_gamma.specs.Binomial.{lnChoose}
 use Rattle.diploid_scores.specs.Scores.{fullLnFactorial}
 
-pub choose-by-factorials : (k n : ℕ) {f g h : Float} → k ≤ n → n ≤ 3000000 → g ≡ fullLnFactorial k → h ≡ fullLnFactorial (n - k) → f ≡ fullLnFactorial n → f ⊖ g ⊖ h ≡ lnChoose k n
+pub choose-by-factorials : (k n : ℕ) {f g h : Float} → k ≤ n → n ≤ 3000000 → g ≡ fullLnFactorial k → h ≡ fullLnFactorial (n - k)
+    → f ≡ fullLnFactorial n → f ⊖ g ⊖ h ≡ lnChoose k n
 unfolding lnChoose
 choose-by-factorials k n le l q r p = rw (p, q, r, sub-whole n k le (omega arith))
 

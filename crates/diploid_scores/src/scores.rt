@@ -5,7 +5,8 @@ ghost use Rattle.floats.specs.F64.{_⊕_};
 ghost use Rattle.kernels.specs.Ln.{lnOf};
 ghost use Rattle.kernels_gamma.specs.Binomial.{lnChoose, lnPmf};
 ghost use Rattle.floats.specs.MaxMin.{larger};
-ghost use Rattle.diploid_scores.specs.Scores.{fraction, betaLnPmf, betaScore, betaScores, binoScore, binoScores, fullLnFactorial, oneWay, eitherWay, phasedScores, scoresOf, scoredBy};
+ghost use Rattle.diploid_scores.specs.Scores.{fraction, betaLnPmf, betaScore, betaScores, binoScore, binoScores, fullLnFactorial};
+ghost use Rattle.diploid_scores.specs.Scores.{oneWay, eitherWay, phasedScores, scoresOf, scoredBy};
 use crate::counts::counts_allowed;
 use diploid_models::model::Mode;
 use diploid_models::model::Model;
@@ -103,13 +104,15 @@ fn full_ln_factorial(count: u32) -> f64
 
 // The binomial log probability of k among n at p, by the log factorials of its coefficient: of k, of the rest, of n.
 fn ln_pmf_by_factorials(f_k: f64, f_rest: f64, f_n: f64, k: u32, n: u32, p: f64) -> f64
-    requires { ⌜ (k ≤ n) × (n ≤ 3000000) × («f_k» ≡ fullLnFactorial k) × («f_rest» ≡ fullLnFactorial (n - k)) × («f_n» ≡ fullLnFactorial n) ⌝ }
+    requires { ⌜ (k ≤ n) × (n ≤ 3000000) × («f_k» ≡ fullLnFactorial k) × («f_rest» ≡ fullLnFactorial (n - k))
+        × («f_n» ≡ fullLnFactorial n) ⌝ }
     ensures { λ r. ⌜ r ≡ lnPmf k n p ⌝ }
 {
     ln_pmf_by(f_n - f_k - f_rest, k, n, p)
 }
 
-// One way round of a phased Het: `other` is error, `this` shares the remaining reads with the reference. The `f_` are log factorials of the counts.
+// One way round of a phased Het: `other` is error, `this` shares the remaining reads with the reference. The `f_` are log factorials of
+// the counts.
 fn one_way(
     model: Model,
     f_total: f64,
@@ -120,8 +123,8 @@ fn one_way(
     this: u32,
     other: u32,
 ) -> f64
-    requires { ⌜ (reference + this + other ≤ 3000000) × («f_total» ≡ fullLnFactorial (reference + this + other)) × («f_ref» ≡ fullLnFactorial reference)
-        × («f_this» ≡ fullLnFactorial this) × («f_other» ≡ fullLnFactorial other) ⌝ }
+    requires { ⌜ (reference + this + other ≤ 3000000) × («f_total» ≡ fullLnFactorial (reference + this + other))
+        × («f_ref» ≡ fullLnFactorial reference) × («f_this» ≡ fullLnFactorial this) × («f_other» ≡ fullLnFactorial other) ⌝ }
     ensures { λ r. ⌜ r ≡ oneWay model reference this other (reference + this + other) ⌝ }
 {
     let means = model.means;
@@ -145,8 +148,10 @@ fn either_way(a: f64, b: f64) -> f64
 
 // The likelihood of a phased Het: the first or the second alternative shares the remaining reads.
 fn phased_het(model: Model, f_total: f64, f_ref: f64, reference: u32, alt1: u32, alt2: u32) -> f64
-    requires { ⌜ (reference + alt1 + alt2 ≤ 3000000) × («f_total» ≡ fullLnFactorial (reference + alt1 + alt2)) × («f_ref» ≡ fullLnFactorial reference) ⌝ }
-    ensures { λ r. ⌜ r ≡ eitherWay larger (oneWay model reference alt1 alt2 (reference + alt1 + alt2)) (oneWay model reference alt2 alt1 (reference + alt1 + alt2)) ⌝ }
+    requires { ⌜ (reference + alt1 + alt2 ≤ 3000000) × («f_total» ≡ fullLnFactorial (reference + alt1 + alt2))
+        × («f_ref» ≡ fullLnFactorial reference) ⌝ }
+    ensures { λ r. ⌜ r ≡ eitherWay larger (oneWay model reference alt1 alt2 (reference + alt1 + alt2))
+        (oneWay model reference alt2 alt1 (reference + alt1 + alt2)) ⌝ }
 {
     let f_1 = full_ln_factorial(alt1);
     let f_2 = full_ln_factorial(alt2);

@@ -28,11 +28,13 @@ module _ (t : List Float) (v : Float) where
   calibrated-from h l = rw (entries-from t 0 (omega arith), l)
 
   module _ (i : ℕ) where
-    pub from-here : i + 3 < length t → inRange (getD t i nan) (getD t (i + 2) nan) v ≡ true → from (tableEntry t i) (entries (drop (i + 2) t)) v ≡ along (tableEntry t i) (record { x = getD t (i + 2) nan; y = getD t (i + 3) nan }) v
+    pub from-here : i + 3 < length t → inRange (getD t i nan) (getD t (i + 2) nan) v ≡ true
+        → from (tableEntry t i) (entries (drop (i + 2) t)) v ≡ along (tableEntry t i) (record { x = getD t (i + 2) nan; y = getD t (i + 3) nan }) v
     unfolding from
     from-here h l = rw (entries-from t (i + 2) (omega arith), l, three)
 
-    pub from-on : i + 3 < length t → inRange (getD t i nan) (getD t (i + 2) nan) v ≡ false → from (tableEntry t i) (entries (drop (i + 2) t)) v ≡ from (tableEntry t (i + 2)) (entries (drop (i + 2 + 2) t)) v
+    pub from-on : i + 3 < length t → inRange (getD t i nan) (getD t (i + 2) nan) v ≡ false
+        → from (tableEntry t i) (entries (drop (i + 2) t)) v ≡ from (tableEntry t (i + 2)) (entries (drop (i + 2 + 2) t)) v
     unfolding from
     from-on h l = rw (entries-from t (i + 2) (omega arith), l)
 

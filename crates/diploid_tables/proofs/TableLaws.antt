@@ -41,7 +41,8 @@ entries-past t i h = entries-none (drop i t) (rw length-drop (omega arith))
 
 -- ---- first members that never fall
 
-pub never-falling-from : (t : List Float) (i : ℕ) → i + 3 < length t → neverFalling (entries (drop i t)) ≡ (le (getD t i nan) (getD t (i + 2) nan) && neverFalling (entries (drop (i + 2) t)))
+pub never-falling-from : (t : List Float) (i : ℕ) → i + 3 < length t
+    → neverFalling (entries (drop i t)) ≡ (le (getD t i nan) (getD t (i + 2) nan) && neverFalling (entries (drop (i + 2) t)))
 unfolding neverFalling
 never-falling-from t i h =
     let h0 : i + 1 < length t = omega arith in

@@ -8,17 +8,18 @@ use lib.Ieee.{Float, le}
 use Rattle.floats.specs.F64.{nat}
 use Rattle.limits.specs.Limits.{allIn}
 
--- a table is lent as one list, first and second members in turn
+-- L5: a pair of a table
 pub record Entry : Type 0 where
   pub x : Float
   pub y : Float
 
+-- L5: the pairs of a table, which is lent as one list, first and second members in turn
 unfoldable pub entries : List Float → List Entry
 entries [] = []
 entries (x ∷ []) = []
 entries (x ∷ y ∷ rest) = record { x = x; y = y } ∷ entries rest
 
--- the first members never fall
+-- L5: the first members never fall
 unfoldable pub neverFalling : List Entry → Bool
 neverFalling [] = true
 neverFalling (p ∷ []) = true

@@ -381,7 +381,8 @@ c-diploid-ends κ a v w e f p q = (only (p .1) (q .1), only (p .2) (q .2), only 
 pub c-trio-once : OneAnswer c-trio.Post
 c-trio-once κ a v w e f p q = only (p .0) (q .0)
 
--- and so is what it leaves behind its `&mut`, its fourth to ninth parameter: the pairs, the score, the ground, the flag, the position and the score of the runner-up
+-- and so is what it leaves behind its `&mut`, its fourth to ninth parameter: the pairs, the score, the ground, the flag, the position and
+-- the score of the runner-up
 pub c-trio-ends : (κ : _) (a : _) (v w : _) (e f : _) → c-trio.Post κ a v e → c-trio.Post κ a w f
     → (e .1 .1 .1 .0 .now ≡ f .1 .1 .1 .0 .now)
     × (e .1 .1 .1 .1 .0 .now ≡ f .1 .1 .1 .1 .0 .now)
@@ -406,7 +407,18 @@ pub c-mosaic-ends : (κ : _) (a : _) (v w : _) (e f : _) → c-mosaic.Post κ a 
     × (e .1 .1 .1 .1 .1 .1 .1 .1 .1 .1 .1 .1 .0 .now ≡ f .1 .1 .1 .1 .1 .1 .1 .1 .1 .1 .1 .1 .0 .now)
     × (e .1 .1 .1 .1 .1 .1 .1 .1 .1 .1 .1 .1 .1 .0 .now ≡ f .1 .1 .1 .1 .1 .1 .1 .1 .1 .1 .1 .1 .1 .0 .now)
     × (e .1 .1 .1 .1 .1 .1 .1 .1 .1 .1 .1 .1 .1 .1 .0 .now ≡ f .1 .1 .1 .1 .1 .1 .1 .1 .1 .1 .1 .1 .1 .1 .0 .now)
-c-mosaic-ends κ a v w e f p q = (only (p .ploidy-is) (q .ploidy-is), only (p .germline-is) (q .germline-is), only (p .somatic-is) (q .somatic-is), only (p .vafs-is) (q .vafs-is), only (p .seen-is) (q .seen-is), only (p .observed-is) (q .observed-is), only (p .posterior-is) (q .posterior-is), only (p .quality-is) (q .quality-is), only (p .hypotheses-is) (q .hypotheses-is), only (p .probabilities-is) (q .probabilities-is))
+c-mosaic-ends κ a v w e f p q = (
+  only (p .ploidy-is) (q .ploidy-is),
+  only (p .germline-is) (q .germline-is),
+  only (p .somatic-is) (q .somatic-is),
+  only (p .vafs-is) (q .vafs-is),
+  only (p .seen-is) (q .seen-is),
+  only (p .observed-is) (q .observed-is),
+  only (p .posterior-is) (q .posterior-is),
+  only (p .quality-is) (q .quality-is),
+  only (p .hypotheses-is) (q .hypotheses-is),
+  only (p .probabilities-is) (q .probabilities-is),
+)
 
 -- ---- text
 

@@ -28,19 +28,21 @@ use Rattle.diploid_qualities.specs.declared.scores.Scores.{Scores}
 use Rattle.diploid_models.specs.Models.{defaultModel}
 use Rattle.diploid.specs.Genotype.{winningState, blankDiploid, genotypeOf}
 
--- the call of two clusters whose mother was not read: at the last position, every pair (1,1), and Unread
+-- X2: the call of two clusters whose mother was not read: at the last position, every pair (1,1), and Unread
 pub record LastOfTwo (c : Closed) : Type 0 where
   pub done : c .refusal ≡ Done
   pub at : c .part .held .first .position ≡ 26
   pub pairs : c .triple ≡ record { child = pair 1 1; father = pair 1 1; mother = pair 1 1 }
   pub ground-is : c .ground ≡ Unread
 
+-- X1 to X11: the table
 pub record Examples : Type 0 where
   -- X1: genotypes and triples of 1, 2, 3 and 8 clusters, counted from their lists
   pub genotypes-number : (genotypeCount 1 ≡ 1) × (genotypeCount 2 ≡ 3) × (genotypeCount 3 ≡ 6) × (genotypeCount 8 ≡ 36)
   pub triples-number : (length (triples 1) ≡ 1) × (length (triples 2) ≡ 27) × (length (triples 3) ≡ 216) × (length (triples 8) ≡ 46656)
   -- X2: over all accepted counts and weights of two clusters whose mother has no reads
-  pub unread-mother : (counts : List ℕ) (weights : List Float) → numberOf (openStep 2 counts weights .refusal) ≡ 0 → columnTotal 2 counts Mother ≡ 0
+  pub unread-mother : (counts : List ℕ) (weights : List Float) → numberOf (openStep 2 counts weights .refusal) ≡ 0
+      → columnTotal 2 counts Mother ≡ 0
       → LastOfTwo (callOf 2 counts weights)
   -- X3 to X6: how many different pairs the parents can make
   pub one-pair : length (childPairs (pair 0 0) (pair 1 1)) ≡ 1

@@ -3,7 +3,8 @@
 use mathlib.Core.Path.{_≡_, refl, sym, ap, _∙_}
 use mathlib.Core.Bool.{Bool, true, false, not, cond}
 use Prim.Native.Nat.{ℕ, zero, suc, _+_, _-_, _*_, _^_, _≤_, _<_}
-use native.Mathlib.Nat.{le-trans, le-of-eq, lt-of-lt-of-le, lt-of-le-of-lt, lt-of-not-le, not-le-of-lt, lt-irrefl, one-mul, mul-one, mul-comm, mul-assoc, mul-right-comm, mul-le-mul-right, mul-lt-mul-of-pos-right, lt-of-mul-lt-mul-right, pow-succ'}
+use native.Mathlib.Nat.{le-trans, le-of-eq, lt-of-lt-of-le, lt-of-le-of-lt, lt-of-not-le, not-le-of-lt, lt-irrefl, one-mul, mul-one}
+use native.Mathlib.Nat.{mul-comm, mul-assoc, mul-right-comm, mul-le-mul-right, mul-lt-mul-of-pos-right, lt-of-mul-lt-mul-right, pow-succ'}
 use native.Mathlib.Omega.{arith}
 use lib.IntN.{ℤ, pos, negsuc, natAbs, _+ℤ_}
 use lib.Dec.{T, ltb, ltb→lt, nltb→le, leb·suc-zero}
@@ -122,4 +123,5 @@ exponent-within i j n (fin true m e) I J a b = absurd (a .is-positive)
 exponent-within i j n (fin false m e) I J a b =
     let h : 0 < m = ltb→lt 0 m (a .is-positive) in
     let k = e +ℤ pos (lead m) in
-    small k i j n I J (not-lower (m * up e) (down e) (up k) (down k) i (a .large) (under m e h)) (not-higher (m * up e) (down e) (up k) (down k) j (down-pos k) b (reaches m e h))
+    small k i j n I J (not-lower (m * up e) (down e) (up k) (down k) i (a .large) (under m e h))
+    (not-higher (m * up e) (down e) (up k) (down k) j (down-pos k) b (reaches m e h))

@@ -3,7 +3,9 @@
 use mathlib.Core.Path.{_≡_, refl, sym, ap, _∙_, subst}
 use mathlib.Core.Bool.{Bool, true, false, _&&_, cond, Bool·beq}
 use Prim.Native.Nat.{ℕ, suc, _+_, _-_, _*_, _^_, _≤_, _<_}
-use native.Mathlib.Nat.{le-trans, le-of-eq, lt-of-lt-of-le, zero-lt-suc, zero-add, add-zero, add-suc, suc-add, zero-mul, sub-zero, one-mul, le-add-left, add-mul, add-le-add, mul-one, mul-comm, mul-assoc, mul-left-comm, mul-mul-mul-comm, mul-pos, mul-le-mul, mul-le-mul-left, mul-le-mul-right}
+use native.Mathlib.Nat.{le-trans, le-of-eq, lt-of-lt-of-le, zero-lt-suc, zero-add, add-zero, add-suc, suc-add, zero-mul, sub-zero, one-mul}
+use native.Mathlib.Nat.{le-add-left, add-mul, add-le-add, mul-one, mul-comm, mul-assoc, mul-left-comm, mul-mul-mul-comm, mul-pos}
+use native.Mathlib.Nat.{mul-le-mul, mul-le-mul-left, mul-le-mul-right}
 use native.Mathlib.Omega.{arith}
 use native.Mathlib.Numerals.{add-one}
 use mathlib.Core.List.{List, [], _∷_}
@@ -105,7 +107,8 @@ sum-within s a t b c n C l h = go (Bool·beq s t) (ltb a b)
 pub common : (p q a b d g : ℕ) → p ≤ a * d → q ≤ b * g → p * g + q * d ≤ (a + b) * (d * g)
 common p q a b d g h k =
     le-trans (add-le-add (mul-le-mul-right g h) (mul-le-mul-right d k))
-    (le-of-eq (ap (λ (z : ℕ). z + b * g * d) (mul-assoc a d g) ∙ ap (λ (z : ℕ). a * (d * g) + z) (mul-assoc b g d ∙ ap (λ (z : ℕ). b * z) (mul-comm g d)) ∙ sym (add-mul a b (d * g))))
+    (le-of-eq (ap (λ (z : ℕ). z + b * g * d) (mul-assoc a d g)
+    ∙ ap (λ (z : ℕ). a * (d * g) + z) (mul-assoc b g d ∙ ap (λ (z : ℕ). b * z) (mul-comm g d)) ∙ sym (add-mul a b (d * g))))
 
 pub within-add : {a b : ℕ} {x y : Float} → Within a x → Within b y → a + b ≤ 2 ^ 53 → Within (a + b) (add binary64 x y)
 unfolding add
@@ -138,7 +141,8 @@ within-div {a} {j} {x = fin s m e} {y = inf t} h k l = absurd (k .is-positive)
 within-div {a} {j} {x = fin s m e} {y = fin true n d} h k l = absurd (k .is-positive)
 within-div {a} {j} {x = fin s m e} {y = fin false n d} h k l =
     rw (eqb-zero n (no-zero n (up d) (2 ^ j) (down d) (down-pos d) (k .large)))
-    (round-within (unlike s false) (m * up e * down d) (n * up d * down e) (a * 2 ^ j) (mul-pos (first-pos (n * up d) (2 ^ j) (lt-of-lt-of-le (down-pos d) (k .large))) (down-pos e)) l
+    (round-within (unlike s false) (m * up e * down d) (n * up d * down e) (a * 2 ^ j)
+    (mul-pos (first-pos (n * up d) (2 ^ j) (lt-of-lt-of-le (down-pos d) (k .large))) (down-pos e)) l
     (le-trans (mul-le-mul (h .small) (k .large)) (le-of-eq (regroup a (down e) (n * up d) (2 ^ j)))))
 
 -- and by a y that is no smaller than x in size
@@ -152,7 +156,8 @@ within-ratio (fin s m e) (fin true n d) p q h = absurd q
 within-ratio (fin s m e) (fin false n d) p q h =
     let N : 0 < n = ltb→lt 0 n q in
     rw (eqb-zero n N)
-    (round-within (unlike s false) (m * up e * down d) (n * up d * down e) 1 (mul-pos (mul-pos N (up-pos d)) (down-pos e)) (lit≤ tt) (le-trans h (le-of-eq (sym (one-mul (n * up d * down e))))))
+    (round-within (unlike s false) (m * up e * down d) (n * up d * down e) 1 (mul-pos (mul-pos N (up-pos d)) (down-pos e)) (lit≤ tt)
+    (le-trans h (le-of-eq (sym (one-mul (n * up d * down e))))))
 
 -- ---- what is not below zero, and what is above it
 
@@ -172,10 +177,12 @@ above-not-below {x} h = positive-not-below x (h .is-positive)
 -- a product of what is above zero
 pub above-mul : {i j : ℕ} {x y : Float} → Above i x → Above j y → i + j ≤ 1074 → T (finite (mul binary64 x y)) → Above (i + j) (mul binary64 x y)
 above-mul {i} {j} {x} {y} h k l t =
-    let same = mul-at binary64 x y (num x) (den x) (num y) (den y) (h .is-positive) (k .is-positive) (den-pos x) (den-pos y) (own-value x (h .is-positive)) (own-value y (k .is-positive)) in
+    let same = mul-at binary64 x y (num x) (den x) (num y) (den y) (h .is-positive) (k .is-positive) (den-pos x) (den-pos y)
+    (own-value x (h .is-positive)) (own-value y (k .is-positive)) in
     subst (λ (v : Float). Above (i + j) v) (sym same)
     (round-above (num x * num y) (den x * den y) (i + j) (mul-pos (den-pos x) (den-pos y)) l
-    (le-trans (mul-le-mul (h .large) (k .large)) (le-of-eq (mul-mul-mul-comm (num x) (2 ^ i) (num y) (2 ^ j) ∙ ap (λ (p : ℕ). num x * num y * p) (sym (pow-add 2 i j)))))
+    (le-trans (mul-le-mul (h .large) (k .large))
+    (le-of-eq (mul-mul-mul-comm (num x) (2 ^ i) (num y) (2 ^ j) ∙ ap (λ (p : ℕ). num x * num y * p) (sym (pow-add 2 i j)))))
     (subst (λ (v : Float). T (finite v)) same t))
 
 -- what is not below zero, plus what is above it
@@ -216,7 +223,8 @@ pub within-horner : {n : ℕ} {z p : Float} (cs : List Float) → Within 1 z →
 within-horner {n} [] h k cs l = rw add-zero k
 within-horner {n} {z} {p} (c ∷ cs) h k each l =
     let l′ : suc n + length cs ≤ 2 ^ 53 = omega arith in
-    let next : Within (suc n) (p ⊗ z ⊕ c) = rw (mul-one, add-one) at (within-add (within-mul k h (omega (arith, mul-one n))) (each .0) (omega (arith, mul-one n))) in
+    let next : Within (suc n) (p ⊗ z ⊕ c) = rw (mul-one, add-one) at
+    (within-add (within-mul k h (omega (arith, mul-one n))) (each .0) (omega (arith, mul-one n))) in
     rw (add-suc, ← suc-add) (within-horner cs h next (each .1) l′)
 
 -- and with 1 / n for each n of a list
@@ -228,7 +236,8 @@ all-reciprocals : (ns : List ℕ) → T (noneZero ns) → Each (Within 1) (recip
 all-reciprocals [] h = tt
 all-reciprocals (n ∷ ns) h = (within-reciprocal n (ltb→lt 0 n (and-l (ltb 0 n) (noneZero ns) h)), all-reciprocals ns (and-r (ltb 0 n) (noneZero ns) h))
 
-pub within-reciprocals : {z : Float} (ns : List ℕ) → Within 1 z → T (noneZero ns) → 1 + length (reciprocals ns) ≤ 2 ^ 53 → Within (1 + length (reciprocals ns)) (horner z (reciprocals ns))
+pub within-reciprocals : {z : Float} (ns : List ℕ) → Within 1 z → T (noneZero ns) → 1 + length (reciprocals ns) ≤ 2 ^ 53
+    → Within (1 + length (reciprocals ns)) (horner z (reciprocals ns))
 within-reciprocals [] w h l = within-whole (pos 0) 1 (lit≤ tt) (lit≤ tt)
 within-reciprocals (n ∷ ns) w h l =
     let N : 0 < n = ltb→lt 0 n (and-l (ltb 0 n) (noneZero ns) h) in

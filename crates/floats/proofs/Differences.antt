@@ -135,7 +135,8 @@ add-either (inf s) y f g = absurd f
 add-either (fin s m e) nan f g = absurd g
 add-either (fin s m e) (inf t) f g = absurd g
 add-either (fin s m e) (fin t n d) f g =
-    sum-either s (m * up e * down d) t (n * up d * down e) (down e * down d) ∙ ap (λ (c : ℕ). sum binary64 t (n * up d * down e) s (m * up e * down d) c) (mul-comm (down e) (down d))
+    sum-either s (m * up e * down d) t (n * up d * down e) (down e * down d)
+    ∙ ap (λ (c : ℕ). sum binary64 t (n * up d * down e) s (m * up e * down d) c) (mul-comm (down e) (down d))
 
 -- ---- of two finite numbers, one is at most the other
 

@@ -3,7 +3,8 @@
 use mathlib.Core.Path.{_≡_, refl, sym, ap, _∙_, subst}
 use mathlib.Core.Bool.{Bool, true, false, _&&_}
 use Prim.Native.Nat.{ℕ, zero, suc, _+_, _-_, _*_, _%_, _^_, _≤_, _<_}
-use native.Mathlib.Nat.{le-trans, le-of-eq, lt-of-lt-of-le, lt-of-not-le, lt-irrefl, le-of-suc-le-suc, one-mul, mul-one, mul-assoc, mul-comm, mul-left-comm, mul-right-comm, mul-pos, mul-le-mul-right, eq-of-mul-eq-mul-right, pow-succ'}
+use native.Mathlib.Nat.{le-trans, le-of-eq, lt-of-lt-of-le, lt-of-not-le, lt-irrefl, le-of-suc-le-suc, one-mul, mul-one, mul-assoc}
+use native.Mathlib.Nat.{mul-comm, mul-left-comm, mul-right-comm, mul-pos, mul-le-mul-right, eq-of-mul-eq-mul-right, pow-succ'}
 use native.Mathlib.Omega.{arith}
 use borrow.Author.Tests.{le-ltb}
 use lib.IntN.{ℤ, pos, negsuc, natAbs, _+ℤ_, _-ℤ_, +ℤ-negℤ-cancel}
@@ -115,14 +116,16 @@ from-lifted e g i j p q r = sym (+ℤ-negℤ-cancel e (pos 1074)) ∙ ap (λ (k 
 cross : (x y p q l : ℕ) → 0 < p → 0 < q → (X Y : ℕ) → x * l ≡ X * p → y * l ≡ Y * q → x * q ≡ y * p → X ≡ Y
 cross x y p q l P Q X Y h k e =
     eq-of-mul-eq-mul-right (p * q) (mul-pos P Q) X Y
-    (sym (mul-assoc X p q) ∙ ap (λ (n : ℕ). n * q) (sym h) ∙ mul-right-comm x l q ∙ ap (λ (n : ℕ). n * l) e ∙ mul-right-comm y p l ∙ ap (λ (n : ℕ). n * p) k ∙ mul-assoc Y q p ∙ ap (λ (n : ℕ). Y * n) (mul-comm q p))
+    (sym (mul-assoc X p q) ∙ ap (λ (n : ℕ). n * q) (sym h) ∙ mul-right-comm x l q ∙ ap (λ (n : ℕ). n * l) e ∙ mul-right-comm y p l
+    ∙ ap (λ (n : ℕ). n * p) k ∙ mul-assoc Y q p ∙ ap (λ (n : ℕ). Y * n) (mul-comm q p))
 
 pub one-way : (m n : ℕ) (e g : ℤ) → m % 2 ≡ 1 → n % 2 ≡ 1 → down e ≤ 2 ^ 1074 → down g ≤ 2 ^ 1074 → m * up e * down g ≡ n * up g * down e → (m ≡ n) × (e ≡ g)
 one-way m n e g o p E G h =
     let i = place e E in
     let j = place g G in
     let r = odd-pow m n (i .0) (j .0) o p
-    (cross (m * up e) (n * up g) (down e) (down g) (2 ^ 1074) (down-pos e) (down-pos g) (m * 2 ^ i .0) (n * 2 ^ j .0) (in-units e (i .0) (i .1) m) (in-units g (j .0) (j .1) n) h) in
+    (cross (m * up e) (n * up g) (down e) (down g) (2 ^ 1074) (down-pos e) (down-pos g) (m * 2 ^ i .0) (n * 2 ^ j .0)
+    (in-units e (i .0) (i .1) m) (in-units g (j .0) (j .1) n) h) in
     (r .0, from-lifted e g (i .0) (j .0) (i .1) (j .1) (r .1))
 
 -- two numbers that fit and have one value a / c
@@ -138,7 +141,8 @@ value-unique (fin t m e) (fin u n g) s a c A C p q v w =
     let k = fitting u n g N q in
     let r = one-way m n e g (f .is-odd) (k .is-odd) (f .not-low) (k .not-low)
     (eq-of-mul-eq-mul-right c C (m * up e * down g) (n * up g * down e)
-    (mul-right-comm (m * up e) (down g) c ∙ ap (λ (z : ℕ). z * down g) (v .1) ∙ mul-right-comm a (down e) (down g) ∙ ap (λ (z : ℕ). z * down e) (sym (w .1)) ∙ mul-right-comm (n * up g) c (down e))) in
+    (mul-right-comm (m * up e) (down g) c ∙ ap (λ (z : ℕ). z * down g) (v .1) ∙ mul-right-comm a (down e) (down g)
+    ∙ ap (λ (z : ℕ). z * down e) (sym (w .1)) ∙ mul-right-comm (n * up g) c (down e))) in
     λ i. fin ((v .0 ∙ sym (w .0)) i) (r .0 i) (r .1 i)
   where
     above-zero : (m : ℕ) (e : ℤ) → m * up e * c ≡ a * down e → 0 < m

@@ -3,7 +3,8 @@
 use mathlib.Core.Path.{_≡_, refl, sym, ap, _∙_}
 use mathlib.Core.Bool.{Bool, true, false, not, _&&_, _||_, Bool·beq, true≢false}
 use Prim.Native.Nat.{ℕ, zero, suc, _+_, _-_, _*_, _^_, _≤_, _<_, zero-le}
-use native.Mathlib.Nat.{le-trans, le-of-eq, le-of-lt, lt-of-lt-of-le, lt-of-le-of-lt, zero-lt-suc, zero-add, zero-mul, mul-right-comm, mul-pos, suc-mul, mul-le-mul-right, mul-lt-mul-of-pos-right, lt-of-mul-lt-mul-right}
+use native.Mathlib.Nat.{le-trans, le-of-eq, le-of-lt, lt-of-lt-of-le, lt-of-le-of-lt, zero-lt-suc, zero-add, zero-mul, mul-right-comm}
+use native.Mathlib.Nat.{mul-pos, suc-mul, mul-le-mul-right, mul-lt-mul-of-pos-right, lt-of-mul-lt-mul-right}
 use native.Mathlib.Omega.{arith}
 use borrow.Author.Tests.{ltb-true, ltb-false, leb-true, leb-false, eqb-true, eqb-false, lt-ltb, le-ltb, le-leb, lt-leb, eq-eqb}
 use lib.Dec.{T, ltb, leb, eqb, eqb→eq, lt→ltb, lit≤}
@@ -84,11 +85,13 @@ through : (a b c p q r : ℕ) → 0 < r → a * q < b * p → b * r ≤ c * q �
 through a b c p q r P h k =
     lt-of-mul-lt-mul-right q
     (lt-of-le-of-lt (le-of-eq (mul-right-comm a r q))
-    (lt-of-lt-of-le (mul-lt-mul-of-pos-right h P) (le-trans (le-of-eq (mul-right-comm b p r)) (le-trans (mul-le-mul-right p k) (le-of-eq (mul-right-comm c q p))))))
+    (lt-of-lt-of-le (mul-lt-mul-of-pos-right h P)
+    (le-trans (le-of-eq (mul-right-comm b p r)) (le-trans (mul-le-mul-right p k) (le-of-eq (mul-right-comm c q p))))))
 
 pub below-through : (x y z : Float) → NotBelow x → NotBelow y → NotBelow z → lt x y ≡ true → le y z ≡ true → lt x z ≡ true
 below-through x y z X Y Z h k =
-    lt-fractions x z X Z ∙ lt-ltb (num x * den z) (num z * den x) (through (num x) (num y) (num z) (den x) (den y) (den z) (den-pos z) (less x y X Y h) (most y z Y Z k))
+    lt-fractions x z X Z ∙ lt-ltb (num x * den z) (num z * den x)
+    (through (num x) (num y) (num z) (den x) (den y) (den z) (den-pos z) (less x y X Y h) (most y z Y Z k))
 
 pub some-positive : (y : Float) → NotBelow y → 0 < num y → T (positive y)
 some-positive nan Y h = absurd (Y .not-below)
@@ -104,7 +107,8 @@ positive-above x y X Y h = some-positive y Y (first-pos (num y) (den x) (lt-of-l
 
 -- ---- the difference
 
-difference-of : (x y : Float) → NotBelow x → T (positive y) → num x * den y ≤ num y * den x → y ⊖ x ≡ round binary64 false (num y * den x - num x * den y) (den y * den x)
+difference-of : (x y : Float) → NotBelow x → T (positive y) → num x * den y ≤ num y * den x
+    → y ⊖ x ≡ round binary64 false (num y * den x - num x * den y) (den y * den x)
 unfolding sub neg add sum
 difference-of nan y X Y h = absurd (X .not-below)
 difference-of (inf s) y X Y h = absurd (X .not-below)
@@ -122,12 +126,15 @@ difference x y X Y h = difference-of x y X (positive-above x y X Y h) (le-of-lt 
 
 -- the larger y, the larger y - x
 closer : (a b c p q r : ℕ) → b * r ≤ c * q → (b * p - a * q) * (r * p) ≤ (c * p - a * r) * (q * p)
-closer a b c p q r h = let k : b * r * (p * p) ≤ c * q * (p * p) = mul-le-mul-right (p * p) h in rw (sub-mul (b * p) (a * q) (r * p), sub-mul (c * p) (a * r) (q * p)) (omega arith)
+closer a b c p q r h =
+    let k : b * r * (p * p) ≤ c * q * (p * p) = mul-le-mul-right (p * p)
+    h in rw (sub-mul (b * p) (a * q) (r * p), sub-mul (c * p) (a * r) (q * p)) (omega arith)
 
 pub difference-mono : (x y z : Float) → NotBelow x → NotBelow y → NotBelow z → lt x y ≡ true → le y z ≡ true → T (le (y ⊖ x) (z ⊖ x))
 difference-mono x y z X Y Z h k =
     rw (difference x y X Y h, difference x z X Z (below-through x y z X Y Z h k))
-    (round-mono binary64 (num y * den x - num x * den y) (den y * den x) (num z * den x - num x * den z) (den z * den x) (mul-pos (den-pos y) (den-pos x)) (mul-pos (den-pos z) (den-pos x))
+    (round-mono binary64 (num y * den x - num x * den y) (den y * den x) (num z * den x - num x * den z) (den z * den x)
+    (mul-pos (den-pos y) (den-pos x)) (mul-pos (den-pos z) (den-pos x))
     (closer (num x) (num y) (num z) (den x) (den y) (den z) (most y z Y Z k)))
 
 -- ---- numbers that an f64 holds are whole in units of 2^-1074, so two that differ do so by a unit at least
@@ -142,12 +149,14 @@ units (fin s (suc m) e) f X =
 
 unit-apart : (a b p q u w z : ℕ) → 0 < z → a * z ≡ u * p → b * z ≡ w * q → a * q < b * p → q * p ≤ (b * p - a * q) * z
 unit-apart a b p q u w z Z h k l =
-    let fewer : u * p * q < w * q * p = lt-of-le-of-lt (le-of-eq (ap (λ (n : ℕ). n * q) (sym h) ∙ mul-right-comm a z q)) (lt-of-lt-of-le (mul-lt-mul-of-pos-right l Z) (le-of-eq (mul-right-comm b p z ∙ ap (λ (n : ℕ). n * p) k))) in
+    let fewer : u * p * q < w * q * p = lt-of-le-of-lt (le-of-eq (ap (λ (n : ℕ). n * q) (sym h) ∙ mul-right-comm a z q))
+    (lt-of-lt-of-le (mul-lt-mul-of-pos-right l Z) (le-of-eq (mul-right-comm b p z ∙ ap (λ (n : ℕ). n * p) k))) in
     let less : u < w = lt-of-mul-lt-mul-right (q * p) (omega arith) in
     let one : u * (q * p) + q * p ≤ w * (q * p) = le-trans (le-of-eq (sym (suc-mul u (q * p)))) (mul-le-mul-right (q * p) less) in
     rw sub-mul (omega (arith, ap (λ (n : ℕ). n * q) h, ap (λ (n : ℕ). n * p) k))
 
-pub difference-above : (x y : Float) → NotBelow x → NotBelow y → T (fits binary64 x) → T (fits binary64 y) → lt x y ≡ true → T (finite (y ⊖ x)) → Above 1074 (y ⊖ x)
+pub difference-above : (x y : Float) → NotBelow x → NotBelow y → T (fits binary64 x) → T (fits binary64 y) → lt x y ≡ true
+    → T (finite (y ⊖ x)) → Above 1074 (y ⊖ x)
 difference-above x y X Y f g h t =
     let d = difference x y X Y h in
     let u = units x f X in

@@ -5,7 +5,9 @@ use mathlib.Core.Path.{_≡_, refl, sym, ap, _∙_, subst}
 use mathlib.Core.Logic.{inl, inr}
 use mathlib.Core.Bool.{Bool, true, false, not, cond, true≢false}
 use Prim.Native.Nat.{ℕ, zero, suc, _+_, _*_, _/_, _%_, _^_, _≤_, _<_}
-use native.Mathlib.Nat.{le-trans, le-of-eq, le-of-lt, not-suc-le-zero, le-add-right, lt-of-lt-of-le, zero-lt-suc, eq-or-lt-of-le, eq-zero-or-pos, le-add-left, add-mul, lt-trans, mul-one, mul-comm, mul-assoc, mul-right-comm, mul-pos, mul-le-mul-right, mul-lt-mul-of-pos-right, lt-of-mul-lt-mul-right, le-of-mul-le-mul-right, zero-add, zero-mul}
+use native.Mathlib.Nat.{le-trans, le-of-eq, le-of-lt, not-suc-le-zero, le-add-right, lt-of-lt-of-le, zero-lt-suc, eq-or-lt-of-le}
+use native.Mathlib.Nat.{eq-zero-or-pos, le-add-left, add-mul, lt-trans, mul-one, mul-comm, mul-assoc, mul-right-comm, mul-pos}
+use native.Mathlib.Nat.{mul-le-mul-right, mul-lt-mul-of-pos-right, lt-of-mul-lt-mul-right, le-of-mul-le-mul-right, zero-add, zero-mul}
 use native.Mathlib.Omega.{arith}
 use borrow.Author.Tests.{lt-ltb, le-ltb}
 use lib.IntN.{ℤ, pos, negℤ}
@@ -85,7 +87,9 @@ some b c h = elim (eq-zero-or-pos b) [
 ]
 
 none : (b c : ℕ) → b + c ≤ 0 → sizeOf b + sizeOf c ≤ 0
-none b c h = let p : b ≡ 0 = omega arith in let q : c ≡ 0 = omega arith in le-of-eq (ap (λ (n : ℕ). sizeOf n + sizeOf c) p ∙ ap (λ (n : ℕ). sizeOf 0 + sizeOf n) q ∙ ap (λ (n : ℕ). n + n) size-zero)
+none b c h =
+    let p : b ≡ 0 = omega arith in let q : c ≡ 0 = omega arith in le-of-eq
+    (ap (λ (n : ℕ). sizeOf n + sizeOf c) p ∙ ap (λ (n : ℕ). sizeOf 0 + sizeOf n) q ∙ ap (λ (n : ℕ). n + n) size-zero)
 
 -- so a comparison of sizes is one of patterns
 by-patterns : (s : Bool) (b : ℕ) (t : Bool) (c : ℕ) → below s (sizeOf b) t (sizeOf c) ≡ below s b t c
@@ -144,7 +148,8 @@ below-alike false a b false c d p q P Q e f = compare-alike a b c d p q P Q e f
 below-alike false a b true c d p q P Q e f = refl
 below-alike true a b true c d p q P Q e f = compare-alike c d a b p q P Q f e
 below-alike true a b false c d p q P Q e f =
-    compare-alike 0 0 (a + c) (b + d) p q P Q (zero-mul p ∙ sym (zero-mul q)) (add-mul a c p ∙ ap (λ (n : ℕ). n + c * p) e ∙ ap (λ (n : ℕ). b * q + n) f ∙ sym (add-mul b d q))
+    compare-alike 0 0 (a + c) (b + d) p q P Q (zero-mul p ∙ sym (zero-mul q))
+    (add-mul a c p ∙ ap (λ (n : ℕ). n + c * p) e ∙ ap (λ (n : ℕ). b * q + n) f ∙ sym (add-mul b d q))
 
 -- an infinity is beyond every finite size
 beyond : (s : Bool) (b : ℕ) (t : Bool) → b < 2 ^ 2098 → below s (2 ^ 2098) t b ≡ s
@@ -173,7 +178,8 @@ by-sizes (fin s m e) (inf t) a b p q = rw q (sym (before s a t (p .1)))
 by-sizes (fin s m e) (fin t n d) a b p q =
     below-alike s (m * up e * down d) a t (n * up d * down e) b (2 ^ 1074) (down e * down d) (pow-pos 1074) (mul-pos (down-pos e) (down-pos d))
     (mul-right-comm (m * up e) (down d) (2 ^ 1074) ∙ ap (λ (k : ℕ). k * down d) (p .0) ∙ mul-assoc a (down e) (down d))
-    (mul-right-comm (n * up d) (down e) (2 ^ 1074) ∙ ap (λ (k : ℕ). k * down e) (q .0) ∙ mul-assoc b (down d) (down e) ∙ ap (λ (k : ℕ). b * k) (mul-comm (down d) (down e)))
+    (mul-right-comm (n * up d) (down e) (2 ^ 1074) ∙ ap (λ (k : ℕ). k * down e) (q .0) ∙ mul-assoc b (down d) (down e)
+    ∙ ap (λ (k : ℕ). b * k) (mul-comm (down d) (down e)))
 
 -- ---- what a pattern is read as has its sign and its size
 of-value : (x : Float) (s : Bool) (n : ℕ) → HasValue x s n (2 ^ 1074) → n < 2 ^ 2098 → (sign x ≡ s) × Size x n
@@ -181,14 +187,18 @@ of-value nan s n v h = absurd v
 of-value (inf t) s n v h = absurd v
 of-value (fin t m e) s n v h = (v .0, (v .1, h))
 
-read : (s : Bool) (x t : ℕ) → x < 2048 → t < 2 ^ 52 → isNan (ofFields binary64 s x t) ≡ false → (sign (ofFields binary64 s x t) ≡ s) × Size (ofFields binary64 s x t) (size x t)
+read : (s : Bool) (x t : ℕ) → x < 2048 → t < 2 ^ 52 → isNan (ofFields binary64 s x t) ≡ false
+    → (sign (ofFields binary64 s x t) ≡ s) × Size (ofFields binary64 s x t) (size x t)
 unfolding ofFields size isNan
-read s zero t X H n = of-value (odd 53 s t 0 1074) s t (subst (λ (k : ℕ). HasValue (odd 53 s t 0 1074) s k (2 ^ 1074)) (mul-one t) (odd-sign 53 s t 0 1074)) (lt-trans H (lit< tt))
+read s zero t X H n =
+    of-value (odd 53 s t 0 1074) s t (subst (λ (k : ℕ). HasValue (odd 53 s t 0 1074) s k (2 ^ 1074)) (mul-one t) (odd-sign 53 s t 0 1074))
+    (lt-trans H (lit< tt))
 read s (suc x) t X H n = go (eqb (suc x) 2047) (eqb t 0) (eqb→eq (suc x) 2047) (λ k e. T-not (eqb (suc x) 2047) k (eq→eqb e)) (eqb→eq t 0) n
   where
     go : (u v : Bool) → (T u → suc x ≡ 2047) → (T (not u) → suc x ≡ 2047 → ⊥) → (T v → t ≡ 0)
         → isNan (cond u (cond v (inf s) nan) (odd 53 s (2 ^ 52 + t) x 1074)) ≡ false
-        → (sign (cond u (cond v (inf s) nan) (odd 53 s (2 ^ 52 + t) x 1074)) ≡ s) × Size (cond u (cond v (inf s) nan) (odd 53 s (2 ^ 52 + t) x 1074)) ((2 ^ 52 + t) * 2 ^ x)
+        → (sign (cond u (cond v (inf s) nan) (odd 53 s (2 ^ 52 + t) x 1074)) ≡ s) × Size
+        (cond u (cond v (inf s) nan) (odd 53 s (2 ^ 52 + t) x 1074)) ((2 ^ 52 + t) * 2 ^ x)
     go true true e f z n = let h : x ≡ 2046 = omega (arith, e tt) in (refl, ap (λ (k : ℕ). (2 ^ 52 + k) * 2 ^ x) (z tt) ∙ ap (λ (k : ℕ). 2 ^ 52 * 2 ^ k) h)
     go true false e f z n = absurd (true≢false n)
     go false v e f z n =
@@ -218,4 +228,5 @@ key-order x y p q n k =
     of-float : (z : Float) → T (fits binary64 z) → isNan z ≡ false → (sign z ≡ leb (2 ^ 63) (toBits binary64 z)) × Size z (sizeOf (toBits binary64 z % 2 ^ 63))
     of-float z h n =
         let e = ofBits-toBits binary64 z h in
-        subst (λ (w : Float). (sign w ≡ leb (2 ^ 63) (toBits binary64 z)) × Size w (sizeOf (toBits binary64 z % 2 ^ 63))) e (of-pattern (toBits binary64 z) (ap isNan e ∙ n))
+        subst (λ (w : Float). (sign w ≡ leb (2 ^ 63) (toBits binary64 z)) × Size w (sizeOf (toBits binary64 z % 2 ^ 63))) e
+        (of-pattern (toBits binary64 z) (ap isNan e ∙ n))

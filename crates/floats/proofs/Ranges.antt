@@ -3,7 +3,8 @@ use mathlib.Core.Path.{_≡_, refl, sym}
 use mathlib.Core.Logic.{inl, inr}
 use mathlib.Core.Bool.{Bool, true, false, _&&_, _||_}
 use Prim.Native.Nat.{ℕ, zero, suc, _+_, _*_, _^_, _≤_, _<_}
-use native.Mathlib.Nat.{le-trans, le-of-eq, le-of-lt, lt-irrefl, lt-of-lt-of-le, lt-of-le-of-lt, zero-lt-suc, zero-mul, one-mul, mul-pos, mul-right-comm, mul-le-mul-right, mul-lt-mul-of-pos-right, lt-of-mul-lt-mul-right, le-of-mul-le-mul-right}
+use native.Mathlib.Nat.{le-trans, le-of-eq, le-of-lt, lt-irrefl, lt-of-lt-of-le, lt-of-le-of-lt, zero-lt-suc, zero-mul, one-mul, mul-pos}
+use native.Mathlib.Nat.{mul-right-comm, mul-le-mul-right, mul-lt-mul-of-pos-right, lt-of-mul-lt-mul-right, le-of-mul-le-mul-right}
 use native.Mathlib.Omega.{arith}
 use borrow.Author.Tests.{le-ltb}
 use lib.IntN.{ℤ, pos}
@@ -55,7 +56,9 @@ within-range {n} {lo = fin s i a} {hi = fin t j b} (fin true m e) l h p q =
 
 no-size : (m : ℕ) (e : ℤ) → T (le (fin false 0 (pos 0)) (fin true m e)) → T (eqb m 0)
 no-size zero e h = tt
-no-size (suc m) e h = absurd (lt-irrefl 0 (lt-of-lt-of-le (mul-pos (mul-pos (zero-lt-suc m) (up-pos e)) (zero-lt-suc 0)) (le-trans (downward (suc m) e false 0 (pos 0) h) (le-of-eq (zero-mul (down e))))))
+no-size (suc m) e h =
+    absurd (lt-irrefl 0 (lt-of-lt-of-le (mul-pos (mul-pos (zero-lt-suc m) (up-pos e)) (zero-lt-suc 0))
+    (le-trans (downward (suc m) e false 0 (pos 0) h) (le-of-eq (zero-mul (down e))))))
 
 pub not-below-zero : (x : Float) → T (finite x) → T (le (fin false 0 (pos 0)) x) → NotBelow x
 not-below-zero nan f h = absurd f
@@ -78,7 +81,8 @@ pub one-minus : (lo hi p : Float) → T (positive lo) → T (positive hi) → T 
 one-minus lo hi p L H top a b h k =
     let one = fin false 1 (pos 0) in
     let P : T (positive p) = between lo p hi L H h k in
-    between (sub binary64 one hi) (sub binary64 one p) (sub binary64 one lo) b a (sub-anti binary64 one p hi tt P H k top) (sub-anti binary64 one lo p tt L P h (le-trans-positive p hi one P H tt k top))
+    between (sub binary64 one hi) (sub binary64 one p) (sub binary64 one lo) b a (sub-anti binary64 one p hi tt P H k top)
+    (sub-anti binary64 one lo p tt L P h (le-trans-positive p hi one P H tt k top))
 
 -- ---- what lies between two numbers lies where they lie
 
@@ -87,7 +91,8 @@ above-range {j} lo x a p h = record {
   is-positive = p;
   large =
       le-trans (le-of-eq (sym (one-mul (den x))))
-      (between-fractions 1 (num lo) (num x) (2 ^ j) (den lo) (den x) (den-pos lo) (le-trans (le-of-eq (one-mul (den lo))) (a .large)) (le→cross lo x (a .is-positive) p h));
+      (between-fractions 1 (num lo) (num x) (2 ^ j) (den lo) (den x) (den-pos lo) (le-trans (le-of-eq (one-mul (den lo))) (a .large))
+      (le→cross lo x (a .is-positive) p h));
 }
 
 pub under-range : (j : ℕ) (x hi : Float) → T (positive x) → T (positive hi) → num hi < 2 ^ j * den hi → T (le x hi) → num x < 2 ^ j * den x

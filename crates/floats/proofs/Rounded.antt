@@ -4,7 +4,8 @@ use mathlib.Core.Path.{_≡_, sym, ap, _∙_, subst}
 use mathlib.Core.Logic.{_⊎_, inl, inr}
 use mathlib.Core.Bool.{Bool, true, false, _&&_, _||_, cond, true≢false}
 use Prim.Native.Nat.{ℕ, _+_, _-_, _*_, _^_, _≤_, _<_}
-use native.Mathlib.Nat.{le-trans, le-of-eq, le-of-lt, lt-of-le-of-lt, lt-of-lt-of-le, sub-le, zero-lt-suc, one-mul, mul-one, mul-comm, mul-assoc, mul-left-comm, mul-right-comm, mul-le-mul, mul-le-mul-left, le-of-mul-le-mul-right}
+use native.Mathlib.Nat.{le-trans, le-of-eq, le-of-lt, lt-of-le-of-lt, lt-of-lt-of-le, sub-le, zero-lt-suc, one-mul, mul-one, mul-comm}
+use native.Mathlib.Nat.{mul-assoc, mul-left-comm, mul-right-comm, mul-le-mul, mul-le-mul-left, le-of-mul-le-mul-right}
 use native.Mathlib.Omega.{arith}
 use lib.Dec.{T, ltb, eqb, ltb→lt, eqb→eq, lit<}
 use lib.Pow.{pow-pos, pow-lt, pow-add, pow-mono}
@@ -36,7 +37,8 @@ le-values (fin false m e) nan a c b d p q h = absurd q
 le-values (fin false m e) (inf t) a c b d p q h = absurd q
 le-values (fin false m e) (fin true n g) a c b d p q h = absurd (true≢false (q .0))
 le-values (fin false m e) (fin false n g) a c b d p q h =
-    transfer a b c d (m * up e) (n * up g) (down e) (down g) (down-pos e) (down-pos g) (sym (p .1)) (sym (q .1)) (lt-or-eq (m * up e * down g) (n * up g * down e) h)
+    transfer a b c d (m * up e) (n * up g) (down e) (down g) (down-pos e) (down-pos g) (sym (p .1)) (sym (q .1))
+    (lt-or-eq (m * up e * down g) (n * up g * down e) h)
 
 -- ---- a / c ≤ b / d, where b / d rounds to a finite value: so does a / c with either sign, and to one that is no larger
 
@@ -51,7 +53,8 @@ units-le q k y b d v = go (ltb (q * 2 ^ k) (overflow binary64)) y v
     go false (fin t m e) v h = absurd (unfold le in h)
 
 pub grid-le : (a c : ℕ) (y : Float) (b d : ℕ) → HasValue y false b d → T (le (round binary64 false a c) y) → grid binary64 a c * d ≤ b * 2 ^ low binary64
-grid-le a c y b d v h = units-le (kept 53 (a * 2 ^ 1074) c) (drop 53 (a * 2 ^ 1074) c) y b d v (subst (λ (x : Float). T (le x y)) (round-is binary64 false a c) h)
+grid-le a c y b d v h =
+    units-le (kept 53 (a * 2 ^ 1074) c) (drop 53 (a * 2 ^ 1074) c) y b d v (subst (λ (x : Float). T (le x y)) (round-is binary64 false a c) h)
 
 pub signed-val : (s : Bool) (a c : ℕ) → grid binary64 a c < overflow binary64 → HasValue (round binary64 s a c) s (grid binary64 a c) (2 ^ low binary64)
 signed-val s a c h =
@@ -71,7 +74,8 @@ value-finite (inf t) s a c h = absurd h
 value-finite (fin t m e) s a c h = tt
 
 pub round-smaller : (s : Bool) (a c b d : ℕ) → 0 < c → 0 < d → a * d ≤ b * c → T (finite (round binary64 false b d))
-    → T (finite (round binary64 s a c)) × (num (round binary64 s a c) * den (round binary64 false b d) ≤ num (round binary64 false b d) * den (round binary64 s a c))
+    → T (finite (round binary64 s a c))
+    × (num (round binary64 s a c) * den (round binary64 false b d) ≤ num (round binary64 false b d) * den (round binary64 s a c))
 round-smaller s a c b d C D h t =
     let x = round binary64 s a c in
     let y = round binary64 false b d in
@@ -145,7 +149,8 @@ round-above a c j C J h t =
     let g : 1 * 2 ^ 1074 ≤ grid binary64 a c * 2 ^ j =
     le-values (round binary64 false 1 (2 ^ j)) (round binary64 false a c) 1 (2 ^ j) (grid binary64 a c) (2 ^ 1074) (fraction-val false 1 j (lit< tt) J) v
     (round-mono binary64 1 (2 ^ j) a c (pow-pos j) C (le-trans (le-of-eq (one-mul c)) h)) in
-    above-value (round binary64 false a c) (grid binary64 a c) (2 ^ 1074) j (product-pos (grid binary64 a c) (2 ^ j) (1 * 2 ^ 1074) (lit< tt) g) (pow-pos 1074) v g
+    above-value (round binary64 false a c) (grid binary64 a c) (2 ^ 1074) j
+    (product-pos (grid binary64 a c) (2 ^ j) (1 * 2 ^ 1074) (lit< tt) g) (pow-pos 1074) v g
 
 -- ---- a finite value with a clear sign
 

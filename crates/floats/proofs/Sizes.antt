@@ -3,7 +3,9 @@
 use mathlib.Core.Path.{_≡_, sym, ap, _∙_}
 use mathlib.Core.Bool.{Bool, true, false, not, _&&_, cond, Bool·beq}
 use Prim.Native.Nat.{ℕ, _+_, _-_, _*_, _^_, _≤_, _<_}
-use native.Mathlib.Nat.{le-refl, le-trans, le-of-eq, le-of-lt, lt-of-le-of-lt, lt-of-lt-of-le, lt-of-mul-lt-mul-right, add-le-add, add-mul, mul-sub, mul-one, mul-comm, mul-assoc, mul-right-comm, mul-mul-mul-comm, mul-pos, mul-le-mul, mul-le-mul-left, mul-le-mul-right, le-of-mul-le-mul-right}
+use native.Mathlib.Nat.{le-refl, le-trans, le-of-eq, le-of-lt, lt-of-le-of-lt, lt-of-lt-of-le, lt-of-mul-lt-mul-right, add-le-add, add-mul}
+use native.Mathlib.Nat.{mul-sub, mul-one, mul-comm, mul-assoc, mul-right-comm, mul-mul-mul-comm, mul-pos, mul-le-mul, mul-le-mul-left}
+use native.Mathlib.Nat.{mul-le-mul-right, le-of-mul-le-mul-right}
 use native.Mathlib.Omega.{arith}
 use borrow.Author.Tests.{lt-ltb}
 use lib.IntN.{ℤ}
@@ -42,7 +44,8 @@ round-at-most s a c n j C small J h =
     let g : grid binary64 a c * 2 ^ j ≤ n * 2 ^ 1074 =
     grid-le a c (round binary64 false n (2 ^ j)) n (2 ^ j) (fraction-val false n j small J) (round-mono binary64 a c n (2 ^ j) C (pow-pos j) h) in
     under-value (round binary64 s a c) s (grid binary64 a c) (2 ^ 1074) n j (pow-pos 1074)
-    (signed-val s a c (no-overflow (grid binary64 a c) (le-trans (le-of-eq (sym (mul-one (grid binary64 a c)))) (le-trans (mul-le-mul-left (grid binary64 a c) (pow-pos j)) g)))) g
+    (signed-val s a c (no-overflow (grid binary64 a c)
+    (le-trans (le-of-eq (sym (mul-one (grid binary64 a c)))) (le-trans (mul-le-mul-left (grid binary64 a c) (pow-pos j)) g)))) g
   where
     no-overflow : (g : ℕ) → g ≤ n * 2 ^ 1074 → g < 2 ^ 2098
     no-overflow g k = lt-of-le-of-lt k (lt-of-le-of-lt (mul-le-mul-right (2 ^ 1074) (le-of-lt small)) (lit< tt))
@@ -63,10 +66,12 @@ round-at-least s a c n j C small J h t =
         le-of-mul-le-mul-right
         (le-trans (le-of-eq (mul-right-comm n (down e) (2 ^ 1074)))
         (le-trans (mul-le-mul-right (down e) g)
-        (le-of-eq (mul-right-comm (grid binary64 a c) (2 ^ j) (down e) ∙ ap (λ (z : ℕ). z * 2 ^ j) (sym (v .1)) ∙ mul-right-comm (m * up e) (2 ^ 1074) (2 ^ j)))))
+        (le-of-eq (mul-right-comm (grid binary64 a c) (2 ^ j) (down e) ∙ ap (λ (z : ℕ). z * 2 ^ j) (sym (v .1))
+        ∙ mul-right-comm (m * up e) (2 ^ 1074) (2 ^ j)))))
         (pow-pos 1074)
 
-pub round-over : (a c n j : ℕ) → 0 < c → 0 < n → n < 2 ^ 53 → j ≤ 1074 → n * c ≤ a * 2 ^ j → T (finite (round binary64 false a c)) → Over n j (round binary64 false a c)
+pub round-over : (a c n j : ℕ) → 0 < c → 0 < n → n < 2 ^ 53 → j ≤ 1074 → n * c ≤ a * 2 ^ j → T (finite (round binary64 false a c))
+    → Over n j (round binary64 false a c)
 round-over a c n j C N small J h t =
     let x = round binary64 false a c in
     let l = round-at-least false a c n j C small J h t in
@@ -121,7 +126,8 @@ under-mul {a} {i} {b} {j} {x = fin s m e} {y = fin t n d} h k l J =
     round-at-most (unlike s t) (m * up e * (n * up d)) (down e * down d) (a * b) (i + j) (mul-pos (down-pos e) (down-pos d)) l J
     (le-trans (le-of-eq (powers (m * up e) (n * up d) i j)) (le-trans (mul-le-mul (h .small) (k .small)) (le-of-eq (mul-mul-mul-comm a (down e) b (down d)))))
 
-pub over-mul : {a i b j : ℕ} {x y : Float} → Over a i x → Over b j y → 0 < a * b → a * b < 2 ^ 53 → i + j ≤ 1074 → T (finite (x ⊗ y)) → Over (a * b) (i + j) (x ⊗ y)
+pub over-mul : {a i b j : ℕ} {x y : Float} → Over a i x → Over b j y → 0 < a * b → a * b < 2 ^ 53 → i + j ≤ 1074 → T (finite (x ⊗ y))
+    → Over (a * b) (i + j) (x ⊗ y)
 unfolding mul
 over-mul {x = nan} {y} h k z l J t = absurd (h .is-positive)
 over-mul {x = inf s} {y} h k z l J t = absurd (h .is-positive)
@@ -131,7 +137,8 @@ over-mul {x = fin false m e} {y = inf s} h k z l J t = absurd (k .is-positive)
 over-mul {x = fin false m e} {y = fin true n d} h k z l J t = absurd (k .is-positive)
 over-mul {a} {i} {b} {j} {x = fin false m e} {y = fin false n d} h k z l J t =
     round-over (m * up e * (n * up d)) (down e * down d) (a * b) (i + j) (mul-pos (down-pos e) (down-pos d)) z l J
-    (le-trans (le-of-eq (mul-mul-mul-comm a b (down e) (down d))) (le-trans (mul-le-mul (h .large) (k .large)) (le-of-eq (sym (powers (m * up e) (n * up d) i j))))) t
+    (le-trans (le-of-eq (mul-mul-mul-comm a b (down e) (down d)))
+    (le-trans (mul-le-mul (h .large) (k .large)) (le-of-eq (sym (powers (m * up e) (n * up d) i j))))) t
 
 -- ---- the sum and the difference
 
@@ -152,14 +159,16 @@ sum-under s a t b c n j C l J h = go (Bool·beq s t) (ltb a b)
     go false false = round-at-most (s && ltb b a) (a - b) c n j C l J (less (a - b) (omega arith))
 
 -- with unlike signs, by how far the two are apart
-apart-under : (s : Bool) (a b c n j : ℕ) → 0 < c → n < 2 ^ 53 → j ≤ 1074 → a * 2 ^ j ≤ b * 2 ^ j + n * c → b * 2 ^ j ≤ a * 2 ^ j + n * c → Under n j (sum binary64 s a (not s) b c)
+apart-under : (s : Bool) (a b c n j : ℕ) → 0 < c → n < 2 ^ 53 → j ≤ 1074 → a * 2 ^ j ≤ b * 2 ^ j + n * c → b * 2 ^ j ≤ a * 2 ^ j + n * c
+    → Under n j (sum binary64 s a (not s) b c)
 unfolding sum
 apart-under s a b c n j C l J h k = go s (ltb a b)
   where
     off : (p q : ℕ) → p * 2 ^ j ≤ q * 2 ^ j + n * c → (p - q) * 2 ^ j ≤ n * c
     off p q z = rw sub-mul (omega arith)
 
-    go : (s v : Bool) → Under n j (cond (Bool·beq s (not s)) (round binary64 s (a + b) c) (cond v (round binary64 (not s) (b - a) c) (round binary64 (s && ltb b a) (a - b) c)))
+    go : (s v : Bool) → Under n j (cond (Bool·beq s (not s)) (round binary64 s (a + b) c)
+        (cond v (round binary64 (not s) (b - a) c) (round binary64 (s && ltb b a) (a - b) c)))
     go true true = round-at-most false (b - a) c n j C l J (off b a k)
     go true false = round-at-most (ltb b a) (a - b) c n j C l J (off a b h)
     go false true = round-at-most true (b - a) c n j C l J (off b a k)
@@ -183,7 +192,8 @@ under-apart s m e (inf t) b f n j F v l J h k = absurd v
 under-apart s m e (fin t q g) b f n j F v l J h k =
     rw (v .0)
     (apart-under s (m * up e * down g) (q * up g * down e) (down e * down g) n j (mul-pos (down-pos e) (down-pos g)) l J
-    (equal-above (m * up e) (q * up g) b (down e) f (down g) n (2 ^ j) F (v .1) h) (equal-below (m * up e) (q * up g) b (down e) f (down g) n (2 ^ j) F (v .1) k))
+    (equal-above (m * up e) (q * up g) b (down e) f (down g) n (2 ^ j) F (v .1) h)
+    (equal-below (m * up e) (q * up g) b (down e) f (down g) n (2 ^ j) F (v .1) k))
 
 pub under-add : {a b j : ℕ} {x y : Float} → Under a j x → Under b j y → a + b < 2 ^ 53 → j ≤ 1074 → Under (a + b) j (x ⊕ y)
 unfolding add
@@ -193,7 +203,8 @@ under-add {x = fin s m e} {y = nan} h k l J = absurd (k .is-finite)
 under-add {x = fin s m e} {y = inf t} h k l J = absurd (k .is-finite)
 under-add {a} {b} {j} {x = fin s m e} {y = fin t n d} h k l J =
     sum-under s (m * up e * down d) t (n * up d * down e) (down e * down d) (a + b) j (mul-pos (down-pos e) (down-pos d)) l J
-    (le-trans (le-of-eq (spread (m * up e) (n * up d) (down e) (down d) (2 ^ j))) (common (m * up e * 2 ^ j) (n * up d * 2 ^ j) a b (down e) (down d) (h .small) (k .small)))
+    (le-trans (le-of-eq (spread (m * up e) (n * up d) (down e) (down d) (2 ^ j)))
+    (common (m * up e * 2 ^ j) (n * up d * 2 ^ j) a b (down e) (down d) (h .small) (k .small)))
   where
     spread : (p q d g z : ℕ) → (p * g + q * d) * z ≡ p * z * g + q * z * d
     spread p q d g z = add-mul (p * g) (q * d) z ∙ ap (λ (w : ℕ). w + q * d * z) (mul-right-comm p g z) ∙ ap (λ (w : ℕ). p * z * g + w) (mul-right-comm q d z)
@@ -203,7 +214,8 @@ unfolding sub
 under-sub h k l J = under-add h (under-neg k) l J
 
 -- what is at most a / 2^j in size, plus what is at least (a + n) / 2^j
-sum-over : (s : Bool) (a b c n j : ℕ) → 0 < c → 0 < n → n < 2 ^ 53 → j ≤ 1074 → a * 2 ^ j + n * c ≤ b * 2 ^ j → T (finite (sum binary64 s a false b c)) → Over n j (sum binary64 s a false b c)
+sum-over : (s : Bool) (a b c n j : ℕ) → 0 < c → 0 < n → n < 2 ^ 53 → j ≤ 1074 → a * 2 ^ j + n * c ≤ b * 2 ^ j
+    → T (finite (sum binary64 s a false b c)) → Over n j (sum binary64 s a false b c)
 unfolding sum
 sum-over false a b c n j C N l J h t = round-over (a + b) c n j C N l J (rw add-mul (omega arith)) t
 sum-over true a b c n j C N l J h t =
@@ -212,7 +224,8 @@ sum-over true a b c n j C N l J h t =
     let w = lt-ltb a b less in
     rw w (round-over (b - a) c n j C N l J (rw sub-mul (omega arith)) (rw w at t))
 
-pub over-add : {a b j : ℕ} {x y : Float} → Under a j x → Over b j y → (n : ℕ) → a + n ≤ b → 0 < n → n < 2 ^ 53 → j ≤ 1074 → T (finite (x ⊕ y)) → Over n j (x ⊕ y)
+pub over-add : {a b j : ℕ} {x y : Float} → Under a j x → Over b j y → (n : ℕ) → a + n ≤ b → 0 < n → n < 2 ^ 53 → j ≤ 1074
+    → T (finite (x ⊕ y)) → Over n j (x ⊕ y)
 unfolding add
 over-add {x = nan} {y} h k n g N l J t = absurd (h .is-finite)
 over-add {x = inf s} {y} h k n g N l J t = absurd (h .is-finite)
@@ -225,10 +238,12 @@ over-add {a} {b} {j} {x = fin s m e} {y = fin false q d} h k n g N l J t =
   where
     room : (p q d f : ℕ) → p * 2 ^ j ≤ a * d → b * f ≤ q * 2 ^ j → p * f * 2 ^ j + n * (d * f) ≤ q * d * 2 ^ j
     room p q d f h k =
-        le-trans (add-le-add (le-trans (le-of-eq (mul-right-comm p f (2 ^ j))) (le-trans (mul-le-mul-right f h) (le-of-eq (mul-assoc a d f)))) (le-refl (n * (d * f))))
+        le-trans (add-le-add (le-trans (le-of-eq (mul-right-comm p f (2 ^ j)))
+        (le-trans (mul-le-mul-right f h) (le-of-eq (mul-assoc a d f)))) (le-refl (n * (d * f))))
         (le-trans (le-of-eq (sym (add-mul a n (d * f))))
         (le-trans (mul-le-mul-right (d * f) g)
-        (le-trans (le-of-eq (ap (λ (z : ℕ). b * z) (mul-comm d f) ∙ sym (mul-assoc b f d))) (le-trans (mul-le-mul-right d k) (le-of-eq (mul-right-comm q (2 ^ j) d))))))
+        (le-trans (le-of-eq (ap (λ (z : ℕ). b * z) (mul-comm d f) ∙ sym (mul-assoc b f d)))
+        (le-trans (mul-le-mul-right d k) (le-of-eq (mul-right-comm q (2 ^ j) d))))))
 
 -- ---- the product of two that are above zero is so, where the product of their lower ends rounds to more than zero
 

@@ -2,7 +2,8 @@
 use mathlib.Core.Path.{_≡_, refl, sym, ap, _∙_, subst}
 use mathlib.Core.Bool.{Bool, true, false, not, cond}
 use Prim.Native.Nat.{ℕ, suc, _+_, _-_, _*_, _^_, _≤_, _<_}
-use native.Mathlib.Nat.{le-trans, le-of-eq, le-of-lt, one-mul, mul-one, mul-assoc, mul-comm, mul-right-comm, mul-pos, mul-le-mul-left, mul-le-mul-right, mul-lt-mul-of-pos-right, lt-of-mul-lt-mul-right, lt-of-le-of-lt, lt-of-lt-of-le, add-comm}
+use native.Mathlib.Nat.{le-trans, le-of-eq, le-of-lt, one-mul, mul-one, mul-assoc, mul-comm, mul-right-comm, mul-pos, mul-le-mul-left}
+use native.Mathlib.Nat.{mul-le-mul-right, mul-lt-mul-of-pos-right, lt-of-mul-lt-mul-right, lt-of-le-of-lt, lt-of-lt-of-le, add-comm}
 use native.Mathlib.Omega.{arith}
 use lib.IntN.{ℤ, pos, negsuc, _+ℤ_, +ℤ-assoc}
 use lib.Dec.{T, ltb, ltb→lt, nltb→le, lit≤, lit<}
@@ -44,7 +45,12 @@ unfolding lt
 normal-by-test nan p h = absurd p
 normal-by-test (inf s) p h = absurd p
 normal-by-test (fin true m e) p h = absurd p
-normal-by-test (fin false m e) p h = record { is-positive = p; large = le-trans (le-of-eq (sym (one-mul (down e)))) (nltb→le (m * up e * 2 ^ 1022) (1 * down e) (subst (λ (b : Bool). T (not b)) (sym h) tt)) }
+normal-by-test (fin false m e) p h =
+    record {
+      is-positive = p;
+      large = le-trans (le-of-eq (sym (one-mul (down e))))
+          (nltb→le (m * up e * 2 ^ 1022) (1 * down e) (subst (λ (b : Bool). T (not b)) (sym h) tt));
+    }
 
 -- ---- it is exact: m * 2 ^ (e + 54)
 
@@ -83,7 +89,9 @@ module _ (m : ℕ) (e : ℤ) (h : 0 < m) (f : Fitting m e) (b : m * up e * 2 ^ 1
         not-low = le-trans (down-falls e 54) (f .not-low);
         not-high =
             lt-of-mul-lt-mul-right (down e)
-            (lt-of-le-of-lt (le-of-eq lifted) (lt-of-lt-of-le (mul-lt-mul-of-pos-right below-one (down-pos (e +ℤ pos 54))) (le-trans (le-of-eq (mul-comm (down e) d)) (mul-le-mul-right (down e) more))));
+            (lt-of-le-of-lt (le-of-eq lifted)
+            (lt-of-lt-of-le (mul-lt-mul-of-pos-right below-one (down-pos (e +ℤ pos 54)))
+            (le-trans (le-of-eq (mul-comm (down e) d)) (mul-le-mul-right (down e) more))));
       }
 
   -- j = e + 1074
@@ -91,7 +99,8 @@ module _ (m : ℕ) (e : ℤ) (h : 0 < m) (f : Fitting m e) (b : m * up e * 2 ^ 1
   few-units j at =
       lt-of-mul-lt-mul-right (down e)
       (lt-of-le-of-lt (le-of-eq (sym (in-units e j at m) ∙ sym (mul-assoc (m * up e) (2 ^ 1022) (2 ^ 52))))
-      (lt-of-lt-of-le (mul-lt-mul-of-pos-right b (pow-pos 52)) (le-of-eq (mul-assoc 1 (down e) (2 ^ 52) ∙ one-mul (down e * 2 ^ 52) ∙ mul-comm (down e) (2 ^ 52)))))
+      (lt-of-lt-of-le (mul-lt-mul-of-pos-right b (pow-pos 52))
+      (le-of-eq (mul-assoc 1 (down e) (2 ^ 52) ∙ one-mul (down e * 2 ^ 52) ∙ mul-comm (down e) (2 ^ 52)))))
 
   product-value : HasValue (round binary64 false (m * up e * (1 * 2 ^ 54)) (down e * 1)) false (m * up e * (1 * 2 ^ 54)) (down e * 1)
   product-value =
@@ -120,9 +129,11 @@ step-changes-nothing (fin false m e) t p l =
     let a = m * up e * (1 * 2 ^ 54) in
     let c = down e * 1 in
     let is : round binary64 false a c ≡ fin false m (e +ℤ pos 54) =
-    value-unique (round binary64 false a c) (fin false m (e +ℤ pos 54)) false a c (mul-pos (mul-pos h (up-pos e)) (lit< tt)) (mul-pos (down-pos e) (lit< tt)) (round-fits binary64 false a c)
+    value-unique (round binary64 false a c) (fin false m (e +ℤ pos 54)) false a c (mul-pos (mul-pos h (up-pos e)) (lit< tt))
+    (mul-pos (down-pos e) (lit< tt)) (round-fits binary64 false a c)
     (fitting-fits false m (e +ℤ pos 54) h (lifted-fitting m e h f b)) (product-value m e h f b) (lifted-value m e h f b) in
     record {
-      exponent-more = ap exponent is ∙ +ℤ-assoc e (pos 54) (pos (lead m)) ∙ ap (λ (n : ℕ). e +ℤ pos n) (add-comm 54 (lead m)) ∙ sym (+ℤ-assoc e (pos (lead m)) (pos 54));
+      exponent-more = ap exponent is ∙ +ℤ-assoc e (pos 54) (pos (lead m)) ∙ ap (λ (n : ℕ). e +ℤ pos n) (add-comm 54 (lead m))
+          ∙ sym (+ℤ-assoc e (pos (lead m)) (pos 54));
       significand-same = ap significand is;
     }

@@ -13,9 +13,9 @@ use lib.Ieee.{Float, nan, inf, fin, binary64, up, down, round, sum, add, le, fit
 use lib.Ieee.Fits.{up-pos, down-pos, add-fits}
 use lib.Ieee.Order.{round-mono}
 use lib.Ieee.Positive.{num, den, den-pos, positive, positive-finite, cross→le, le-trans-positive}
-use Rattle.lists.specs.Every.{Each}
 use Rattle.floats.specs.F64.{_⊕_, sumFrom}
 use Rattle.floats.specs.Within.{Within, Above, NotBelow}
+use Rattle.floats.specs.Sums.{Term, AllTerms, Summed}
 use Rattle.floats.proofs.Bounds.{within-add, within-more, positive-not-below, above-not-below, above-add, add-to-zero}
 use Rattle.floats.proofs.Differences.{add-either}
 use Rattle.floats.proofs.Zeros.{rounded-itself}
@@ -64,14 +64,6 @@ above-left {j} {a} {b} x y h k v w J l =
 
 -- ---- a list of f64s above zero and at most 1
 
-pub record Term (j : ℕ) (x : Float) : Type 0 where
-  pub above : Above j x
-  pub small : Within 1 x
-  pub is-f64 : T (fits binary64 x)
-
-abbrev pub AllTerms : ℕ → List Float → Type 0
-AllTerms j = Each (Term j)
-
 module _ (j : ℕ) (J : j ≤ 1074) where
   -- a running sum that has taken in a term
   record Running (a : ℕ) (s : Float) : Type 0 where
@@ -110,13 +102,8 @@ module _ (j : ℕ) (J : j ≤ 1074) where
       }
 
   -- the whole sum: at least each term, above zero, and at most as large as there are terms
-  pub record Summed (a : ℕ) (s : Float) (l : List Float) : Type 0 where
-    pub each : (i : ℕ) (d : Float) → i < length l → T (le (getD l i d) (sumFrom s l))
-    pub above : Above j (sumFrom s l)
-    pub within : Within (a + length l) (sumFrom s l)
-
   pub summed-terms : (l : List Float) {a : ℕ} {s : Float} → 1 ≤ length l → AllTerms j l → NotBelow s → Within a s → a + length l ≤ 2 ^ 53
-      → Summed a s l
+      → Summed j a s l
   summed-terms [] some h S w m = absurd (not-suc-le-zero some)
   summed-terms (x ∷ l) {a} {s} some h S w m =
       let next = takes-in S w (h .0) (omega arith) in

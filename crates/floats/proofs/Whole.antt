@@ -2,7 +2,8 @@
 use mathlib.Core.Path.{_≡_, sym, ap, _∙_, subst}
 use mathlib.Core.Bool.{true, false, true≢false}
 use Prim.Native.Nat.{ℕ, suc, _+_, _-_, _*_, _^_, _≤_, _<_}
-use native.Mathlib.Nat.{le-trans, le-of-eq, zero-lt-suc, one-mul, mul-one, mul-comm, mul-assoc, mul-left-comm, mul-mul-mul-comm, add-mul, mul-sub, suc-mul, mul-pos, mul-le-mul-right}
+use native.Mathlib.Nat.{le-trans, le-of-eq, zero-lt-suc, one-mul, mul-one, mul-comm, mul-assoc, mul-left-comm, mul-mul-mul-comm, add-mul}
+use native.Mathlib.Nat.{mul-sub, suc-mul, mul-pos, mul-le-mul-right}
 use native.Mathlib.Omega.{arith}
 use borrow.Author.Tests.{le-ltb, ltb-false}
 use lib.Dec.{T, ltb→lt, lit≤}
@@ -22,7 +23,8 @@ use Rattle.floats.proofs.Rounded.{exact-small, le-values}
 cross : (M N a b p q D E : ℕ) → M * p ≡ a * D → N * q ≡ b * E → (M * E + N * D) * (p * q) ≡ (a * q + b * p) * (D * E)
 cross M N a b p q D E h k =
     let l : M * E * (p * q) ≡ a * q * (D * E) = mul-mul-mul-comm M E p q ∙ ap (λ (z : ℕ). z * (E * q)) h ∙ simp (mul-assoc, mul-comm, mul-left-comm) in
-    let r : N * D * (p * q) ≡ b * p * (D * E) = ap (λ (z : ℕ). N * D * z) (mul-comm p q) ∙ mul-mul-mul-comm N D q p ∙ ap (λ (z : ℕ). z * (D * p)) k ∙ simp (mul-assoc, mul-comm, mul-left-comm) in
+    let r : N * D * (p * q) ≡ b * p * (D * E) = ap (λ (z : ℕ). N * D * z) (mul-comm p q) ∙ mul-mul-mul-comm N D q p
+    ∙ ap (λ (z : ℕ). z * (D * p)) k ∙ simp (mul-assoc, mul-comm, mul-left-comm) in
     rw (add-mul (M * E) (N * D) (p * q), l, r, add-mul)
 
 add-values : (x y : Float) (a p b q : ℕ) → 0 < p → 0 < q → HasValue x false a p → HasValue y false b q → x ⊕ y ≡ round binary64 false (a * q + b * p) (p * q)
@@ -34,7 +36,8 @@ add-values (fin false m e) nan a p b q P Q h k = absurd k
 add-values (fin false m e) (inf t) a p b q P Q h k = absurd k
 add-values (fin false m e) (fin true n d) a p b q P Q h k = absurd (true≢false (k .0))
 add-values (fin false m e) (fin false n d) a p b q P Q h k =
-    round-same binary64 false (m * up e * down d + n * up d * down e) (down e * down d) (a * q + b * p) (p * q) (mul-pos (down-pos e) (down-pos d)) (mul-pos P Q)
+    round-same binary64 false (m * up e * down d + n * up d * down e) (down e * down d) (a * q + b * p) (p * q)
+    (mul-pos (down-pos e) (down-pos d)) (mul-pos P Q)
     (cross (m * up e) (n * up d) a b p q (down e) (down d) (h .1) (k .1))
 
 -- ---- the difference of two floats whose values are whole
@@ -57,7 +60,8 @@ sub-values (fin false m e) (fin true n d) a b l h k = absurd (true≢false (k .0
 sub-values (fin false m e) (fin false n d) a b l h k =
     let c = down e * down d in
     rw (scaled (m * up e) a (down e) (down d) (h .1), scaled′ (n * up d) b (down d) (down e) (k .1), le-ltb (a * c) (b * c) (mul-le-mul-right c l))
-    (round-same binary64 false (a * c - b * c) c (a - b) 1 (mul-pos (down-pos e) (down-pos d)) (zero-lt-suc 0) (rw (mul-one, mul-comm (a - b) c, mul-sub, mul-comm c a, mul-comm c b)))
+    (round-same binary64 false (a * c - b * c) c (a - b) 1 (mul-pos (down-pos e) (down-pos d)) (zero-lt-suc 0)
+    (rw (mul-one, mul-comm (a - b) c, mul-sub, mul-comm c a, mul-comm c b)))
 
 pub add-whole : (a b : ℕ) → a ≤ 2 ^ 53 → b ≤ 2 ^ 53 → nat a ⊕ nat b ≡ nat (a + b)
 unfolding ofInt
@@ -95,7 +99,11 @@ below-is-most x y h = rw h tt
 pub within-whole-test : (n : ℕ) (x : Float) → n ≤ 2 ^ 53 → T (positive x) → T (le x (nat n)) → Within n x
 unfolding ofInt
 within-whole-test n x l p h =
-    record { is-finite = positive-finite x p; small = le-trans (le-of-eq (sym (mul-one (num x)))) (le-values x (nat n) (num x) (den x) n 1 (own-value x p) (exact-small n l) h) }
+    record {
+      is-finite = positive-finite x p;
+      small = le-trans (le-of-eq (sym (mul-one (num x))))
+          (le-values x (nat n) (num x) (den x) n 1 (own-value x p) (exact-small n l) h);
+    }
 
 at-least : (n : ℕ) (x : Float) → n ≤ 2 ^ 53 → T (positive x) → T (le (nat n) x) → n * den x ≤ num x
 unfolding ofInt
@@ -103,13 +111,18 @@ at-least n x l p h = le-trans (le-values (nat n) x n 1 (num x) (den x) (exact-sm
 
 pub above-whole-test : (n : ℕ) (x : Float) → 0 < n → n ≤ 2 ^ 53 → T (positive x) → T (le (nat n) x) → Above 0 x
 above-whole-test n x N l p h =
-    record { is-positive = p; large = le-trans (le-of-eq (sym (one-mul (den x)))) (le-trans (mul-le-mul-right (den x) N) (le-trans (at-least n x l p h) (le-of-eq (sym (mul-one (num x)))))) }
+    record {
+      is-positive = p;
+      large = le-trans (le-of-eq (sym (one-mul (den x))))
+          (le-trans (mul-le-mul-right (den x) N) (le-trans (at-least n x l p h) (le-of-eq (sym (mul-one (num x))))));
+    }
 
 -- one more
 pub next-whole : (n : ℕ) (x : Float) → n ≤ 2 ^ 53 → T (positive x) → T (le (nat n) x) → T (le (nat (suc n)) (x ⊕ nat 1))
 unfolding ofInt
 next-whole n x l p h =
-    subst (λ (z : Float). T (le (nat (suc n)) z)) (sym (add-values x (nat 1) (num x) (den x) 1 1 (den-pos x) (zero-lt-suc 0) (own-value x p) (exact-small 1 (lit≤ tt))))
+    subst (λ (z : Float). T (le (nat (suc n)) z))
+    (sym (add-values x (nat 1) (num x) (den x) 1 1 (den-pos x) (zero-lt-suc 0) (own-value x p) (exact-small 1 (lit≤ tt))))
     (round-mono binary64 (suc n) 1 (num x * 1 + 1 * den x) (den x * 1) (zero-lt-suc 0) (rw mul-one (den-pos x)) (step n (num x) (den x) (at-least n x l p h)))
   where
     step : (n a d : ℕ) → n * d ≤ a → suc n * (d * 1) ≤ (a * 1 + 1 * d) * 1

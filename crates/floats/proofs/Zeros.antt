@@ -4,7 +4,8 @@ use mathlib.Core.Path.{_≡_, refl, sym, ap, _∙_, subst}
 use mathlib.Core.Logic.{_⊎_, inl, inr}
 use mathlib.Core.Bool.{Bool, true, false, not, _&&_, _||_, Bool·beq, and-true, or-true, true≢false}
 use Prim.Native.Nat.{ℕ, zero, suc, _+_, _*_, _^_, _≤_, _<_, zero-le}
-use native.Mathlib.Nat.{le-antisymm, le-of-eq, lt-of-lt-of-le, lt-of-le-of-lt, zero-lt-suc, zero-add, add-zero, sub-zero, zero-mul, mul-one, one-mul, mul-right-comm, mul-pos, mul-lt-mul-of-pos-right, lt-of-mul-lt-mul-right}
+use native.Mathlib.Nat.{le-antisymm, le-of-eq, lt-of-lt-of-le, lt-of-le-of-lt, zero-lt-suc, zero-add, add-zero, sub-zero, zero-mul, mul-one}
+use native.Mathlib.Nat.{one-mul, mul-right-comm, mul-pos, mul-lt-mul-of-pos-right, lt-of-mul-lt-mul-right}
 use native.Mathlib.Omega.{arith}
 use borrow.Author.Tests.{lt-ltb, le-ltb, ltb-false}
 use lib.IntN.{ℤ, pos, negsuc}
@@ -46,11 +47,15 @@ rounded-itself s m e M t =
     let f = fitting s m e M t in
     let j = place e (f .not-low) in
     let units : m * up e * 2 ^ 1074 ≡ m * 2 ^ j .0 * down e = in-units e (j .0) (j .1) m in
-    value-unique (round binary64 s (m * up e) (down e)) (fin s m e) s (m * up e) (down e) (mul-pos M (up-pos e)) (down-pos e) (round-fits binary64 s (m * up e) (down e)) t
-    (round-exact binary64 s (m * up e) (down e) m (j .0) (down-pos e) (f .few) (under (m * up e) (m * 2 ^ j .0) (down e) units (f .not-high)) units) (refl, refl)
+    value-unique (round binary64 s (m * up e) (down e)) (fin s m e) s (m * up e) (down e) (mul-pos M (up-pos e)) (down-pos e)
+    (round-fits binary64 s (m * up e) (down e)) t
+    (round-exact binary64 s (m * up e) (down e) m (j .0) (down-pos e) (f .few)
+    (under (m * up e) (m * 2 ^ j .0) (down e) units (f .not-high)) units) (refl, refl)
   where
     under : (p q d : ℕ) → p * 2 ^ 1074 ≡ q * d → p < 2 ^ 1024 * d → q < 2 ^ 2098
-    under p q d u h = lt-of-mul-lt-mul-right d (lt-of-le-of-lt (le-of-eq (sym u)) (lt-of-lt-of-le (mul-lt-mul-of-pos-right h (pow-pos 1074)) (le-of-eq (mul-right-comm (2 ^ 1024) d (2 ^ 1074)))))
+    under p q d u h =
+        lt-of-mul-lt-mul-right d (lt-of-le-of-lt (le-of-eq (sym u))
+        (lt-of-lt-of-le (mul-lt-mul-of-pos-right h (pow-pos 1074)) (le-of-eq (mul-right-comm (2 ^ 1024) d (2 ^ 1074)))))
 
 -- ---- a sum with a zero
 
@@ -195,7 +200,8 @@ neither-below (fin s m e) nan n k h g = absurd (k .is-finite)
 neither-below (fin s m e) (inf t) n k h g = absurd (k .is-finite)
 neither-below (fin s m e) (fin t i d) n k h g = go s t m i (n .is-f64) (k .is-f64) h g
   where
-    alike-signs : (s : Bool) (m i : ℕ) → T (fits binary64 (fin s m e)) → T (fits binary64 (fin s i d)) → m * up e * down d ≡ i * up d * down e → Alike (fin s m e) (fin s i d)
+    alike-signs : (s : Bool) (m i : ℕ) → T (fits binary64 (fin s m e)) → T (fits binary64 (fin s i d))
+        → m * up e * down d ≡ i * up d * down e → Alike (fin s m e) (fin s i d)
     alike-signs s zero zero p q r = rw (zero-fits s e p, zero-fits s d q) same
     alike-signs s zero (suc i) p q r = absurd (some-not-none i d e (sym r ∙ simp zero-mul))
     alike-signs s (suc m) zero p q r = absurd (some-not-none m e d (r ∙ simp zero-mul))
@@ -213,8 +219,12 @@ neither-below (fin s m e) (fin t i d) n k h g = go s t m i (n .is-f64) (k .is-f6
 
     go : (s t : Bool) (m i : ℕ) → T (fits binary64 (fin s m e)) → T (fits binary64 (fin t i d)) → below s (m * up e * down d) t (i * up d * down e) ≡ false
         → below t (i * up d * down e) s (m * up e * down d) ≡ false → Alike (fin s m e) (fin t i d)
-    go true true m i p q h g = alike-signs true m i p q (le-antisymm (ltb-false (i * up d * down e) (m * up e * down d) h) (ltb-false (m * up e * down d) (i * up d * down e) g))
-    go false false m i p q h g = alike-signs false m i p q (le-antisymm (ltb-false (i * up d * down e) (m * up e * down d) g) (ltb-false (m * up e * down d) (i * up d * down e) h))
+    go true true m i p q h g =
+        alike-signs true m i p q (le-antisymm (ltb-false (i * up d * down e) (m * up e * down d) h)
+        (ltb-false (m * up e * down d) (i * up d * down e) g))
+    go false false m i p q h g =
+        alike-signs false m i p q (le-antisymm (ltb-false (i * up d * down e) (m * up e * down d) g)
+        (ltb-false (m * up e * down d) (i * up d * down e) h))
     go true false m i p q h g =
         let a = m * up e * down d in
         let b = i * up d * down e in

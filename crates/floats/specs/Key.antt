@@ -5,11 +5,11 @@ use lib.IntN.{ℤ, pos, negℤ}
 use lib.Dec.{leb}
 use lib.Ieee.{Float, binary64, isNan, toBits}
 
--- one less than the key of minus infinity, so that a NaN would lose to every number; no choice ever meets a NaN
+-- K8: the key of a NaN, one less than the key of minus infinity, so that a NaN would lose to every number; no choice ever meets a NaN
 abbrev pub keyOfNan : ℤ
 keyOfNan = negℤ (pos 0x7FF0_0000_0000_0001)
 
--- with a clear sign bit, the bits; with the sign bit set, minus what is left of them
+-- K8: with a clear sign bit, the bits; with the sign bit set, minus what is left of them
 unfoldable pub keyOf : Float → ℤ
 keyOf x =
     let b = toBits binary64 x in

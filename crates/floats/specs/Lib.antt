@@ -4,6 +4,7 @@ pub mod Apart
 pub mod Key
 pub mod Within
 pub mod Under
+pub mod Sums
 pub mod Tiny
 pub mod Zeros
 pub mod MaxMin

@@ -1,4 +1,4 @@
--- Numbers too small to matter beside others, for the laws on what an answer does not depend on. Definitions only.
+-- For the laws: numbers too small to matter beside others, so that an answer does not depend on them. Definitions only (RULES.md, K1, K4).
 use mathlib.Core.Path.{_≡_}
 use mathlib.Core.Bool.{false}
 use Prim.Native.Nat.{ℕ}

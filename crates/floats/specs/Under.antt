@@ -1,4 +1,4 @@
--- Finer bounds on a float than those of `Within.antt`: by a fraction n / 2^j, from above and from below. Definitions only.
+-- For the laws: finer bounds on a float than those of `Within.antt`, by a fraction n / 2^j, from above and from below. Definitions only.
 use Prim.Native.Nat.{ℕ, _*_, _^_, _≤_}
 use lib.Dec.{T}
 use lib.Ieee.{Float}

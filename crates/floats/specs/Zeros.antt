@@ -1,4 +1,4 @@
--- The two zeros, f64 numbers, and numbers that differ at most in a zero's sign, for the laws. Definitions only.
+-- For the laws: the two zeros, f64 numbers, and numbers that differ at most in a zero's sign. Definitions only (RULES.md, K8, G4).
 use mathlib.Core.Bool.{Bool, false, not}
 use lib.IntN.{pos}
 use lib.Dec.{T}

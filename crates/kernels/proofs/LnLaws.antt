@@ -10,7 +10,8 @@ use lib.Ieee.Positive.{positive}
 use Rattle.floats.proofs.Floats.{eq-zero, lt-zero, ne-itself}
 use Rattle.kernels.specs.Ln.{lnOf, lnPositive}
 
-pub ln-by-tests : (x : Float) → lnOf x ≡ cond (ne x x) x (cond (eq x (fin false 0 (pos 0))) (inf true) (cond (lt x (fin false 0 (pos 0))) nan (cond (eq x (inf false)) x (lnPositive x))))
+pub ln-by-tests : (x : Float) → lnOf x ≡ cond (ne x x) x
+    (cond (eq x (fin false 0 (pos 0))) (inf true) (cond (lt x (fin false 0 (pos 0))) nan (cond (eq x (inf false)) x (lnPositive x))))
 unfolding lnOf ne lt eq
 ln-by-tests nan = refl
 ln-by-tests (inf true) = refl
@@ -20,7 +21,8 @@ ln-by-tests (fin true (suc m) e) = simp (ne-itself, eq-zero, lt-zero, eqb·suc-z
 ln-by-tests (fin false (suc m) e) = simp (ne-itself, eq-zero, lt-zero, eqb·suc-zero)
 
 -- past the tests x is finite and above zero
-pub positive-by-tests : (x : Float) → ne x x ≡ false → eq x (fin false 0 (pos 0)) ≡ false → lt x (fin false 0 (pos 0)) ≡ false → eq x (inf false) ≡ false → T (positive x)
+pub positive-by-tests : (x : Float) → ne x x ≡ false → eq x (fin false 0 (pos 0)) ≡ false → lt x (fin false 0 (pos 0)) ≡ false
+    → eq x (inf false) ≡ false → T (positive x)
 unfolding ne lt eq
 positive-by-tests nan a b c d = absurd (true≢false a)
 positive-by-tests (inf true) a b c d = absurd (true≢false c)

@@ -2,7 +2,10 @@
 use mathlib.Core.Path.{_≡_, sym, ap, _∙_, subst}
 use mathlib.Core.Bool.{Bool, true, false, not, cond, true≢false}
 use Prim.Native.Nat.{ℕ, zero, suc, _+_, _-_, _*_, _/_, _%_, _^_, _≤_, _<_, compare, Ordering, Ordering·lt, Ordering·eq, Ordering·gt}
-use native.Mathlib.Nat.{le-trans, le-of-eq, le-antisymm, le-of-suc-le-suc, lt-of-le-of-lt, lt-of-lt-of-le, lt-of-not-le, not-le-of-lt, zero-lt-suc, add-comm, mul-one, mul-assoc, mul-right-comm, mul-pos, add-mul, mul-le-mul-right, mul-lt-mul-of-pos-right, le-of-mul-le-mul-right, lt-of-mul-lt-mul-right, eq-of-mul-eq-mul-right, div-add-mod', mod-lt, div-lt-iff-lt-mul, le-div-iff-mul-le}
+use native.Mathlib.Nat.{le-trans, le-of-eq, le-antisymm, le-of-suc-le-suc, lt-of-le-of-lt, lt-of-lt-of-le, lt-of-not-le, not-le-of-lt}
+use native.Mathlib.Nat.{zero-lt-suc, add-comm, mul-one, mul-assoc, mul-right-comm, mul-pos, add-mul, mul-le-mul-right}
+use native.Mathlib.Nat.{mul-lt-mul-of-pos-right, le-of-mul-le-mul-right, lt-of-mul-lt-mul-right, eq-of-mul-eq-mul-right, div-add-mod'}
+use native.Mathlib.Nat.{mod-lt, div-lt-iff-lt-mul, le-div-iff-mul-le}
 use native.Mathlib.Omega.{arith}
 use borrow.Author.Tests.{le-ltb, lt-ltb}
 use lib.IntN.{ℤ, pos, negℤ}
@@ -32,7 +35,8 @@ module _ (a d q r : ℕ) (sum : q * d + r ≡ a) (rest : r < d) where
   tied (suc zero) l even h = record { upper = omega arith; lower = omega arith; tie-above = λ _. even; tie-below = λ _. even }
   tied (suc (suc e)) l even h = absurd (not-le-of-lt l (omega arith))
 
-  by-order : (o : Ordering) → (T (isLe o) → r * 2 ≤ d) → (T (not (isLe o)) → d < r * 2) → (T (isEq o) → r * 2 ≡ d) → (r * 2 ≡ d → T (isEq o)) → Near a d (nearest q o)
+  by-order : (o : Ordering) → (T (isLe o) → r * 2 ≤ d) → (T (not (isLe o)) → d < r * 2) → (T (isEq o) → r * 2 ≡ d)
+      → (r * 2 ≡ d → T (isEq o)) → Near a d (nearest q o)
   by-order Ordering·lt le gt eq is =
       let h = le tt in
       record { upper = omega arith; lower = omega arith; tie-above = λ t. absurd (is (omega arith)); tie-below = λ t. absurd (is (omega arith)) }
@@ -44,7 +48,8 @@ module _ (a d q r : ℕ) (sum : q * d + r ≡ a) (rest : r < d) where
 pub closest-near : (a d : ℕ) → 0 < d → Near a d (closest a d)
 closest-near a d D =
     let r = a % d in
-    by-order a d (a / d) r (div-add-mod' a d) (mod-lt a D) (compare (r * 2) d) (leb→le (r * 2) d) (nleb→lt (r * 2) d) (eqb→eq (r * 2) d) (λ e. subst (λ (z : ℕ). T (eqb (r * 2) z)) e (eqb-refl (r * 2)))
+    by-order a d (a / d) r (div-add-mod' a d) (mod-lt a D) (compare (r * 2) d) (leb→le (r * 2) d) (nleb→lt (r * 2) d) (eqb→eq (r * 2) d)
+    (λ e. subst (λ (z : ℕ). T (eqb (r * 2) z)) e (eqb-refl (r * 2)))
 
 -- there is one such number
 not-over : (a d j k : ℕ) → 0 < d → Near a d j → Near a d k → suc j ≤ k → ⊥
@@ -88,12 +93,15 @@ module _ (n d : ℕ) (D : 0 < d) (low : 2 ^ 52 * d ≤ n) (high : n < 2 ^ 53 * d
   digits-are : size (n * 2 ^ 1074 / d) ≡ 1127
   digits-are =
       let w = n * 2 ^ 1074 / d in
-      let above : w < 2 ^ 1127 = div-lt-iff-lt-mul D .1 (lt-of-lt-of-le (mul-lt-mul-of-pos-right high (pow-pos 1074)) (le-of-eq (mul-right-comm (2 ^ 53) d (2 ^ 1074)))) in
+      let above : w < 2 ^ 1127 = div-lt-iff-lt-mul D .1
+      (lt-of-lt-of-le (mul-lt-mul-of-pos-right high (pow-pos 1074)) (le-of-eq (mul-right-comm (2 ^ 53) d (2 ^ 1074)))) in
       let below : 2 ^ 1126 ≤ w = le-div-iff-mul-le D .1 (le-trans (le-of-eq (mul-right-comm (2 ^ 52) (2 ^ 1074) d)) (mul-le-mul-right (2 ^ 1074) low)) in
       le-antisymm (size-le w 1127 above) (lt-of-not-le (λ k. not-le-of-lt (size-lt w) (le-trans (pow-mono k) below)))
 
   grid-is : grid binary64 n d ≡ closest n d * 2 ^ 1074
-  grid-is = rw digits-are (ap (λ (z : ℕ). z * 2 ^ 1074) (closest-same (n * 2 ^ 1074) (d * 2 ^ 1074) n d (mul-pos D (pow-pos 1074)) D (mul-right-comm n (2 ^ 1074) d ∙ mul-assoc n d (2 ^ 1074))))
+  grid-is =
+      rw digits-are (ap (λ (z : ℕ). z * 2 ^ 1074)
+      (closest-same (n * 2 ^ 1074) (d * 2 ^ 1074) n d (mul-pos D (pow-pos 1074)) D (mul-right-comm n (2 ^ 1074) d ∙ mul-assoc n d (2 ^ 1074))))
 
   in-range : closest n d ≤ 2 ^ 53
   in-range =
@@ -110,7 +118,11 @@ module _ (n d : ℕ) (D : 0 < d) (low : 2 ^ 52 * d ≤ n) (high : n < 2 ^ 53 * d
       one-by-one : (x : Float) → HasValue x false (closest n d * 2 ^ 1074) (2 ^ 1074) → HasValue x false (closest n d) 1
       one-by-one nan v = v
       one-by-one (inf s) v = v
-      one-by-one (fin s m e) v = (v .0, mul-one (m * up e) ∙ eq-of-mul-eq-mul-right (2 ^ 1074) (pow-pos 1074) (m * up e) (closest n d * down e) (v .1 ∙ mul-right-comm (closest n d) (2 ^ 1074) (down e)))
+      one-by-one (fin s m e) v = (
+        v .0,
+        mul-one (m * up e) ∙ eq-of-mul-eq-mul-right (2 ^ 1074) (pow-pos 1074) (m * up e) (closest n d * down e)
+            (v .1 ∙ mul-right-comm (closest n d) (2 ^ 1074) (down e)),
+      )
 
 -- ---- 1.5·2^52 added, and taken off
 
@@ -123,7 +135,8 @@ shifter = fin false 3 (pos 51)
 few : (p d : ℕ) → 0 < d → p ≤ 2000 * d → closest p d ≤ 2001
 few p d D l = let h : closest p d * d ≤ 2001 * d = omega (arith, closest-near p d D .lower) in le-of-mul-le-mul-right h D
 
-pushed : (s : Bool) (m : ℕ) (e : ℤ) → m * up e ≤ 2000 * down e → HasValue (fin s m e ⊕ shifter) false (cond s (shift - closest (m * up e) (down e)) (shift + closest (m * up e) (down e))) 1
+pushed : (s : Bool) (m : ℕ) (e : ℤ) → m * up e ≤ 2000 * down e
+    → HasValue (fin s m e ⊕ shifter) false (cond s (shift - closest (m * up e) (down e)) (shift + closest (m * up e) (down e))) 1
 unfolding add sum
 pushed false m e l =
     let p = m * up e in
@@ -138,7 +151,8 @@ pushed true m e l =
     let D = down-pos e in
     let k = closest p d in
     let n : closest (shift * d - p) d ≡ shift - k =
-    closest-is (shift * d - p) d (shift - k) D (near-down p d (3 * 2 ^ 50) k (shift * d - p) (shift - k) (closest-near p d D) (omega arith) (omega (arith, few p d D l))) in
+    closest-is (shift * d - p) d (shift - k) D
+    (near-down p d (3 * 2 ^ 50) k (shift * d - p) (shift - k) (closest-near p d D) (omega arith) (omega (arith, few p d D l))) in
     let w : p < shift * d = omega (arith, D) in
     simp (mul-one, lt-ltb p (shift * d) w) (rw (← n) (round-nearest (shift * d - p) d D (omega arith) (omega (arith, D))))
 
@@ -151,7 +165,8 @@ back-up (fin true m e) k v = absurd (true≢false (v .0))
 back-up (fin false m e) k v =
     let d = down e in
     let a : m * up e * 1 ≡ shift * d + k * d = v .1 ∙ add-mul shift k d in
-    rw (le-ltb (m * up e * 1) (shift * d) (omega arith)) (round-same binary64 false (m * up e * 1 - shift * d) (d * 1) k 1 (mul-pos (down-pos e) (lit< tt)) (lit< tt) (omega arith))
+    rw (le-ltb (m * up e * 1) (shift * d) (omega arith))
+    (round-same binary64 false (m * up e * 1 - shift * d) (d * 1) k 1 (mul-pos (down-pos e) (lit< tt)) (lit< tt) (omega arith))
 
 back-down : (x : Float) (j k : ℕ) → HasValue x false j 1 → j + suc k ≡ shift → x ⊖ shifter ≡ round binary64 true (suc k) 1
 unfolding sub add neg sum
@@ -170,7 +185,8 @@ shift-rounds nan h = absurd (h .is-finite)
 shift-rounds (inf s) h = absurd (h .is-finite)
 shift-rounds (fin s m e) h = go s (closest (m * up e) (down e)) (few (m * up e) (down e) (down-pos e) (h .small)) (pushed s m e (h .small))
   where
-    go : (t : Bool) (k : ℕ) → k ≤ 2001 → HasValue (fin s m e ⊕ shifter) false (cond t (shift - k) (shift + k)) 1 → fin s m e ⊕ shifter ⊖ shifter ≡ whole (cond t (negℤ (pos k)) (pos k))
+    go : (t : Bool) (k : ℕ) → k ≤ 2001 → HasValue (fin s m e ⊕ shifter) false (cond t (shift - k) (shift + k)) 1
+        → fin s m e ⊕ shifter ⊖ shifter ≡ whole (cond t (negℤ (pos k)) (pos k))
     go false k l v = unfold ofInt in back-up (fin s m e ⊕ shifter) k v
     go true zero l v = unfold ofInt in back-up (fin s m e ⊕ shifter) 0 v
     go true (suc k) l v = unfold ofInt in back-down (fin s m e ⊕ shifter) (shift - suc k) k v (omega arith)

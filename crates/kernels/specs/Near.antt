@@ -1,5 +1,5 @@
--- What "the whole number nearest to x, a tie going to the even one" means, for the law that `nearestWhole` gives such a number and the
--- only one. Definitions only (RULES.md, K4).
+-- For the law that `nearestWhole` gives the whole number nearest to x, a tie going to the even one, and that there is no other: what that
+-- means (`nearest-whole`, `nearest-only`, proofs/NearWhole.antt). Definitions only (RULES.md, K4).
 use Prim.Native.Nat.{ℕ, _*_, _%_, _≤_}
 use mathlib.Core.Path.{_≡_}
 use mathlib.Core.Bool.{cond}

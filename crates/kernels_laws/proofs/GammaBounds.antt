@@ -10,7 +10,8 @@ use lib.Ieee.Fits.{add-fits, mul-fits, ofInt-fits}
 use lib.Ieee.Positive.{positive}
 use Rattle.floats.specs.F64.{_⊕_, _⊗_, nat}
 use Rattle.floats.specs.Within.{Within, Above}
-use Rattle.floats.proofs.Bounds.{within-more, within-whole, within-fraction, within-reciprocal, within-neg, within-add, within-sub, within-mul, within-mul-power, within-div, above-whole, above-mul}
+use Rattle.floats.proofs.Bounds.{within-more, within-whole, within-fraction, within-reciprocal, within-neg, within-add, within-sub}
+use Rattle.floats.proofs.Bounds.{within-mul, within-mul-power, within-div, above-whole, above-mul}
 use Rattle.floats.proofs.Fitting.{fits-above}
 use Rattle.floats.proofs.Whole.{zero-below, above-whole-test}
 use Rattle.kernels_gamma.specs.Gamma.{raised, gammaSeries, lnGammaAt, lnGammaOf}
@@ -79,9 +80,11 @@ stays N l n product x t s = record {
   at-within = within-more (next-within x (s .at-positive) t) l;
 }
 
-end-stays : (N : ℕ) (x : Float) → 17 ≤ N → T (fits binary64 x) → T (positive x) → Within N x → Stays N 0 (raised 16 (nat 1) x .product) (raised 16 (nat 1) x .at)
+end-stays : (N : ℕ) (x : Float) → 17 ≤ N → T (fits binary64 x) → T (positive x) → Within N x
+    → Stays N 0 (raised 16 (nat 1) x .product) (raised 16 (nat 1) x .at)
 end-stays N x l f p w =
-    let s = ends (Stays N) (stays N l) 16 (nat 1) x (record { product-fits = ofInt-fits binary64 (pos 1); at-fits = f; at-positive = p; at-within = w }) .holds in
+    let s = ends (Stays N) (stays N l) 16 (nat 1) x
+    (record { product-fits = ofInt-fits binary64 (pos 1); at-fits = f; at-positive = p; at-within = w }) .holds in
     record { product-fits = s .product-fits; at-fits = s .at-fits; at-positive = s .at-positive; at-within = s .at-within }
 
 -- ---- the formula

@@ -25,6 +25,7 @@ ln-apart (fin false m e) t p = rw (eqb-zero m (ltb→lt 0 m p)) (go (lt x (fin f
     y : Float
     y = x ⊗ fin false 1 (pos 54)
 
-    go : (b : Bool) → (T b → SameButFor54 x y) → cond b (lnReduced (exponent y -ℤ pos 54) (significand y)) (lnReduced (exponent x) (significand x)) ≡ lnReduced (exponent x) (significand x)
+    go : (b : Bool) → (T b → SameButFor54 x y)
+        → cond b (lnReduced (exponent y -ℤ pos 54) (significand y)) (lnReduced (exponent x) (significand x)) ≡ lnReduced (exponent x) (significand x)
     go true same = rw (same tt .exponent-more, same tt .significand-same, +ℤ-negℤ-cancel)
     go false same = refl

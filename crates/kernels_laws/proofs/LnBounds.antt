@@ -102,7 +102,8 @@ parts-within : (k : ℤ) (m : Float) → natAbs k ≤ 1129 → T (clear m) → W
 unfolding lnParts
 parts-within k m l h w =
     let n = within-whole k 1129 l (lit≤ tt) in
-    within-more (within-add (within-mul n hi-within (lit≤ tt)) (within-add (near-one-within m h w) (within-mul n lo-within (lit≤ tt)) (lit≤ tt)) (lit≤ tt)) (lit≤ tt)
+    within-more (within-add (within-mul n hi-within (lit≤ tt))
+    (within-add (near-one-within m h w) (within-mul n lo-within (lit≤ tt)) (lit≤ tt)) (lit≤ tt)) (lit≤ tt)
 
 halved-within : (k : ℤ) (m : Float) → natAbs k ≤ 1128 → T (clear m) → Within 2 m → Within (2 ^ 12) (lnReduced k m)
 unfolding lnReduced
@@ -130,8 +131,11 @@ positive-within x a b = go (lt x (fin false 1 (negsuc 1021))) (scaled-up x a)
     less : (k : ℤ) → natAbs k ≤ 1074 → natAbs (k -ℤ pos 54) ≤ 1128
     less k h = omega (arith, sum-small k (negsuc 53))
 
-    go : (t : Bool) → (T t → Above 1022 y) → Within (2 ^ 12) (cond t (lnReduced (exponent y -ℤ pos 54) (significand y)) (lnReduced (exponent x) (significand x)))
-    go true h = let p = h tt .is-positive in apart (exponent y -ℤ pos 54) y (less (exponent y) (exponent-small y (mul-fits binary64 x (fin false 1 (pos 54))) p)) p
+    go : (t : Bool) → (T t → Above 1022 y)
+        → Within (2 ^ 12) (cond t (lnReduced (exponent y -ℤ pos 54) (significand y)) (lnReduced (exponent x) (significand x)))
+    go true h =
+        let p = h tt .is-positive in apart (exponent y -ℤ pos 54) y
+        (less (exponent y) (exponent-small y (mul-fits binary64 x (fin false 1 (pos 54))) p)) p
     go false h = apart (exponent x) x (exponent-within 1074 1024 1128 x (lit≤ tt) (lit≤ tt) a b) (a .is-positive)
 
 pub within-ln-value : (x : Float) → Above 1074 x → num x < 2 ^ 1024 * den x → Within (2 ^ 12) (lnOf x)
@@ -145,7 +149,8 @@ pub within-ln : (x : Float) → T (fits binary64 x) → T (positive x) → Withi
 within-ln x t p = within-ln-value x (fits-above x t p) (fits-under x t p)
 
 -- of a parameter that was tested against two numbers
-pub within-ln-between : (low x high : Float) → T (fits binary64 low) → T (fits binary64 high) → T (positive low) → T (positive high) → T (le low x) → T (le x high) → Within (2 ^ 12) (lnOf x)
+pub within-ln-between : (low x high : Float) → T (fits binary64 low) → T (fits binary64 high) → T (positive low) → T (positive high)
+    → T (le low x) → T (le x high) → Within (2 ^ 12) (lnOf x)
 within-ln-between low x high s t p q h k =
     let r : T (positive x) = between low x high p q h k in
     within-ln-value x (above-range low x (fits-above low s p) r h) (under-range 1024 x high r q (fits-under high t q) k)

@@ -1,5 +1,5 @@
--- The exponential below −708, taken out of what stands on it: that an answer does not depend on it is said over any `Tail`. Definitions
--- only (RULES.md, K4, K5, G4, M7).
+-- For the laws: the exponential below −708, taken out of what stands on it: that an answer does not depend on it is said over any `Tail`.
+-- Definitions only (RULES.md, K4, K5, G4, M7).
 use mathlib.Core.Path.{_≡_}
 use mathlib.Core.Bool.{true, false, cond}
 use mathlib.Core.List.{List, [], _∷_, map}
@@ -14,7 +14,7 @@ use Rattle.kernels.specs.Exp.{nearestWhole, expParts, expOf}
 use Rattle.kernels_tens.specs.Log10.{log10Of}
 use Rattle.kernels_tens.specs.Normalised.{largestFrom}
 
--- an f64 for every x: from −708 on, a NaN among it, what K4 says, and below −708 anything from 0 to 2^−1000
+-- K4: an f64 for every x: from −708 on, a NaN among it, what K4 says, and below −708 anything from 0 to 2^−1000
 pub record Tail (e : Float → Float) : Type 0 where
   pub is-f64 : (x : Float) → T (fits binary64 (e x))
   pub from-708 : (x : Float) → lt x (whole (negℤ (pos 708))) ≡ false → e x ≡ expOf x

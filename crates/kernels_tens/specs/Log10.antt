@@ -4,10 +4,10 @@ use Rattle.floats.specs.F64.{_⊗_, _⊘_, nat}
 use Rattle.kernels.specs.Ln.{lnOf}
 use Rattle.kernels.specs.Exp.{expOf}
 
--- ln x / ln 10
+-- K5: ln x / ln 10
 unfoldable pub log10Of : Float → Float
 log10Of x = lnOf x ⊘ lnOf (nat 10)
 
--- exp (y·ln 10)
+-- K5: exp (y·ln 10)
 unfoldable pub pow10Of : Float → Float
 pow10Of y = expOf (y ⊗ lnOf (nat 10))

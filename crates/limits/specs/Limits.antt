@@ -6,17 +6,13 @@ use lib.Dec.{leb}
 use lib.Ieee.{Float, binary64, le, fits}
 use Rattle.lists.specs.Every.{every}
 
--- from lo to hi, both ends included; a NaN is in no range
+-- L3 to L6: from lo to hi, both ends included; a NaN is in no range
 abbrev pub inRange : Float → Float → Float → Bool
 inRange lo hi x = le lo x && le x hi
 
--- every number of a list is in the range
+-- L4, L5: every number of a list is in the range
 abbrev pub allIn : Float → Float → List Float → Bool
 allIn lo hi = every (inRange lo hi)
-
--- every number of a list is one that an f64 holds, as those of a slice are; for the laws
-abbrev pub allFit : List Float → Bool
-allFit = every (fits binary64)
 
 -- L1: of one count, and of every count of a list
 abbrev pub countAllowed : ℕ → Bool
@@ -24,3 +20,9 @@ countAllowed c = leb c 1000000
 
 abbrev pub countsAllowed : List ℕ → Bool
 countsAllowed = every countAllowed
+
+-- ---- for the laws
+
+-- every number of a list is one that an f64 holds, as those of a slice are
+abbrev pub allFit : List Float → Bool
+allFit = every (fits binary64)

@@ -45,7 +45,8 @@ at-set l i j x d h false e P same other =
 pub placed-at : {A : Type 0} (places : List A) (f : ℕ → A) (d : A) (n : ℕ) → n ≤ length places → (i : ℕ) → i < n → getD (placed places f n) i d ≡ f i
 placed-at places f d zero h i l = absurd (not-suc-le-zero l)
 placed-at places f d (suc n) h i l =
-    at-set (placed places f n) n i (f n) d (subst (λ (k : ℕ). n < k) (sym (length-placed places f n)) (fits n (length places) h)) (eqb i n) refl (λ x. x ≡ f i) (λ e. ap f (sym e)) (λ e. placed-at places f d n (less n (length places) h) i (below i n l e))
+    at-set (placed places f n) n i (f n) d (subst (λ (k : ℕ). n < k) (sym (length-placed places f n)) (fits n (length places) h)) (eqb i n)
+    refl (λ x. x ≡ f i) (λ e. ap f (sym e)) (λ e. placed-at places f d n (less n (length places) h) i (below i n l e))
   where
     fits : (n m : ℕ) → suc n ≤ m → n < m
     fits n m h = omega arith

@@ -20,7 +20,8 @@ module _ {A : Type 0} where
   padded-next n d l x h =
       ap (λ (m : ℕ). set (l ++ replicate m d) (length l) x) (less n (length l) h)
       ∙ set-append-seam l d (replicate (n - suc (length l)) d) x
-      ∙ sym (append-assoc l (x ∷ []) (replicate (n - length (l ++ (x ∷ []))) d) ∙ ap (λ (m : ℕ). l ++ x ∷ replicate (n - m) d) (longer l x ∙ add-one (length l)))
+      ∙ sym (append-assoc l (x ∷ []) (replicate (n - length (l ++ (x ∷ []))) d)
+      ∙ ap (λ (m : ℕ). l ++ x ∷ replicate (n - m) d) (longer l x ∙ add-one (length l)))
     where
       less : (n k : ℕ) → k < n → n - k ≡ suc (n - suc k)
       less n k h = omega arith

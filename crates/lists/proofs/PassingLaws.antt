@@ -30,7 +30,8 @@ module _ {A : Type 0} where
   passing-length t (x ∷ l) = front-length (t x) x (passing t l) (length l) (passing-length t l)
 
   -- the first k + 1 of a list that pass
-  pub passing-next : (t : A → Bool) (l : List A) (k : ℕ) (d : A) → k < length l → passing t (take (suc k) l) ≡ passing t (take k l) ++ front (t (getD l k d)) (getD l k d) []
+  pub passing-next : (t : A → Bool) (l : List A) (k : ℕ) (d : A) → k < length l
+      → passing t (take (suc k) l) ≡ passing t (take k l) ++ front (t (getD l k d)) (getD l k d) []
   passing-next t l k d h = rw (take-suc l k d h, passing-append t (take k l) (getD l k d ∷ []))
 
   pub passing-few : (t : A → Bool) (l : List A) (k : ℕ) → length (passing t (take k l)) ≤ k

@@ -1,24 +1,24 @@
--- Lists that the rules of several crates are said over. Definitions only.
+-- Lists that the rules of several crates are said over. Definitions only (RULES.md, T1 to T3, T8, M1, M7, M8).
 use Prim.Native.Nat.{ℕ, zero, suc, _-_}
 use mathlib.Core.Bool.{Bool, not, cond}
 use mathlib.Core.List.{List, [], _∷_, _++_}
 use lib.ListN.{length, replicate}
 
--- the numbers i, i + 1, .., n of them
+-- T1, T2, M1: the numbers i, i + 1, .., n of them
 abbrev pub numbers : ℕ → ℕ → List ℕ
 numbers i zero = []
 numbers i (suc n) = i ∷ numbers (suc i) n
 
--- the members of a list that pass a test, in their order
+-- T8, M1: the members of a list that pass a test, in their order
 abbrev pub passing : {A : Type 0} → (A → Bool) → List A → List A
 passing t [] = []
 passing t (x ∷ l) = cond (t x) (x ∷ passing t l) (passing t l)
 
--- each member of a list once: of those that a test calls the same the first stays
+-- T3, T8: each member of a list once: of those that a test calls the same the first stays
 abbrev pub distinctBy : {A : Type 0} → (A → A → Bool) → List A → List A
 distinctBy same [] = []
 distinctBy same (x ∷ l) = x ∷ passing (λ y. not (same x y)) (distinctBy same l)
 
--- a list in n places, what is left of them filled with d; one that is longer stays as it is
+-- M7, M8: a list in n places, what is left of them filled with d; one that is longer stays as it is
 abbrev pub padded : {A : Type 0} → ℕ → A → List A → List A
 padded n d l = l ++ replicate (n - length l) d

@@ -12,13 +12,10 @@ use Rattle.lists.proofs.PlaceLaws.{number-at}
 use Rattle.lists.proofs.PassingLaws.{front, passing-next, passing-few}
 use Rattle.lists.proofs.PaddedLaws.{longer, padded-next}
 use Rattle.mosaic_hypotheses.specs.Hypotheses.{seenAlleles}
-use Rattle.mosaic.specs.Inner.{listStep, listOver, listedBy}
-use Rattle.mosaic.specs.declared.genotype.Alleles.{Alleles}
+use Rattle.mosaic.specs.Inner.{listStep, listOver, listedBy, listOf}
 
-abbrev listOf : List ℕ → Alleles
-listOf l = record { count = length l; alleles = padded 8 0 l }
-
-list-step : (b : Bool) (l : List ℕ) (i : ℕ) → length l < 8 → cond b (record { count = length l + 1; alleles = set (padded 8 0 l) (length l) i }) (listOf l) ≡ listOf (l ++ front b i [])
+list-step : (b : Bool) (l : List ℕ) (i : ℕ) → length l < 8
+    → cond b (record { count = length l + 1; alleles = set (padded 8 0 l) (length l) i }) (listOf l) ≡ listOf (l ++ front b i [])
 list-step true l i h = rw (padded-next 8 0 l i h, ← longer l i)
 list-step false l i h = ap listOf (sym (append-nil l))
 

@@ -23,7 +23,7 @@ use Rattle.mosaic_hypotheses.specs.declared.choice.Choice.{Choice}
 use Rattle.mosaic_params.specs.Allowed.{paramsAllowed}
 use Rattle.mosaic.specs.declared.genotype.MosaicResult.{MosaicResult}
 
--- a refusal carries zeros
+-- O2: a refusal carries zeros
 abbrev pub blankMosaic : Refusal → MosaicResult
 blankMosaic r = record {
   refusal = r;
@@ -39,21 +39,21 @@ blankMosaic r = record {
   probabilities = replicate 36 (nat 0);
 }
 
--- the germline alleles of a pair: how many, and which
+-- M8: the germline alleles of a pair: how many, and which
 abbrev pub ploidyOf : GermlinePair → ℕ
 ploidyOf g = cond (alone g) 1 2
 
 abbrev pub germlineOf : GermlinePair → List ℕ
 germlineOf g = cond (alone g) (g .first ∷ 0 ∷ []) (g .first ∷ g .second ∷ [])
 
--- which alleles are somatic
+-- M8: which alleles are somatic: of the first k, and of all
 abbrev pub flagsOver : List ℕ → GermlinePair → ℕ → List Bool
 flagsOver counts g = placed (replicate 8 false) (somaticIn counts g)
 
 unfoldable pub flagsOf : List ℕ → GermlinePair → List Bool
 flagsOf counts g = flagsOver counts g (length counts)
 
--- what is read off the hypothesis that wins, beside the probabilities
+-- M8: what is read off the hypothesis that wins, beside the probabilities
 abbrev pub answerFrom : Pick → List ℕ → Choice → List Float → MosaicResult
 answerFrom min counts choice probs = record {
   refusal = Done;
@@ -69,19 +69,21 @@ answerFrom min counts choice probs = record {
   probabilities = probs;
 }
 
--- with those that M7 gives, by a max and a min
+-- M7, M8: with the probabilities that M7 gives, by a max and a min
 abbrev pub answerOf : Pick → Pick → List ℕ → Choice → MosaicResult
 answerOf max min counts choice = answerFrom min counts choice (probabilities max min (choice .posteriors) (choice .count))
 
+-- M6, M8: of the hypothesis that wins
 unfoldable pub mosaicCalled : Pick → Pick → Edition → Params → List ℕ → MosaicResult
 mosaicCalled max min e p counts = answerOf max min counts (chosen e p counts)
 
 -- R11: no call of a total below the least depth, or where no allele is seen, which is a total of 0 (`none-seen`,
 -- mosaic_laws/proofs/Answers.antt)
 abbrev pub mosaicCall : Pick → Pick → Edition → Params → List ℕ → MosaicResult
-mosaicCall max min e p counts = cond (ltb (totalOf counts) (p .depth) || eqb (totalOf counts) 0) (blankMosaic NoCall) (mosaicCalled max min e p counts)
+mosaicCall max min e p counts =
+    cond (ltb (totalOf counts) (p .depth) || eqb (totalOf counts) 0) (blankMosaic NoCall) (mosaicCalled max min e p counts)
 
--- O1: too many alleles, then the parameters, then the counts, then R11
+-- O1, R2, R4, R6: too many alleles, then the parameters, then the counts, then R11
 unfoldable pub mosaicBy : Pick → Pick → Edition → Params → List ℕ → MosaicResult
 mosaicBy max min e p counts =
     cond (leb (length counts) 8)
@@ -92,6 +94,6 @@ mosaicBy max min e p counts =
     (blankMosaic Model))
     (blankMosaic TooMany)
 
--- the first edition's, by `larger` and `smaller`
+-- D2: the first edition's, by `larger` and `smaller`
 abbrev pub mosaicOf : Params → List ℕ → MosaicResult
 mosaicOf = mosaicBy larger smaller firstEdition

@@ -28,8 +28,8 @@ struct Alleles {
     alleles: [usize; 8],
 }
 
-// The call, or a refusal with zeros. The germline alleles: `ploidy` of them, 1 or 2. A VAF and a flag for each somatic allele. The alleles that are
-// seen: `seen` of them. The log posterior, the quality, and the probability of each of the hypotheses, in their order.
+// The call, or a refusal with zeros. The germline alleles: `ploidy` of them, 1 or 2. A VAF and a flag for each somatic allele. The
+// alleles that are seen: `seen` of them. The log posterior, the quality, and the probability of each of the hypotheses, in their order.
 pub struct MosaicResult {
     pub refusal: Refusal,
     pub ploidy: usize,

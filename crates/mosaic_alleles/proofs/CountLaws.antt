@@ -1,7 +1,7 @@
 -- What is known of counts that are allowed, and of the number of pairs of s. Assumes nothing.
 use mathlib.Core.Path.{_≡_, refl, subst, sym}
 use mathlib.Core.Bool.{true}
-use mathlib.Core.List.{List}
+use mathlib.Core.List.{List, [], _∷_}
 use Prim.Native.Nat.{ℕ, zero, suc, _+_, _-_, _*_, _≤_}
 use native.Mathlib.Nat.{mul-suc}
 use native.Mathlib.Omega.{arith}
@@ -25,6 +25,15 @@ count-bound counts h = at-most counts (subst T (sym h) tt)
 
 pub total-bound : (counts : List ℕ) → countsAllowed counts ≡ true → (k : ℕ) → totalOver counts k ≤ 1000000 * k
 total-bound counts h = total-at-most counts (subst T (sym h) tt)
+
+-- the walk over all counts is their sum
+pub total-over : (counts : List ℕ) → totalOver counts (length counts) ≡ totalOf counts
+total-over [] = refl
+total-over (c ∷ l) = omega (arith, first c l (length l), total-over l)
+  where
+    first : (c : ℕ) (l : List ℕ) (k : ℕ) → totalOver (c ∷ l) (suc k) ≡ c + totalOver l k
+    first c l zero = omega arith
+    first c l (suc k) = omega (arith, first c l k)
 
 pub total-allowed : (counts : List ℕ) → length counts ≤ 8 → countsAllowed counts ≡ true → totalAllowed counts ≡ totalOf counts
 unfolding totalAllowed

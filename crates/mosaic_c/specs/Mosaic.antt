@@ -1,4 +1,4 @@
--- The mosaic answer as numbers and arrays. Definitions only (RULES.md, M8).
+-- The mosaic answer as numbers and arrays. Definitions only (RULES.md, M8, F3, F7).
 use Prim.Native.Nat.{ℕ}
 use mathlib.Core.Path.{_≡_}
 use mathlib.Core.Bool.{Bool}
@@ -8,11 +8,14 @@ use Rattle.refusals.specs.Refusals.{numberOf}
 use Rattle.mosaic_params.specs.declared.params.Params.{Params}
 use Rattle.mosaic.specs.declared.genotype.MosaicResult.{MosaicResult}
 
+-- F3: the parameters of four numbers
 abbrev pub paramsOf : Float → Float → Float → ℕ → Params
 paramsOf alpha beta highest depth = record { alpha = alpha; beta = beta; highest = highest; depth = depth }
 
--- the refusal's number, and every other field of the answer
-pub record IsAnswer (a : MosaicResult) (refusal ploidy : ℕ) (germline : List ℕ) (somatic : List Bool) (vafs : List Float) (seen : ℕ) (observed : List ℕ) (posterior quality : Float) (hypotheses : ℕ) (probabilities : List Float) : Type 0 where
+-- M8, F7: the refusal's number, and every other field of the answer
+pub record IsAnswer
+    (a : MosaicResult) (refusal ploidy : ℕ) (germline : List ℕ) (somatic : List Bool) (vafs : List Float) (seen : ℕ) (observed : List ℕ)
+    (posterior quality : Float) (hypotheses : ℕ) (probabilities : List Float) : Type 0 where
   pub refusal-is : refusal ≡ numberOf (a .refusal)
   pub ploidy-is : ploidy ≡ a .ploidy
   pub germline-is : germline ≡ a .germline

@@ -1,5 +1,6 @@
 -- For the code: the search for the VAFs of one hypothesis, with the terms that are kept from candidate to candidate. Definitions only.
--- The rules (RULES.md, M3 to M6) are said in mosaic_hypotheses/specs; that this finds what they find is `found-by` (mosaic_hypotheses/proofs/Terms.antt).
+-- The rules (RULES.md, M3 to M6) are said in mosaic_hypotheses/specs; that this finds what they find is `found-by`
+-- (mosaic_hypotheses/proofs/Terms.antt).
 use Prim.Native.Nat.{ℕ}
 use mathlib.Core.Bool.{true, cond}
 use mathlib.Core.List.{List}
@@ -28,25 +29,29 @@ module _ (counts : List ℕ) (g : GermlinePair) where
   likelihoodByOver whole factorials terms lnShare =
       over (λ i s. cond (seenIn counts i) (s ⊖ getD factorials i nan ⊕ termAt terms lnShare i) (s ⊖ getD factorials i nan)) whole
 
+  -- M3: over all alleles
   unfoldable pub likelihoodBy : Float → List Float → List Float → Float → Float
   likelihoodBy whole factorials terms lnShare = likelihoodByOver whole factorials terms lnShare (length counts)
 
-  -- M4: the gains of the somatic alleles, and then what the germline alleles add
+  -- M4: the gains of the somatic alleles among the first k
   abbrev pub priorByOver : List Float → ℕ → Float
   priorByOver gains = over (λ i s. cond (somaticIn counts g i) (s ⊕ getD gains i nan) s) (nat 0)
 
+  -- M4: those of all, and then what the germline alleles add
   unfoldable pub priorBy : List Float → Float → Float
   priorBy gains ofGermline = priorByOver gains (length counts) ⊕ ofGermline
 
--- M4: what the germline alleles add
+-- M4: what the germline alleles add, which is kept for one and for two
 abbrev pub ofGermline : Shared → GermlinePair → Float
 ofGermline shared g = cond (alone g) (shared .«for_one») (shared .«for_two»)
 
 module _ (counts : List ℕ) (g : GermlinePair) (shared : Shared) where
-  -- M3, M4: the likelihood of VAFs whose terms are given
+  -- M3: the likelihood of VAFs whose terms are given
   abbrev pub likelihoodHere : List Float → List Float → Float
-  likelihoodHere vafs terms = likelihoodBy counts g (shared .«of_total») (shared .factorials) terms (lnOf (germlineShare g (massOf counts g vafs)))
+  likelihoodHere vafs terms =
+      likelihoodBy counts g (shared .«of_total») (shared .factorials) terms (lnOf (germlineShare g (massOf counts g vafs)))
 
+  -- M4: the prior of VAFs whose gains are given
   abbrev pub priorHere : List Float → Float
   priorHere gains = priorBy counts g gains (ofGermline shared g)
 
@@ -54,6 +59,7 @@ module _ (counts : List ℕ) (g : GermlinePair) (shared : Shared) where
   unfoldable pub startValue : List Float → Float
   startValue vafs = cond (anySomatic counts g) (inf true) (likelihoodHere vafs (shared .starts))
 
+  -- M1, M5: what a search starts with
   unfoldable pub progressStart : Progress
   progressStart = record {
     vafs = startVafs counts g;
@@ -62,7 +68,7 @@ module _ (counts : List ℕ) (g : GermlinePair) (shared : Shared) where
     value = startValue (startVafs counts g);
   }
 
-  -- M5: what is kept with the candidate x of allele i in it, and whether it stays
+  -- M5: what is kept, with the candidate x of allele i in it
   abbrev pub progressWith : Progress → ℕ → Float → Progress
   progressWith kept i x =
       let vafs = set (kept .vafs) i x in
@@ -70,6 +76,7 @@ module _ (counts : List ℕ) (g : GermlinePair) (shared : Shared) where
       let gains = set (kept .gains) i (gainBy (shared .density) x) in
       record { vafs = vafs; terms = terms; gains = gains; value = likelihoodHere vafs terms ⊕ priorHere gains }
 
+  -- M5: it stays where its value is strictly larger
   unfoldable pub progressTried : Progress → ℕ → Float → Progress
   progressTried kept i x = cond (ltZ (keyOf (kept .value)) (keyOf (progressWith kept i x .value))) (progressWith kept i x) kept
 
@@ -81,10 +88,11 @@ module _ (counts : List ℕ) (g : GermlinePair) (shared : Shared) where
   unfoldable pub progressAllele : ℕ → Progress → Progress
   progressAllele i kept = over (progressStep i) (progressTried kept i (observedShare (countAt counts i) (shared .total))) 21
 
-  -- M5: the somatic alleles in rising order, each from what the earlier ones left
+  -- M5: allele i, where it is somatic
   unfoldable pub progressOffered : ℕ → Progress → Progress
   progressOffered i kept = cond (somaticIn counts g i) (progressAllele i kept) kept
 
+  -- M5: the somatic alleles in rising order, each from what the earlier ones left
   unfoldable pub progressAll : Progress → Progress
   progressAll kept = over progressOffered kept (length counts)
 

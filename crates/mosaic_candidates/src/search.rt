@@ -1,10 +1,12 @@
-// The search for the somatic VAFs of one hypothesis (docs/RULES.md, M5). Only the terms of the allele that is tried change from candidate to
-// candidate, so the terms of the others are kept; the sums are made anew each time, in their order.
+// The search for the somatic VAFs of one hypothesis (docs/RULES.md, M5). Only the terms of the allele that is tried change from candidate
+// to candidate, so the terms of the others are kept; the sums are made anew each time, in their order.
 ghost use mathlib.Core.Path.{_≡_};
 ghost use Prim.Native.Nat.{_≤_, _<_};
 ghost use lib.ListN.{length};
 ghost use Rattle.mosaic_candidates.specs.Shares.{anySomatic, startVafs};
-ghost use Rattle.mosaic_candidates.specs.Progress.{ofGermline, likelihoodHere, priorHere, startValue, progressStart, progressTried, progressStep, progressAllele, progressOffered, progressAll, progressFound, foundOfEight};
+ghost use Rattle.mosaic_candidates.specs.Progress.{ofGermline, likelihoodHere, priorHere, startValue, progressStart, progressTried};
+ghost use Rattle.mosaic_candidates.specs.Progress.{progressStep, progressAllele, progressOffered, progressAll, progressFound};
+ghost use Rattle.mosaic_candidates.specs.Progress.{foundOfEight};
 use crate::likelihood::germline_share;
 use crate::likelihood::likelihood;
 use crate::likelihood::mass;

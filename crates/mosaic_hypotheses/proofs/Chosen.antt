@@ -51,4 +51,10 @@ module _ (p : Params) (counts : List ℕ) (few : length counts ≤ 8) where
   chosen-by =
       let n = length (hypotheses counts) in
       let best = winningPlace (posteriors firstEdition p counts) n in
-      rw (scanned counts shared, posteriors-same (hypotheses counts), in-use-all n (at-most-36 counts), padded-at 36 (twoAlleles 0 0) (hypotheses counts) best, found-by p counts few (getD (hypotheses counts) best (twoAlleles 0 0)))
+      rw (
+        scanned counts shared,
+        posteriors-same (hypotheses counts),
+        in-use-all n (at-most-36 counts),
+        padded-at 36 (twoAlleles 0 0) (hypotheses counts) best,
+        found-by p counts few (getD (hypotheses counts) best (twoAlleles 0 0)),
+      )

@@ -14,10 +14,9 @@ use Rattle.lists.proofs.PaddedLaws.{longer, padded-next}
 use Rattle.mosaic_alleles.specs.Alleles.{seenIn, twoAlleles}
 use Rattle.mosaic_hypotheses.specs.Hypotheses.{singles, pairs, hypotheses, allPairs, bothSeen}
 use Rattle.mosaic_candidates.specs.Progress.{foundOfEight}
-use Rattle.mosaic_hypotheses.specs.Inner.{pushed, scanStep, scanOver, scannedBy}
+use Rattle.mosaic_hypotheses.specs.Inner.{pushed, scanStep, scanOver, scannedBy, scanOf}
 use Rattle.mosaic_alleles.specs.declared.pair.GermlinePair.{GermlinePair}
 use Rattle.mosaic_shared.specs.declared.shared.Shared.{Shared}
-use Rattle.mosaic_hypotheses.specs.declared.scan.Scan.{Scan}
 
 -- ---- the scan
 
@@ -25,28 +24,28 @@ module _ (counts : List ℕ) (shared : Shared) where
   abbrev posterior : GermlinePair → Float
   posterior g = foundOfEight counts g shared .posterior
 
-  abbrev scanOf : List GermlinePair → Scan
-  scanOf l = record { count = length l; pairs = padded 36 (twoAlleles 0 0) l; posteriors = padded 36 (nat 0) (map posterior l) }
-
-  scan-step : (b : Bool) (l : List GermlinePair) (g : GermlinePair) → length l < 36 → cond b (pushed (scanOf l) g (posterior g)) (scanOf l) ≡ scanOf (l ++ front b g [])
+  scan-step : (b : Bool) (l : List GermlinePair) (g : GermlinePair) → length l < 36
+      → cond b (pushed (scanOf counts shared l) g (posterior g)) (scanOf counts shared l) ≡ scanOf counts shared (l ++ front b g [])
   unfolding pushed
   scan-step true l g h =
       let m = map posterior l in
       let x = posterior g in
       let same : length m ≡ length l = length-map l posterior in
       let places : set (padded 36 (nat 0) m) (length l) x ≡ padded 36 (nat 0) (map posterior (l ++ (g ∷ []))) =
-      ap (λ (n : ℕ). set (padded 36 (nat 0) m) n x) (sym same) ∙ padded-next 36 (nat 0) m x (omega arith) ∙ ap (padded 36 (nat 0)) (sym (map-append posterior l (g ∷ []))) in
+      ap (λ (n : ℕ). set (padded 36 (nat 0) m) n x) (sym same) ∙ padded-next 36 (nat 0) m x (omega arith)
+      ∙ ap (padded 36 (nat 0)) (sym (map-append posterior l (g ∷ []))) in
       rw (padded-next 36 (twoAlleles 0 0) l g h, places, ← longer l g)
-  scan-step false l g h = ap scanOf (sym (append-nil l))
+  scan-step false l g h = ap (scanOf counts shared) (sym (append-nil l))
 
-  scan-so-far : (k : ℕ) → k ≤ 36 → scanOver counts shared k ≡ scanOf (passing (bothSeen counts) (take k allPairs))
+  scan-so-far : (k : ℕ) → k ≤ 36 → scanOver counts shared k ≡ scanOf counts shared (passing (bothSeen counts) (take k allPairs))
   unfolding scanStep
   scan-so-far zero h = refl
   scan-so-far (suc k) h =
       let l = passing (bothSeen counts) (take k allPairs) in
       let g = getD allPairs k (twoAlleles 0 0) in
       let few = passing-few (bothSeen counts) allPairs k in
-      rw (passing-next (bothSeen counts) allPairs k (twoAlleles 0 0) (omega arith), scan-so-far k (omega arith)) (scan-step (bothSeen counts g) l g (omega arith))
+      rw (passing-next (bothSeen counts) allPairs k (twoAlleles 0 0) (omega arith), scan-so-far k (omega arith))
+      (scan-step (bothSeen counts g) l g (omega arith))
 
   -- no more hypotheses than pairs were looked at
   pub scanned-low : (k : ℕ) → k ≤ 36 → scanOver counts shared k .count ≤ k

@@ -19,7 +19,7 @@ use Rattle.mosaic_alleles.specs.Alleles.{countAt, seenIn, germlineIn, somaticIn
 use Rattle.mosaic_candidates.specs.Shares.{anyOver, anySomatic, vafAt, massOf, germlineShare, gainBy, startVafs, stepOf, observedShare}
 use Rattle.mosaic_hypotheses.specs.Likelihood.{alleleShare, likelihoodOf}
 use Rattle.mosaic_shared.specs.Shared.{densityOf, forOne, forTwo, factorialsOf, startsOf, sharedOf}
-use Rattle.mosaic_hypotheses.specs.Prior.{gainOf, gainsOver, forGermline, priorOf}
+use Rattle.mosaic_hypotheses.specs.Prior.{gainOf, gainsOf, forGermline, priorOf}
 use Rattle.mosaic_hypotheses.specs.Search.{BestVafs, valueOf, tried, triedStep, searchedAllele, searchedAll, foundOf}
 use Rattle.mosaic_candidates.specs.Progress.{termAt, likelihoodBy, priorByOver, priorBy, likelihoodHere, priorHere, startValue, progressStart, progressWith}
 use Rattle.mosaic_candidates.specs.Progress.{progressTried, progressStep, progressAllele, progressOffered, progressAll, progressFound, foundOfEight}
@@ -30,6 +30,7 @@ use Rattle.mosaic_candidates.specs.declared.search.Progress.{Progress}
 use Rattle.mosaic_candidates.specs.declared.search.Found.{Found}
 use Rattle.lists.specs.Over.{over}
 use Rattle.lists.proofs.OverLaws.{over-related, over-same, length-placed, at-set, placed-at}
+use Rattle.mosaic_candidates.proofs.ShareLaws.{sum-passing, any-over}
 
 -- M4: the density's numbers that are worked out once give each VAF the gain of the rule
 pub gain-by : (lnGamma : Float → Float) (p : Params) (v : Float) → gainBy (densityOf lnGamma p) v ≡ gainOf lnGamma p v
@@ -77,22 +78,27 @@ module _ (p : Params) (counts : List ℕ) (few : length counts ≤ 8) (g : Germl
   unfolding sharedOf likelihoodBy likelihoodOf termAt
   likelihood-same k h =
       over-same
-      (λ i s. cond (seenIn counts i) (s ⊖ getD (factorialsOf counts) i nan ⊕ termAt counts g (k .terms) (lnOf (germlineShare g (massOf counts g (k .vafs)))) i) (s ⊖ getD (factorialsOf counts) i nan))
-      (λ i s. cond (seenIn counts i) (s ⊖ lnFactorial stirlingOf (countAt counts i) ⊕ nat (countAt counts i) ⊗ lnOf (alleleShare counts g (k .vafs) i)) (s ⊖ lnFactorial stirlingOf (countAt counts i)))
+      (λ i s. cond (seenIn counts i) (s ⊖ getD (factorialsOf counts) i nan ⊕ termAt counts g (k .terms)
+      (lnOf (germlineShare g (massOf counts g (k .vafs)))) i) (s ⊖ getD (factorialsOf counts) i nan))
+      (λ i s. cond (seenIn counts i) (s ⊖ lnFactorial stirlingOf (countAt counts i) ⊕ nat (countAt counts i) ⊗ lnOf
+      (alleleShare counts g (k .vafs) i)) (s ⊖ lnFactorial stirlingOf (countAt counts i)))
       (lnFactorial stirlingOf (totalOf counts))
       (length counts)
-      (λ i l s. rw (factorial-at i l) (likelihood-step (seenIn counts i) (germlineIn g i) s (lnFactorial stirlingOf (countAt counts i)) (nat (countAt counts i)) (germlineShare g (massOf counts g (k .vafs))) (getD (k .terms) i nan) (vafAt (k .vafs) i) (h .term-is i l)))
+      (λ i l s. rw (factorial-at i l)
+      (likelihood-step (seenIn counts i) (germlineIn g i) s (lnFactorial stirlingOf (countAt counts i)) (nat (countAt counts i))
+      (germlineShare g (massOf counts g (k .vafs))) (getD (k .terms) i nan) (vafAt (k .vafs) i) (h .term-is i l)))
 
   prior-same : (k : Progress) → Caches k → priorHere counts g shared (k .gains) ≡ priorOf firstEdition p counts g (k .vafs)
   unfolding sharedOf priorBy priorOf
   prior-same k h =
-      let gains : priorByOver counts g (k .gains) (length counts) ≡ gainsOver firstEdition p counts g (k .vafs) (length counts) =
+      let gains : priorByOver counts g (k .gains) (length counts) ≡ gainsOf firstEdition p counts g (k .vafs) =
       over-same
       (λ i s. cond (somaticIn counts g i) (s ⊕ getD (k .gains) i nan) s)
       (λ i s. cond (somaticIn counts g i) (s ⊕ gainOf stirlingOf p (vafAt (k .vafs) i)) s)
       (nat 0)
       (length counts)
-      (λ i l s. prior-step (somaticIn counts g i) s (getD (k .gains) i nan) (gainOf stirlingOf p (vafAt (k .vafs) i)) (h .gain-is i l)) in
+      (λ i l s. prior-step (somaticIn counts g i) s (getD (k .gains) i nan) (gainOf stirlingOf p (vafAt (k .vafs) i)) (h .gain-is i l))
+      ∙ sum-passing (somaticIn counts g) (λ i. gainOf stirlingOf p (vafAt (k .vafs) i)) (nat 0) (length counts) in
       rw (gains, germline-by (length counts) g)
 
   -- what is kept stands for VAFs and a value of the definition
@@ -120,7 +126,8 @@ module _ (p : Params) (counts : List ℕ) (few : length counts ≤ 8) (g : Germl
     eight-vafs = length-set (k .vafs) i x ∙ h .eight-vafs;
     eight-terms = length-set (k .terms) i (nat (countAt counts i) ⊗ lnOf x) ∙ h .eight-terms;
     eight-gains = length-set (k .gains) i (gainBy (densityOf stirlingOf p) x) ∙ h .eight-gains;
-    term-is = λ j m s. set-both (λ j v. nat (countAt counts j) ⊗ lnOf v) (k .vafs) (k .terms) i j x (in-eight i l (k .vafs) (h .eight-vafs)) (in-eight i l (k .terms) (h .eight-terms)) (h .term-is j m s);
+    term-is = λ j m s. set-both (λ j v. nat (countAt counts j) ⊗ lnOf v) (k .vafs) (k .terms) i j x (in-eight i l (k .vafs) (h .eight-vafs))
+        (in-eight i l (k .terms) (h .eight-terms)) (h .term-is j m s);
     gain-is = λ j m s.
         rw (gain-by stirlingOf p x)
         (set-both (λ j v. gainOf stirlingOf p v) (k .vafs) (k .gains) i j x (in-eight i l (k .vafs) (h .eight-vafs))
@@ -131,31 +138,40 @@ module _ (p : Params) (counts : List ℕ) (few : length counts ≤ 8) (g : Germl
   follows-cond true k m b c h q = h
   follows-cond false k m b c h q = q
 
-  attempt-follows : (i : ℕ) → i < length counts → (x : Float) (k : Progress) (b : BestVafs) → Follows k b → Follows (progressTried counts g shared k i x) (tried firstEdition p counts g i x b)
+  attempt-follows : (i : ℕ) → i < length counts → (x : Float) (k : Progress) (b : BestVafs) → Follows k b
+      → Follows (progressTried counts g shared k i x) (tried firstEdition p counts g i x b)
   unfolding progressTried tried
   attempt-follows i l x k b h =
       let d = progressWith counts g shared k i x in
       let cs = changed-caches k i x l (h .caches) in
       let value : d .value ≡ valueOf firstEdition p counts g (d .vafs) = rw (likelihood-same d cs, prior-same d cs) in
       subst (λ (b : BestVafs). Follows (progressTried counts g shared k i x) (tried firstEdition p counts g i x b)) (h .same)
-      (subst (λ (v : Float). Follows (cond (ltZ (keyOf (k .value)) (keyOf (d .value))) d k) (cond (ltZ (keyOf (k .value)) (keyOf v)) (record { vafs = d .vafs; value = v }) (best k))) value
-      (follows-cond (ltZ (keyOf (k .value)) (keyOf (d .value))) d k (best d) (best k) (record { same = refl; caches = cs }) (record { same = refl; caches = h .caches })))
+      (subst (λ (v : Float). Follows (cond (ltZ (keyOf (k .value)) (keyOf (d .value))) d k)
+      (cond (ltZ (keyOf (k .value)) (keyOf v)) (record { vafs = d .vafs; value = v }) (best k))) value
+      (follows-cond (ltZ (keyOf (k .value)) (keyOf (d .value))) d k (best d) (best k) (record {
+        same = refl;
+        caches = cs;
+      }) (record { same = refl; caches = h .caches })))
 
-  step-follows : (i : ℕ) → i < length counts → (s : ℕ) (k : Progress) (b : BestVafs) → Follows k b → Follows (progressStep counts g shared i s k) (triedStep firstEdition p counts g i s b)
+  step-follows : (i : ℕ) → i < length counts → (s : ℕ) (k : Progress) (b : BestVafs) → Follows k b
+      → Follows (progressStep counts g shared i s k) (triedStep firstEdition p counts g i s b)
   unfolding sharedOf progressStep
   step-follows i l s k b h =
       let x = stepOf (p .highest) s in
       follows-cond (lt (decimal 1 3) x) (progressTried counts g shared k i x) k (tried firstEdition p counts g i x b) b (attempt-follows i l x k b h) h
 
-  allele-follows : (i : ℕ) → i < length counts → (k : Progress) (b : BestVafs) → Follows k b → Follows (progressAllele counts g shared i k) (searchedAllele firstEdition p counts g i b)
+  allele-follows : (i : ℕ) → i < length counts → (k : Progress) (b : BestVafs) → Follows k b
+      → Follows (progressAllele counts g shared i k) (searchedAllele firstEdition p counts g i b)
   unfolding sharedOf progressAllele searchedAllele
   allele-follows i l k b h =
       let x = observedShare (countAt counts i) (nat (totalOf counts)) in
-      over-related Follows (progressStep counts g shared i) (triedStep firstEdition p counts g i) (progressTried counts g shared k i x) (tried firstEdition p counts g i x b) 21
+      over-related Follows (progressStep counts g shared i) (triedStep firstEdition p counts g i) (progressTried counts g shared k i x)
+      (tried firstEdition p counts g i x b) 21
       (λ s m k b h. step-follows i l s k b h)
       (attempt-follows i l x k b h)
 
-  offer-follows : (i : ℕ) → i < length counts → (k : Progress) (b : BestVafs) → Follows k b → Follows (progressOffered counts g shared i k) (cond (somaticIn counts g i) (searchedAllele firstEdition p counts g i b) b)
+  offer-follows : (i : ℕ) → i < length counts → (k : Progress) (b : BestVafs) → Follows k b
+      → Follows (progressOffered counts g shared i k) (cond (somaticIn counts g i) (searchedAllele firstEdition p counts g i b) b)
   unfolding progressOffered
   offer-follows i l k b h =
       follows-cond (somaticIn counts g i) (progressAllele counts g shared i k) k (searchedAllele firstEdition p counts g i b) b (allele-follows i l k b h) h
@@ -171,7 +187,8 @@ module _ (p : Params) (counts : List ℕ) (few : length counts ≤ 8) (g : Germl
     eight-vafs = unfold startVafs in (length-placed (replicate 8 (nat 0)) (λ i. cond (somaticIn counts g i) (decimal 5 2) (nat 0)) (length counts));
     eight-terms = length-placed (replicate 8 (nat 0)) (λ i. nat (countAt counts i) ⊗ lnOf (decimal 5 2)) 8;
     eight-gains = refl;
-    term-is = λ i l s. rw (start-at i l s) (placed-at (replicate 8 (nat 0)) (λ i. nat (countAt counts i) ⊗ lnOf (decimal 5 2)) nan 8 (rw length-replicate (lit≤ tt)) i (omega arith));
+    term-is = λ i l s. rw (start-at i l s)
+        (placed-at (replicate 8 (nat 0)) (λ i. nat (countAt counts i) ⊗ lnOf (decimal 5 2)) nan 8 (rw length-replicate (lit≤ tt)) i (omega arith));
     gain-is = λ i l s.
         rw (start-at i l s)
         (getD-replicate 8 i (gainBy (densityOf stirlingOf p) (decimal 5 2)) nan (omega arith) ∙ gain-by stirlingOf p (decimal 5 2));
@@ -180,7 +197,9 @@ module _ (p : Params) (counts : List ℕ) (few : length counts ≤ 8) (g : Germl
   search-follows : anySomatic counts g ≡ true → Follows (progressAll counts g shared (progressStart counts g shared)) (searchedAll firstEdition p counts g)
   unfolding progressStart startValue progressAll searchedAll
   search-follows h =
-      over-related Follows (progressOffered counts g shared) (λ i b. cond (somaticIn counts g i) (searchedAllele firstEdition p counts g i b) b) (progressStart counts g shared) (record { vafs = startVafs counts g; value = inf true }) (length counts) offer-follows (record { same = rw h; caches = start-caches })
+      over-related Follows (progressOffered counts g shared)
+      (λ i b. cond (somaticIn counts g i) (searchedAllele firstEdition p counts g i b) b) (progressStart counts g shared)
+      (record { vafs = startVafs counts g; value = inf true }) (length counts) offer-follows (record { same = rw h; caches = start-caches })
 
   -- without somatic alleles nothing is searched
   none-offered : (n : ℕ) → anyOver counts g n ≡ false → (k : Progress) → over (progressOffered counts g shared) k n ≡ k
@@ -199,7 +218,9 @@ module _ (p : Params) (counts : List ℕ) (few : length counts ≤ 8) (g : Germl
   found-by = rw (le-leb (length counts) 8 few) (go (anySomatic counts g) refl)
     where
       go : (b : Bool) → anySomatic counts g ≡ b → progressFound counts g shared ≡ foundOf firstEdition p counts g
-      go true h = let k = progressAll counts g shared (progressStart counts g shared) in rw (h, prior-same k (search-follows h .caches)) (ap made (search-follows h .same))
+      go true h =
+          let k = progressAll counts g shared (progressStart counts g shared) in rw (h, prior-same k (search-follows h .caches))
+          (ap made (search-follows h .same))
       go false h =
           let s = progressStart counts g shared in
-          unfold progressAll progressStart startValue in (rw (none-offered (length counts) h s, h, likelihood-same s start-caches, prior-same s start-caches))
+          unfold progressAll progressStart startValue in (rw (none-offered (length counts) (any-over counts g ∙ h) s, h, likelihood-same s start-caches, prior-same s start-caches))

@@ -15,11 +15,11 @@ use Rattle.mosaic_hypotheses.specs.Hypotheses.{hypotheses}
 use Rattle.mosaic_hypotheses.specs.Search.{foundOf}
 use Rattle.mosaic_hypotheses.specs.declared.choice.Choice.{Choice}
 
--- the posterior of every hypothesis, in 36 places
+-- M6: the posterior of every hypothesis, in 36 places
 unfoldable pub posteriors : Edition → Params → List ℕ → List Float
 posteriors e p counts = padded 36 (nat 0) (map (λ g. foundOf e p counts g .posterior) (hypotheses counts))
 
--- how many hypotheses there are, their posteriors, the place of the winner, its pair, and what is found for it
+-- M6: how many hypotheses there are, their posteriors, the place of the winner, its pair, and what is found for it
 abbrev pub chosen : Edition → Params → List ℕ → Choice
 chosen e p counts =
     let n = length (hypotheses counts) in
@@ -29,7 +29,7 @@ chosen e p counts =
     let found = foundOf e p counts g in
     record { count = n; posteriors = posts; best = best; pair = g; vafs = found .vafs; posterior = found .posterior }
 
--- no hypothesis
+-- O2: no hypothesis
 abbrev pub noChoice : Choice
 noChoice = record {
   count = 0;
@@ -40,6 +40,6 @@ noChoice = record {
   posterior = nat 0;
 }
 
--- by the first edition, of at most eight counts that are allowed and of which one is above 0; nothing of any others
+-- L1, L2, M6: by the first edition, of at most eight counts that are allowed and of which one is above 0; nothing of any others
 unfoldable pub choiceOf : Params → List ℕ → Choice
 choiceOf p counts = cond (eqb (totalAllowed counts) 0) noChoice (chosen firstEdition p counts)

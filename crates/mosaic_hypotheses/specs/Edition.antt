@@ -3,11 +3,11 @@ use mathlib.Core.Bool.{Bool, true}
 use lib.Ieee.{Float}
 use Rattle.kernels_stirling.specs.Stirling.{stirlingOf}
 
--- the log gamma, and whether the prior counts again after a search, whose value has it already
+-- M2, M6: the log gamma, and whether the prior counts again after a search, whose value has it already
 pub record Edition : Type 0 where
   pub lnGamma : Float → Float
   pub again : Bool
 
--- the short log gamma, and the prior counts twice where there are somatic alleles
+-- M2, M6: the short log gamma, and the prior counts twice where there are somatic alleles
 abbrev pub firstEdition : Edition
 firstEdition = record { lnGamma = stirlingOf; again = true }

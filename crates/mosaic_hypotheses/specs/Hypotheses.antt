@@ -6,15 +6,11 @@ use Rattle.mosaic_alleles.specs.Alleles.{seenIn, twoAlleles}
 use Rattle.mosaic_alleles.specs.declared.pair.GermlinePair.{GermlinePair}
 use Rattle.lists.specs.Lists.{numbers, passing}
 
--- the alleles that are seen, of eight at most
+-- M1: the alleles that are seen, of eight at most
 abbrev pub seenAlleles : List ℕ → List ℕ
 seenAlleles counts = passing (seenIn counts) (numbers 0 8)
 
--- a hypothesis has germline alleles that are seen
-abbrev pub bothSeen : List ℕ → GermlinePair → Bool
-bothSeen counts g = seenIn counts (g .first) && seenIn counts (g .second)
-
--- each allele of a list alone, then each pair of them, an earlier with a later
+-- M1: each allele of a list alone; each pair of them, an earlier with a later; the former and then the latter
 abbrev pub singles : List ℕ → List GermlinePair
 singles l = map (λ i. twoAlleles i i) l
 
@@ -25,10 +21,16 @@ pairs (i ∷ l) = map (twoAlleles i) l ++ pairs l
 abbrev pub hypothesesOf : List ℕ → List GermlinePair
 hypothesesOf l = singles l ++ pairs l
 
--- the hypotheses are those of the alleles that are seen
+-- M1: the hypotheses are those of the alleles that are seen
 unfoldable pub hypotheses : List ℕ → List GermlinePair
 hypotheses counts = hypothesesOf (seenAlleles counts)
 
--- those of eight alleles that are all seen: 36
+-- ---- for the code, and for the laws
+
+-- M1: a pair whose alleles are seen; that these of all 36 are the hypotheses is `scanned` (proofs/Scanned.antt)
+abbrev pub bothSeen : List ℕ → GermlinePair → Bool
+bothSeen counts g = seenIn counts (g .first) && seenIn counts (g .second)
+
+-- M1: the hypotheses of eight alleles that are all seen: 36
 abbrev pub allPairs : List GermlinePair
 allPairs = hypothesesOf (numbers 0 8)

@@ -17,8 +17,8 @@ use Rattle.mosaic_alleles.specs.declared.pair.GermlinePair.{GermlinePair}
 abbrev pub alleleShare : List ℕ → GermlinePair → List Float → ℕ → Float
 alleleShare counts g vafs i = cond (germlineIn g i) (germlineShare g (massOf counts g vafs)) (vafAt vafs i)
 
--- M3: from the log factorial of the total, each allele's log factorial is taken off, and then, where its count is above 0,
--- count·ln(share) is added. ln of a share of 0 is minus infinity, and so is then the whole: `likelihood-at-once`
+-- M3, over the first k alleles: from the log factorial of the total, each allele's log factorial is taken off, and then, where its count
+-- is above 0, count·ln(share) is added. ln of a share of 0 is minus infinity, and so is then the whole: `likelihood-at-once`
 -- (mosaic_laws/proofs/AtOnce.antt).
 abbrev pub likelihoodOver : Edition → List ℕ → GermlinePair → List Float → ℕ → Float
 likelihoodOver e counts g vafs =

@@ -11,7 +11,8 @@ use mosaic_probabilities::winner::best_place;
 use mosaic_shared::shared::Shared;
 use mosaic_shared::shared::shared_of;
 
-// How many hypotheses there are and the log posterior of each, in their order; the place of the winner, its germline alleles, its VAFs and its posterior.
+// How many hypotheses there are and the log posterior of each, in their order; the place of the winner, its germline alleles, its VAFs
+// and its posterior.
 pub struct Choice {
     pub count: usize,
     pub posteriors: [f64; 36],

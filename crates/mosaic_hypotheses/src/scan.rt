@@ -39,8 +39,8 @@ fn both_seen(counts: &[u32], g: GermlinePair) -> bool
     count(counts, g.first) > 0 && count(counts, g.second) > 0
 }
 
-// Each pair whose alleles are seen is a hypothesis. The others are passed by here and not in a function of their own, to which the scan would be
-// copied for each.
+// Each pair whose alleles are seen is a hypothesis. The others are passed by here and not in a function of their own, to which the scan
+// would be copied for each.
 pub(crate) fn scan_all(counts: &[u32], shared: Shared) -> Scan
     ensures { λ r. ⌜ r ≡ scannedBy (now (counts .entry)) shared ⌝ }
 {

@@ -47,6 +47,7 @@ use Rattle.mosaic_laws.proofs.Finite.{posterior-within, found-vafs}
 use Rattle.mosaic_laws.proofs.Chances.{chance-more, nothing, DecimalPosterior, each-map, each-place, in-tens-posterior, chance}
 use Rattle.mosaic_laws.proofs.Cases.{passed-accepted, by-refusals}
 use Rattle.mosaic_laws.proofs.Qualities.{wrong-chance, wrong-fits, bounded, minus-two}
+use Rattle.mosaic_alleles.proofs.CountLaws.{total-over}
 
 -- ---- the members of a list that pass a test
 
@@ -98,7 +99,8 @@ read counts (suc k) h = go (ltb 0 (countAt counts k)) refl (λ m. read counts k 
 
 some-seen : (counts : List ℕ) → length counts ≤ 8 → 0 < totalOf counts → 0 < length (seenAlleles counts)
 some-seen counts few h =
-    let r = read counts (length counts) h in
+    let some : 0 < totalOver counts (length counts) = omega (arith, total-over counts) in
+    let r = read counts (length counts) some in
     let i = r .allele in
     let m : i < 8 = omega (arith, r .below) in
     let at : getD (numbers 0 8) i 0 ≡ i = number-at 0 8 i m ∙ omega arith in
@@ -109,7 +111,7 @@ some-read : (counts : List ℕ) → 0 < length (seenAlleles counts) → 0 < tota
 some-read counts h =
     let i = getD (seenAlleles counts) 0 0 in
     let s = passed (seenIn counts) 0 (numbers 0 8) 0 h in
-    omega (arith, seen-some counts i s, count-in counts i (length counts) (seen-in counts i s))
+    omega (arith, seen-some counts i s, count-in counts i (length counts) (seen-in counts i s), total-over counts)
 
 -- R11: of at most eight counts no allele is seen exactly when the total is 0
 pub none-seen : (counts : List ℕ) → length counts ≤ 8 → eqb (length (seenAlleles counts)) 0 ≡ eqb (totalOf counts) 0

@@ -33,7 +33,7 @@ use Rattle.limits.specs.Limits.{countsAllowed}
 use Rattle.lists.specs.Over.{over}
 use Rattle.mosaic_alleles.specs.Alleles.{countAt, seenIn, germlineIn, somaticIn, totalOf}
 use Rattle.mosaic_alleles.specs.declared.pair.GermlinePair.{GermlinePair}
-use Rattle.mosaic_alleles.proofs.CountLaws.{count-bound, total-bound}
+use Rattle.mosaic_alleles.proofs.CountLaws.{count-bound, total-bound, total-over}
 use Rattle.mosaic_candidates.specs.Shares.{vafAt, massOf, germlineShare}
 use Rattle.mosaic_hypotheses.specs.Edition.{firstEdition}
 use Rattle.mosaic_hypotheses.specs.Likelihood.{alleleShare, likelihoodOf}
@@ -42,6 +42,7 @@ use Rattle.mosaic_laws.proofs.Terms.{either, within-factorial, share-ln
 use Rattle.mosaic_laws.proofs.OneLess.{one-less}
 use Rattle.mosaic_laws.proofs.Sums.{over-keeps, grows, of-eight, sinks, some-at}
 use Rattle.mosaic_laws.proofs.Seen.{seen-some}
+use Rattle.mosaic_candidates.proofs.ShareLaws.{mass-over}
 
 -- ---- the sum of VAFs from 0 on, which may pass the largest f64
 
@@ -156,15 +157,17 @@ module _ (counts : List ℕ) (allowed : countsAllowed counts ≡ true) (few : le
 
   mass-is : Mass mass
   mass-is =
-      over-keeps Mass massStep (nat 0) n
+      subst Mass (mass-over counts g vafs)
+      (over-keeps Mass massStep (nat 0) n
       (λ i l s h. either Mass (somaticIn counts g i) (s ⊕ vafAt vafs i) s (λ e. mass-add h (from-zero i l e)) (λ e. h))
-      (unfold ofInt in (clear-mass 0 (pos 0)))
+      (unfold ofInt in (clear-mass 0 (pos 0))))
 
   mass-fits : T (fits binary64 mass)
   mass-fits =
-      over-keeps IsF64 massStep (nat 0) n
+      subst IsF64 (mass-over counts g vafs)
+      (over-keeps IsF64 massStep (nat 0) n
       (λ i l s h. either IsF64 (somaticIn counts g i) (s ⊕ vafAt vafs i) s (λ e. add-fits binary64 s (vafAt vafs i)) (λ e. h))
-      (ofInt-fits binary64 (pos 0))
+      (ofInt-fits binary64 (pos 0)))
     where
       IsF64 : Float → Type 0
       IsF64 s = T (fits binary64 s)
@@ -218,7 +221,7 @@ module _ (counts : List ℕ) (allowed : countsAllowed counts ≡ true) (few : le
       either (Low (2 ^ 38 + i * 2 ^ 39 + 2 ^ 39)) (seenIn counts i) (s ⊖ factorialAt i ⊕ term i) (s ⊖ factorialAt i)
       (λ e. low-more (low-add less (term-low i (omega arith) e) (omega (arith, steps i (2 ^ 39) (omega arith)))) (omega arith))
       (λ e. low-more less (omega arith)))
-      (finite-low (within-factorial (totalOf counts) (omega (arith, total-bound counts allowed n, few))))
+      (finite-low (within-factorial (totalOf counts) (omega (arith, total-bound counts allowed n, few, total-over counts))))
 
   -- a sum that is minus infinity stays so
   stays : (i : ℕ) → i < n → sumStep i (inf true) ≡ inf true

@@ -17,6 +17,7 @@ use Rattle.mosaic_candidates.specs.Shares.{startVafs, stepOf, observedShare}
 use Rattle.mosaic_hypotheses.specs.Search.{BestVafs, valueOf, tried, triedStep, searchedAllele, searchedAll}
 use Rattle.mosaic_alleles.specs.declared.pair.GermlinePair.{GermlinePair}
 use Rattle.mosaic_laws.proofs.Sums.{over-keeps}
+use Rattle.mosaic_laws.specs.Found.{LeastAtStart}
 
 -- nothing is below minus infinity
 none-under : (v : Float) → lt v (inf true) ≡ false
@@ -34,7 +35,8 @@ under-finite (inf s) f = absurd f
 under-finite (fin s m e) f = refl
 
 module _ (e : Edition) (p : Params) (counts : List ℕ) (g : GermlinePair) where
-  pub least-stays : (i : ℕ) (x : Float) (b : BestVafs) → T (fits binary64 (b .value)) → isNan (b .value) ≡ false → valueOf e p counts g (set (b .vafs) i x) ≡ inf true → tried e p counts g i x b ≡ b
+  pub least-stays : (i : ℕ) (x : Float) (b : BestVafs) → T (fits binary64 (b .value)) → isNan (b .value) ≡ false
+      → valueOf e p counts g (set (b .vafs) i x) ≡ inf true → tried e p counts g i x b ≡ b
   unfolding tried
   least-stays i x b f n h =
       rw (h, key-order (b .value) (inf true) f (unfold fits in tt) n (unfold isNan in refl) ∙ none-under (b .value))
@@ -42,15 +44,15 @@ module _ (e : Edition) (p : Params) (counts : List ℕ) (g : GermlinePair) where
   abbrev start : BestVafs
   start = record { vafs = startVafs counts g; value = inf true }
 
-  abbrev Least : ℕ → Float → Type 0
-  Least i x = valueOf e p counts g (set (startVafs counts g) i x) ≡ inf true
-
-  module _ (shares : (i : ℕ) → i < length counts → somaticIn counts g i ≡ true → Least i (observedShare (countAt counts i) (nat (totalOf counts))))
-      (steps : (i : ℕ) → i < length counts → somaticIn counts g i ≡ true → (s : ℕ) → s < 21 → lt (decimal 1 3) (stepOf (p .highest) s) ≡ true → Least i (stepOf (p .highest) s)) where
-    tried-start : (i : ℕ) (x : Float) → Least i x → (b : BestVafs) → b ≡ start → tried e p counts g i x b ≡ start
+  module _ (shares : (i : ℕ) → i < length counts → somaticIn counts g i ≡ true
+      → LeastAtStart e p counts g i (observedShare (countAt counts i) (nat (totalOf counts))))
+      (steps : (i : ℕ) → i < length counts → somaticIn counts g i ≡ true → (s : ℕ) → s < 21
+      → lt (decimal 1 3) (stepOf (p .highest) s) ≡ true → LeastAtStart e p counts g i (stepOf (p .highest) s)) where
+    tried-start : (i : ℕ) (x : Float) → LeastAtStart e p counts g i x → (b : BestVafs) → b ≡ start → tried e p counts g i x b ≡ start
     tried-start i x v b h = ap (tried e p counts g i x) h ∙ least-stays i x start (unfold fits in tt) (unfold isNan in refl) v
 
-    step-start : (i : ℕ) → i < length counts → somaticIn counts g i ≡ true → (s : ℕ) → s < 21 → (b : BestVafs) → b ≡ start → (t : Bool) → lt (decimal 1 3) (stepOf (p .highest) s) ≡ t → cond t (tried e p counts g i (stepOf (p .highest) s) b) b ≡ start
+    step-start : (i : ℕ) → i < length counts → somaticIn counts g i ≡ true → (s : ℕ) → s < 21 → (b : BestVafs) → b ≡ start
+        → (t : Bool) → lt (decimal 1 3) (stepOf (p .highest) s) ≡ t → cond t (tried e p counts g i (stepOf (p .highest) s) b) b ≡ start
     step-start i l o s m b h true q = tried-start i (stepOf (p .highest) s) (steps i l o s m q) b h
     step-start i l o s m b h false q = h
 
@@ -62,7 +64,8 @@ module _ (e : Edition) (p : Params) (counts : List ℕ) (g : GermlinePair) where
         (λ s m b q. step-start i l o s m b q (lt (decimal 1 3) (stepOf (p .highest) s)) refl)
         (tried-start i x (shares i l o) b h)
 
-    offered-start : (i : ℕ) → i < length counts → (t : Bool) → somaticIn counts g i ≡ t → (b : BestVafs) → b ≡ start → cond t (searchedAllele e p counts g i b) b ≡ start
+    offered-start : (i : ℕ) → i < length counts → (t : Bool) → somaticIn counts g i ≡ t → (b : BestVafs) → b ≡ start
+        → cond t (searchedAllele e p counts g i b) b ≡ start
     offered-start i l true s b h = allele-start i l s b h
     offered-start i l false s b h = h
 

@@ -2,7 +2,8 @@
 use mathlib.Core.Path.{_≡_, refl, sym, ap, _∙_}
 use mathlib.Core.Bool.{Bool, true, false, not, _&&_, Bool·beq, cond}
 use Prim.Native.Nat.{ℕ, zero, suc, _+_, _-_, _*_, _^_, _≤_, _<_, zero-le}
-use native.Mathlib.Nat.{le-trans, le-of-eq, lt-of-le-of-lt, zero-lt-suc, zero-mul, mul-assoc, add-mul, mul-pos, mul-le-mul, mul-le-mul-right, lt-of-mul-lt-mul-right}
+use native.Mathlib.Nat.{le-trans, le-of-eq, lt-of-le-of-lt, zero-lt-suc, zero-mul, mul-assoc, add-mul, mul-pos, mul-le-mul}
+use native.Mathlib.Nat.{mul-le-mul-right, lt-of-mul-lt-mul-right}
 use native.Mathlib.Omega.{arith}
 use borrow.Author.Tests.{leb-true, leb-false}
 use lib.IntN.{ℤ, pos, negsuc}
@@ -39,7 +40,8 @@ whole-most m k few h = go (leb k 971) refl
     go true e = mul-le-mul (under m few) (pow-mono (leb-true k 971 e))
     go false e =
         let j = k - 971 in
-        let parts : m * 2 ^ k ≡ m * 2 ^ j * 2 ^ 971 = ap (λ (i : ℕ). m * 2 ^ i) (back k (leb-false k 971 e)) ∙ ap (λ (z : ℕ). m * z) (pow-add 2 j 971) ∙ sym (mul-assoc m (2 ^ j) (2 ^ 971)) in
+        let parts : m * 2 ^ k ≡ m * 2 ^ j * 2 ^ 971 = ap (λ (i : ℕ). m * 2 ^ i) (back k (leb-false k 971 e))
+        ∙ ap (λ (z : ℕ). m * z) (pow-add 2 j 971) ∙ sym (mul-assoc m (2 ^ j) (2 ^ 971)) in
         le-trans (le-of-eq parts) (mul-le-mul-right (2 ^ 971) (under (m * 2 ^ j) (lt-of-mul-lt-mul-right (2 ^ 971) (lt-of-le-of-lt (le-of-eq (sym parts)) h))))
 
 size-most : (s : Bool) (m : ℕ) (e : ℤ) → T (fits binary64 (fin s m e)) → m * up e ≤ most * down e
@@ -62,7 +64,8 @@ module _ (a b c : ℕ) (C : 0 < c) (all : T (finite (round binary64 false (a + b
   sum-finite s t =
       either Finite (Bool·beq s t) (round binary64 s (a + b) c) (cond (ltb a b) (round binary64 t (b - a) c) (round binary64 (s && ltb b a) (a - b) c))
       (λ e. part s (a + b) (omega arith))
-      (λ e. either Finite (ltb a b) (round binary64 t (b - a) c) (round binary64 (s && ltb b a) (a - b) c) (λ f. part t (b - a) (omega arith)) (λ f. part (s && ltb b a) (a - b) (omega arith)))
+      (λ e. either Finite (ltb a b) (round binary64 t (b - a) c) (round binary64 (s && ltb b a) (a - b) c)
+      (λ f. part t (b - a) (omega arith)) (λ f. part (s && ltb b a) (a - b) (omega arith)))
 
 pub one-less : (x : Float) → Number x → T (finite (nat 1 ⊖ x))
 unfolding sub neg add ofInt
@@ -70,7 +73,8 @@ one-less nan n = absurd (n .is-finite)
 one-less (inf s) n = absurd (n .is-finite)
 one-less (fin s m e) n =
     sum-finite (1 * 1 * down e) (m * up e * 1) (1 * down e) (mul-pos (zero-lt-suc 0) (down-pos e))
-    (round-smaller false (1 * 1 * down e + m * up e * 1) (1 * down e) (most + 1) 1 (mul-pos (zero-lt-suc 0) (down-pos e)) (zero-lt-suc 0) (all most (m * up e) (down e) (size-most s m e (n .is-f64))) one-more .0)
+    (round-smaller false (1 * 1 * down e + m * up e * 1) (1 * down e) (most + 1) 1 (mul-pos (zero-lt-suc 0) (down-pos e)) (zero-lt-suc 0)
+    (all most (m * up e) (down e) (size-most s m e (n .is-f64))) one-more .0)
     false (not s)
   where
     all : (n a d : ℕ) → a ≤ n * d → (1 * 1 * d + a * 1) * 1 ≤ (n + 1) * (1 * d)

@@ -66,7 +66,10 @@ module _ (counts : List ℕ) (few : length counts ≤ 8) (g : GermlinePair) wher
     unfolding tried
     tried-rest i s x b h =
         let l = set (b .vafs) i x in
-        either Keeps (ltZ (keyOf (b .value)) (keyOf (valueOf e p counts g l))) (record { vafs = l; value = valueOf e p counts g l }) b (λ q. set-rest (b .vafs) i s x h) (λ q. h)
+        either Keeps (ltZ (keyOf (b .value)) (keyOf (valueOf e p counts g l))) (record {
+          vafs = l;
+          value = valueOf e p counts g l;
+        }) b (λ q. set-rest (b .vafs) i s x h) (λ q. h)
 
     step-rest : (i : ℕ) → somaticIn counts g i ≡ true → (s : ℕ) (b : BestVafs) → Keeps b → Keeps (triedStep e p counts g i s b)
     step-rest i o s b h =
@@ -82,7 +85,8 @@ module _ (counts : List ℕ) (few : length counts ≤ 8) (g : GermlinePair) wher
     search-rest : Keeps (searchedAll e p counts g)
     unfolding searchedAll
     search-rest =
-        over-keeps Keeps (λ i b. cond (somaticIn counts g i) (searchedAllele e p counts g i b) b) (record { vafs = startVafs counts g; value = inf true }) (length counts)
+        over-keeps Keeps (λ i b. cond (somaticIn counts g i) (searchedAllele e p counts g i b) b)
+        (record { vafs = startVafs counts g; value = inf true }) (length counts)
         (λ i m b h. either Keeps (somaticIn counts g i) (searchedAllele e p counts g i b) b (λ o. allele-rest i o b h) (λ o. h))
         start-rest
 
@@ -90,4 +94,7 @@ module _ (counts : List ℕ) (few : length counts ≤ 8) (g : GermlinePair) wher
     pub found-rest : (i : ℕ) → i < 8 → somaticIn counts g i ≡ false → vafAt (foundOf e p counts g .vafs) i ≡ nat 0
     unfolding foundOf
     found-rest =
-        either Keeps (anySomatic counts g) (searchedAll e p counts g) (record { vafs = startVafs counts g; value = likelihoodOf e counts g (startVafs counts g) }) (λ q. search-rest) (λ q. start-rest)
+        either Keeps (anySomatic counts g) (searchedAll e p counts g) (record {
+          vafs = startVafs counts g;
+          value = likelihoodOf e counts g (startVafs counts g);
+        }) (λ q. search-rest) (λ q. start-rest)

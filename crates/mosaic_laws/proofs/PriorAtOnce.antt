@@ -32,6 +32,7 @@ use Rattle.mosaic_laws.specs.AtOnce.{VafsF64, fromOne, someFromOne, prio
 use Rattle.mosaic_laws.proofs.Terms.{either, Dense, dense, one-at, gain-within, gain-least, one-within, two-within}
 use Rattle.mosaic_laws.proofs.Sums.{grows, of-eight, sinks, some-at}
 use Rattle.mosaic_laws.proofs.Seen.{seen-in}
+use Rattle.mosaic_candidates.proofs.ShareLaws.{sum-passing}
 
 -- ---- what one VAF adds is minus infinity or finite
 
@@ -122,7 +123,8 @@ module _ (p : Params) (counts : List ℕ) (ok : AcceptedMosaic p counts) (g : Ge
         let there : gainStep j (over gainStep (nat 0) j) ≡ inf true =
         rw (s, gain-least p (vafAt vafs j) e) (low-least (gains-low j (omega arith))) in
         let gains = sinks gainStep (nat 0) (inf true) j n l there stays in
-        ap (λ (x : Float). x ⊕ forGermline n g) gains ∙ least-finite (forGermline n g) (germline-within .is-finite)
+        let sum = sum-passing (somaticIn counts g) gainAt (nat 0) n in
+        ap (λ (x : Float). x ⊕ forGermline n g) (sym sum ∙ gains) ∙ least-finite (forGermline n g) (germline-within .is-finite)
 
     pub prior-at-once : priorOf firstEdition p counts g vafs ≡ priorAtOnce firstEdition p counts g vafs
     prior-at-once = go (someFromOne counts g vafs) refl

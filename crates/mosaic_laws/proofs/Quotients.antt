@@ -20,6 +20,7 @@ use Rattle.floats.proofs.Rounded.{fraction-val, round-above}
 use Rattle.floats.proofs.Sizes.{round-at-most, under-within}
 use Rattle.floats.proofs.Fractions.{lt-fractions}
 use Rattle.floats.proofs.Bounds.{within-whole, above-whole, positive-not-below}
+use Rattle.mosaic_laws.specs.Found.{ProperShare}
 
 pub quotient : (x y : Float) → T (positive x) → T (positive y) → x ⊘ y ≡ round binary64 false (num x * den y) (num y * den x)
 unfolding div
@@ -75,12 +76,6 @@ share-under c t C l h =
         last a t d e = simp (mul-assoc, mul-comm, mul-left-comm)
 
 -- so it is above zero and below 1
-pub record Share (v : Float) : Type 0 where
-  pub above-zero : T (positive v)
-  pub is-f64 : T (fits binary64 v)
-  pub within : Within 1 v
-  pub below-one : lt v (nat 1) ≡ true
-
 below : (v : Float) → T (positive v) → Under (2 ^ 23 - 1) 23 v → lt v (nat 1) ≡ true
 unfolding ofInt round
 below v p u =
@@ -90,11 +85,12 @@ below v p u =
     smaller : (n d : ℕ) → n * 2 ^ 23 ≤ (2 ^ 23 - 1) * d → 0 < d → n * 1 < 1 * d
     smaller n d h k = omega arith
 
-pub observed-share : (c t : ℕ) → 0 < c → c < t → t ≤ 2 ^ 23 → Share (nat c ⊘ nat t)
+pub observed-share : (c t : ℕ) → 0 < c → c < t → t ≤ 2 ^ 23 → ProperShare (nat c ⊘ nat t)
 observed-share c t C l h =
     let u = share-under c t C l h in
     let y = above-whole t (omega arith) (omega arith) in
-    let a = above-div {x = nat c} {y = nat t} 23 (above-whole c C (omega arith)) (within-whole (pos t) (2 ^ 23) h (lit≤ tt)) (y .is-positive) (lit≤ tt) (u .is-finite) in
+    let a = above-div {x = nat c} {y = nat t} 23 (above-whole c C (omega arith)) (within-whole (pos t) (2 ^ 23) h (lit≤ tt))
+    (y .is-positive) (lit≤ tt) (u .is-finite) in
     record {
       above-zero = a .is-positive;
       is-f64 = div-fits binary64 (nat c) (nat t);

@@ -49,7 +49,8 @@ counts-in counts i j (suc n) l m d = go (eqb i n) (eqb j n) refl refl (λ a b. c
     more : (a b c : ℕ) → a ≤ b → a ≤ b + c
     more a b c h = omega arith
 
-    go : (b c : Bool) → eqb i n ≡ b → eqb j n ≡ c → (i < n → j < n → countAt counts i + countAt counts j ≤ totalOver counts n) → countAt counts i + countAt counts j ≤ totalOver counts n + countAt counts n
+    go : (b c : Bool) → eqb i n ≡ b → eqb j n ≡ c → (i < n → j < n → countAt counts i + countAt counts j ≤ totalOver counts n)
+        → countAt counts i + countAt counts j ≤ totalOver counts n + countAt counts n
     go true c e f rest =
         let q = eqb-true i n e in
         rw q (swap (countAt counts n) (countAt counts j) (totalOver counts n) (count-in counts j n (omega arith)))

@@ -48,10 +48,12 @@ cross M N E D h = le-trans (le-of-eq (left M N E)) (le-trans (mul-le-mul-left (M
     right M D E = simp (mul-one, zero-mul, add-zero, mul-assoc)
 
 -- x + 0.0, which is x, is a rounding too
-rounded : (m : ℕ) (e : ℤ) (n : ℕ) (d : ℤ) → n * up d ≤ down d → T (le (round binary64 false (suc m * up e * (n * up d)) (down e * down d)) (fin false (suc m) e ⊕ zeroOf false))
+rounded : (m : ℕ) (e : ℤ) (n : ℕ) (d : ℤ) → n * up d ≤ down d
+    → T (le (round binary64 false (suc m * up e * (n * up d)) (down e * down d)) (fin false (suc m) e ⊕ zeroOf false))
 unfolding add sum
 rounded m e n d h =
-    round-mono binary64 (suc m * up e * (n * up d)) (down e * down d) (suc m * up e * 1 + 0 * 1 * down e) (down e * 1) (mul-pos (down-pos e) (down-pos d)) (mul-pos (down-pos e) (lit< tt))
+    round-mono binary64 (suc m * up e * (n * up d)) (down e * down d) (suc m * up e * 1 + 0 * 1 * down e) (down e * 1)
+    (mul-pos (down-pos e) (down-pos d)) (mul-pos (down-pos e) (lit< tt))
     (cross (suc m * up e) (n * up d) (down e) (down d) h)
 
 shrinks : (x : Float) (n : ℕ) (d : ℤ) → NotBelow x → T (fits binary64 x) → n * up d ≤ down d → T (le (x ⊗ fin false n d) x)
@@ -60,7 +62,9 @@ shrinks nan n d b f h = absurd (b .not-below)
 shrinks (inf s) n d b f h = absurd (b .not-below)
 shrinks (fin s zero e) n d b f h = subst (λ (z : Float). T (le (z ⊗ fin false n d) z)) (sym (zero-fits s e f)) (zero-product s n d)
 shrinks (fin true (suc m) e) n d b f h = absurd (subst T (eqb·suc-zero m) (b .not-below))
-shrinks (fin false (suc m) e) n d b f h = subst (λ (z : Float). T (le (round binary64 false (suc m * up e * (n * up d)) (down e * down d)) z)) (plus-zero false false m e f) (rounded m e n d h)
+shrinks (fin false (suc m) e) n d b f h =
+    subst (λ (z : Float). T (le (round binary64 false (suc m * up e * (n * up d)) (down e * down d)) z)) (plus-zero false false m e f)
+    (rounded m e n d h)
 
 not-above : (x y : Float) → NotBelow x → T (fits binary64 x) → T (clear y) → Within 1 y → T (le (x ⊗ y) x)
 not-above x nan b f c w = absurd c

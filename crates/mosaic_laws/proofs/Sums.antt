@@ -16,7 +16,8 @@ over-keeps R f a zero step h = h
 over-keeps R f a (suc n) step h = step n (last n) (over f a n) (over-keeps R f a n (λ i l. step i (before i n l)) h)
 
 -- B more with each step
-pub grows : (P : ℕ → Float → Type 0) (A B : ℕ) (f : ℕ → Float → Float) (s : Float) (n : ℕ) → ((i : ℕ) → i < n → (x : Float) → P (A + i * B) x → P (A + i * B + B) (f i x)) → P A s → P (A + n * B) (over f s n)
+pub grows : (P : ℕ → Float → Type 0) (A B : ℕ) (f : ℕ → Float → Float) (s : Float) (n : ℕ)
+    → ((i : ℕ) → i < n → (x : Float) → P (A + i * B) x → P (A + i * B + B) (f i x)) → P A s → P (A + n * B) (over f s n)
 grows P A B f s zero step h = rw (zero-mul, add-zero) h
 grows P A B f s (suc n) step h = rw (suc-mul, ← add-assoc) (step n (last n) (over f s n) (grows P A B f s n (λ i l. step i (before i n l)) h))
 

@@ -12,7 +12,8 @@ use lib.Ieee.Fits.{and-l, and-r, round-fits, ofInt-fits, add-fits, sub-fits, mul
 use lib.Ieee.Positive.{num, den, positive, above-of-le, between}
 use Rattle.floats.specs.F64.{_⊕_, _⊖_, _⊗_, _⊘_, nat, ratio, decimal}
 use Rattle.floats.specs.Within.{Within, Above, NotBelow}
-use Rattle.floats.proofs.Bounds.{within-more, within-whole, within-fraction, within-reciprocal, within-add, within-sub, within-mul, within-div, within-neg, above-whole, above-add, above-fraction, positive-not-below}
+use Rattle.floats.proofs.Bounds.{within-more, within-whole, within-fraction, within-reciprocal, within-add, within-sub, within-mul}
+use Rattle.floats.proofs.Bounds.{within-div, within-neg, above-whole, above-add, above-fraction, positive-not-below}
 use Rattle.floats.proofs.Ranges.{within-range, above-range, not-below-zero, above-finite}
 use Rattle.floats.proofs.Fractions.{less, le-fractions, difference-above}
 use Rattle.floats.proofs.Differences.{not-below}
@@ -30,6 +31,7 @@ use Rattle.mosaic_hypotheses.specs.Prior.{gainOf}
 use Rattle.mosaic_params.specs.declared.params.Params.{Params}
 use Rattle.mosaic_alleles.specs.declared.pair.GermlinePair.{GermlinePair}
 use Rattle.mosaic_laws.proofs.Quotients.{above-div}
+use Rattle.mosaic_laws.specs.Found.{Vaf}
 
 -- ---- the short log gamma of a number above zero and at most 2 ^ 23
 
@@ -43,7 +45,8 @@ from-one-within : (x : Float) → T (fits binary64 x) → T (positive x) → Wit
 unfolding stirlingFromOne
 from-one-within x f p w =
     within-more
-    (within-add (within-sub (within-mul (within-sub w (within-reciprocal 2 (lit< tt)) (lit≤ tt)) (within-ln x f p) (lit≤ tt)) w (lit≤ tt)) half-pi-within (lit≤ tt))
+    (within-add (within-sub (within-mul (within-sub w (within-reciprocal 2 (lit< tt)) (lit≤ tt)) (within-ln x f p) (lit≤ tt)) w (lit≤ tt))
+    half-pi-within (lit≤ tt))
     (lit≤ tt)
 
 pub either : {A : Type 0} (P : A → Type 0) (t : Bool) (a b : A) → (t ≡ true → P a) → (t ≡ false → P b) → P (cond t a b)
@@ -55,9 +58,12 @@ unfolding stirlingOf
 within-stirling x f p w =
     let next = within-add w (within-whole (pos 1) 1 (lit≤ tt) (lit≤ tt)) (lit≤ tt) in
     let up = above-add (positive-not-below x p) (above-whole 1 (lit< tt) (lit≤ tt)) (lit≤ tt) next in
-    either (Within (2 ^ 38)) (le (nat 1) x) (stirlingFromOne x) (cond (lt (nat 0) x) (stirlingFromOne (x ⊕ nat 1) ⊖ lnOf x) (cond (le (nat 0) x) (inf false) nan))
+    either (Within (2 ^ 38)) (le (nat 1) x) (stirlingFromOne x)
+    (cond (lt (nat 0) x) (stirlingFromOne (x ⊕ nat 1) ⊖ lnOf x) (cond (le (nat 0) x) (inf false) nan))
     (λ e. within-more (from-one-within x f p (within-more w (lit≤ tt))) (lit≤ tt))
-    (λ e. rw (zero-below x p) (within-more (within-sub (from-one-within (x ⊕ nat 1) (add-fits binary64 x (nat 1)) (up .is-positive) (within-more next (lit≤ tt))) (within-ln x f p) (lit≤ tt)) (lit≤ tt)))
+    (λ e. rw (zero-below x p) (within-more
+    (within-sub (from-one-within (x ⊕ nat 1) (add-fits binary64 x (nat 1)) (up .is-positive) (within-more next (lit≤ tt))) (within-ln x f p)
+    (lit≤ tt)) (lit≤ tt)))
 
 pub within-factorial : (n : ℕ) → n ≤ 8000000 → Within (2 ^ 38) (lnFactorial stirlingOf n)
 unfolding lnFactorial
@@ -66,7 +72,8 @@ within-factorial n h =
     either (Within (2 ^ 38)) (leb n 1) (nat 0) (stirlingOf (nat n ⊕ nat 1))
     (λ e. within-whole (pos 0) (2 ^ 38) (lit≤ tt) (lit≤ tt))
     (λ e.
-    let up = above-add (positive-not-below (nat n) (above-whole n (omega (arith, leb-false n 1 e)) (omega arith) .is-positive)) (above-whole 1 (lit< tt) (lit≤ tt)) (lit≤ tt) w in
+    let up = above-add (positive-not-below (nat n) (above-whole n (omega (arith, leb-false n 1 e)) (omega arith) .is-positive))
+    (above-whole 1 (lit< tt) (lit≤ tt)) (lit≤ tt) w in
     within-stirling (nat n ⊕ nat 1) (add-fits binary64 (nat n) (nat 1)) (up .is-positive) (within-more w (lit≤ tt)))
 
 -- ---- what the parameters make
@@ -111,7 +118,8 @@ module _ (p : Params) (allowed : paramsAllowed p ≡ true) where
   unfolding ofInt
   highest-within =
       let h = and-r B H (and-r A (B && H) all-of) in
-      within-range (p .highest) (record { is-finite = tt; small = lit≤ tt }) (record { is-finite = tt; small = lit≤ tt }) (and-l (le (nat 0) (p .highest)) (le (p .highest) (nat 1)) h) (and-r (le (nat 0) (p .highest)) (le (p .highest) (nat 1)) h)
+      within-range (p .highest) (record { is-finite = tt; small = lit≤ tt }) (record { is-finite = tt; small = lit≤ tt }) (and-l (le (nat 0) (p .highest)) (le (p .highest) (nat 1)) h)
+      (and-r (le (nat 0) (p .highest)) (le (p .highest) (nat 1)) h)
 
   pub highest-not-below : NotBelow (p .highest)
   unfolding ofInt
@@ -137,15 +145,12 @@ dense p allowed f g =
       beta-less = within-sub (b .within) one (lit≤ tt);
       alpha-within = within-stirling (p .alpha) f (a .above-zero) (within-more (a .within) (lit≤ tt));
       beta-within = within-stirling (p .beta) g (b .above-zero) (within-more (b .within) (lit≤ tt));
-      sum-within = within-stirling (p .alpha ⊕ p .beta) (add-fits binary64 (p .alpha) (p .beta)) (above-add (positive-not-below (p .alpha) (a .above-zero)) (fits-above (p .beta) g (b .above-zero)) (lit≤ tt) both .is-positive) (within-more both (lit≤ tt));
+      sum-within = within-stirling (p .alpha ⊕ p .beta) (add-fits binary64 (p .alpha) (p .beta))
+          (above-add (positive-not-below (p .alpha) (a .above-zero)) (fits-above (p .beta) g (b .above-zero)) (lit≤ tt) both .is-positive)
+          (within-more both (lit≤ tt));
     }
 
 -- ---- a VAF that is tried: above zero, an f64, not large
-
-pub record Vaf (v : Float) : Type 0 where
-  pub above-zero : T (positive v)
-  pub is-f64 : T (fits binary64 v)
-  pub within : Within 20 v
 
 pub ln-within : (v : Float) → Vaf v → Within (2 ^ 12) (lnOf v)
 ln-within v h = within-ln v (h .is-f64) (h .above-zero)

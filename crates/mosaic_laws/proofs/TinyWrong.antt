@@ -23,6 +23,7 @@ use Rattle.mosaic_probabilities.proofs.InUse.{in-use-all}
 use Rattle.mosaic_laws.proofs.Terms.{either}
 use Rattle.mosaic_laws.proofs.Sums.{over-keeps}
 use Rattle.mosaic_laws.proofs.Qualities.{rawOf, hundred}
+use Rattle.mosaic_laws.specs.Tails.{Summands, SameOrTinyEach}
 
 -- ---- the quality of a sum of at most 2^−340
 
@@ -37,14 +38,6 @@ quality-tiny w f t = go (lt (nat 0) w) refl
         rw (far-over-thousand w f p (t .small)) hundred
 
 -- ---- the probabilities of all but the winner, summed: 55 of the 1000 for each
-
--- each of the first n is what a sum may be of
-abbrev pub Summands : List Float → ℕ → Type 0
-Summands ps n = (i : ℕ) → i < n → Summand (getD ps i nan)
-
--- each of the first n is the same in both, or at most 2^−1000 in both
-abbrev pub SameOrTinyEach : List Float → List Float → ℕ → Type 0
-SameOrTinyEach ps qs n = (i : ℕ) → i < n → SameOrTiny 1000 (getD ps i nan) (getD qs i nan)
 
 pub nothing-summand : Summand (nat 0)
 nothing-summand = record { is-f64 = ofInt-fits binary64 (pos 0); not-below = unfold lt ofInt round in refl }

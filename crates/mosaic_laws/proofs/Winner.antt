@@ -42,7 +42,8 @@ module _ (l : List Float) where
           let up : keyOfPlace l b ≤ℤ keyOfPlace l k = leZ-yes (subst T (sym e) tt) in
           record {
             in-use = omega arith;
-            none-above = λ i m. split (λ i. keyOfPlace l i ≤ℤ keyOfPlace l k) k i m (≤ℤ-refl (keyOfPlace l k)) (λ q. through (keyOfPlace l i) (keyOfPlace l b) (keyOfPlace l k) (h .none-above i q) up);
+            none-above = λ i m. split (λ i. keyOfPlace l i ≤ℤ keyOfPlace l k) k i m (≤ℤ-refl (keyOfPlace l k))
+                (λ q. through (keyOfPlace l i) (keyOfPlace l b) (keyOfPlace l k) (h .none-above i q) up);
             later-below = λ i m n. absurd (none i m n);
           }
       go false e =
@@ -54,7 +55,13 @@ module _ (l : List Float) where
           }
 
   alone : LastLargest l 1 0
-  alone = record { in-use = lit< tt; none-above = λ i m. subst (λ (i : ℕ). keyOfPlace l i ≤ℤ keyOfPlace l 0) (sym (first i m)) (≤ℤ-refl (keyOfPlace l 0)); later-below = λ i m n. absurd (none i m n) }
+  alone =
+      record {
+        in-use = lit< tt;
+        none-above = λ i m. subst (λ (i : ℕ). keyOfPlace l i ≤ℤ keyOfPlace l 0) (sym (first i m))
+            (≤ℤ-refl (keyOfPlace l 0));
+        later-below = λ i m n. absurd (none i m n);
+      }
     where
       first : (i : ℕ) → i < 1 → i ≡ 0
       first i m = omega arith

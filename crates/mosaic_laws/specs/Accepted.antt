@@ -1,4 +1,4 @@
--- What the laws of mosaic speak of. Definitions only (RULES.md, L1, L2, L6).
+-- For the laws: the inputs that those of mosaic speak of. Definitions only (RULES.md, L1, L2, L6).
 use Prim.Native.Nat.{ℕ, _≤_}
 use mathlib.Core.Path.{_≡_}
 use mathlib.Core.Bool.{true}
@@ -10,7 +10,7 @@ use Rattle.limits.specs.Limits.{countsAllowed}
 use Rattle.mosaic_params.specs.Allowed.{paramsAllowed}
 use Rattle.mosaic_params.specs.declared.params.Params.{Params}
 
--- parameters and counts that no refusal of R2, R6 and R4 turns away; parameters are f64, as the struct's fields are
+-- L1, L2, L6: parameters and counts that no refusal of R2, R6 and R4 turns away; parameters are f64, as the struct's fields are
 pub record AcceptedMosaic (p : Params) (counts : List ℕ) : Type 0 where
   pub params-are : paramsAllowed p ≡ true
   pub alpha-is-f64 : T (fits binary64 (p .alpha))

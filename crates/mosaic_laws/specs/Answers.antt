@@ -1,4 +1,4 @@
--- What the laws say of a whole answer of mosaic. Definitions only (RULES.md, M3, M5, M7, M8).
+-- For the laws: what they say of a whole answer of mosaic. Definitions only (RULES.md, M3, M5, M7, M8).
 use Prim.Native.Nat.{ℕ, _^_, _≤_, _<_}
 use mathlib.Core.Path.{_≡_}
 use mathlib.Core.Bool.{Bool, true, false}
@@ -11,7 +11,7 @@ use Rattle.floats.specs.F64.{nat, whole}
 use Rattle.floats.specs.Within.{Within, NotBelow, UpTo}
 use Rattle.mosaic.specs.declared.genotype.MosaicResult.{MosaicResult}
 
--- the VAF at the place of an allele: finite and not below zero; above zero and below 1 where its flag is true, and 0.0 where it is not
+-- M8: the VAF at the place of an allele: finite and not below zero; above zero and below 1 where its flag is true, and 0.0 where it is not
 pub record VafOf (flag : Bool) (v : Float) : Type 0 where
   pub not-negative : NotBelow v
   pub of-somatic : flag ≡ true → T (positive v) × (lt v (nat 1) ≡ true)

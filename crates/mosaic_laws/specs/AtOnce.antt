@@ -1,5 +1,6 @@
--- The log likelihood and the log prior as M3 and M4 say them and kanpig works them out: minus infinity at once where an allele that is
--- seen has a share of 0, and where a somatic VAF is 1 or more. Definitions only (RULES.md, M3, M4).
+-- For the laws `likelihood-at-once` and `prior-at-once`: the log likelihood and the log prior as M3 and M4 say them and kanpig works them
+-- out, minus infinity at once where an allele that is seen has a share of 0, and where a somatic VAF is 1 or more. Definitions only
+-- (RULES.md, M3, M4).
 use Prim.Native.Nat.{ℕ, _<_}
 use mathlib.Core.Path.{_≡_}
 use mathlib.Core.Bool.{Bool, true, false, _&&_, _||_, cond}

@@ -1,6 +1,6 @@
--- The answer of mosaic with the exponential as an argument, for the laws on what K4 says below −708: on which fields of an answer it bears
--- and on which not. At `expOf` these are the rules' own definitions: `mosaic-by-exp` (proofs/AnyTail.antt). Definitions only (RULES.md,
--- M7, M8, O1, R11).
+-- For the laws on what K4 says below −708, on which fields of an answer it bears and on which not: the answer of mosaic with the
+-- exponential as an argument. At `expOf` these are the rules' own definitions: `mosaic-by-exp` (proofs/AnyTail.antt). Definitions only
+-- (RULES.md, M7, M8, O1, R11).
 use Prim.Native.Nat.{ℕ, _<_}
 use mathlib.Core.Path.{_≡_}
 use mathlib.Core.Bool.{cond, _||_}
@@ -9,7 +9,7 @@ use lib.Dec.{leb, ltb, eqb}
 use lib.ListN.{length, getD, replicate}
 use lib.Ieee.{Float, nan}
 use Rattle.floats.specs.F64.{nat}
-use Rattle.floats.specs.Tiny.{Tiny, SameOrTiny}
+use Rattle.floats.specs.Tiny.{Tiny, SameOrTiny, Summand}
 use Rattle.kernels_laws.specs.Tail.{tenWith, wholeWith}
 use Rattle.kernels_tens.specs.Normalised.{lessWhole, wholeOver}
 use Rattle.refusals.specs.declared.Refusal.the-variants.{TooMany, Count, Model, NoCall}
@@ -54,6 +54,14 @@ abbrev pub normalisedAt : Params → List ℕ → ℕ → Float
 normalisedAt p counts i =
     let tens = tensOf (posteriors firstEdition p counts) (length (hypotheses counts)) in
     lessWhole smaller (wholeOver larger tens) (getD tens i nan)
+
+-- M7: each of the first n probabilities may be summed: an f64 and not below zero, or plus infinity or a NaN
+abbrev pub Summands : List Float → ℕ → Type 0
+Summands ps n = (i : ℕ) → i < n → Summand (getD ps i nan)
+
+-- M7: each of the first n is the same in both lists, or from 0 to 2^−1000 in both
+abbrev pub SameOrTinyEach : List Float → List Float → ℕ → Type 0
+SameOrTinyEach ps qs n = (i : ℕ) → i < n → SameOrTiny 1000 (getD ps i nan) (getD qs i nan)
 
 -- M8: an answer with zeros for its quality and its probabilities
 abbrev pub withoutChances : MosaicResult → MosaicResult

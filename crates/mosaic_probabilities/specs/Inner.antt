@@ -9,14 +9,14 @@ use Rattle.kernels_tens.specs.Log10.{pow10Of}
 use Rattle.kernels_tens.specs.Normalised.{inTens, largestFrom, lessWhole}
 use Rattle.floats.specs.MaxMin.{Pick}
 
--- the largest of the first n, from the first on
+-- M7: the largest of the first n, from the first on
 abbrev pub topOf : Pick → List Float → ℕ → Float
 topOf max l n = largestFrom max (inTens (getD l 0 nan)) (map inTens (drop 1 (take n l)))
 
--- ten to each of them less top, summed from the first on
+-- M7: ten to each of them less top, summed from the first on
 abbrev pub sumOf : Float → List Float → ℕ → Float
 sumOf top l n = sumFrom (pow10Of (inTens (getD l 0 nan) ⊖ top)) (map (λ x. pow10Of (inTens x ⊖ top)) (drop 1 (take n l)))
 
--- the probability of one posterior
+-- M7: the probability of one posterior
 unfoldable pub probabilityOf : Pick → Float → Float → Float
 probabilityOf min w x = pow10Of (lessWhole min w (inTens x))

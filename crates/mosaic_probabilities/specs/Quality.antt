@@ -13,26 +13,26 @@ use Rattle.floats.specs.MaxMin.{Pick}
 use Rattle.lists.specs.Lists.{padded}
 use Rattle.lists.specs.Over.{over}
 
--- how many places are in use: n, or all 36 where n is more
+-- M7: how many places are in use: n, or all 36 where n is more
 unfoldable pub upToThirtySix : ℕ → ℕ
 upToThirtySix n = cond (leb n 36) n 36
 
--- the first n posteriors as decimal logarithms
+-- M7: the first n posteriors as decimal logarithms
 abbrev pub tensOf : List Float → ℕ → List Float
 tensOf l n = map inTens (take n l)
 
--- these normalised as in G4, and ten to each; 0.0 in the places after them
+-- M7: these normalised as in G4, and ten to each; 0.0 in the places after them
 unfoldable pub probabilities : Pick → Pick → List Float → ℕ → List Float
 probabilities max min l n = padded 36 (nat 0) (map pow10Of (normalisedOver max min (tensOf l (upToThirtySix n))))
 
--- the probabilities of all but the winner, summed
+-- M7: the probabilities of all but the winner, summed: over the first n places
 abbrev pub wrongOf : List Float → ℕ → ℕ → Float
 wrongOf ps best = over (λ i s. cond (not (eqb i best)) (s ⊕ getD ps i nan) s) (nat 0)
 
--- the smaller of −10·log10 of that and 1000, or 1000 where it is not above 0; a tenth of it
+-- M7: the smaller of −10·log10 of that and 1000, or 1000 where it is not above 0; a tenth of it
 unfoldable pub qualityBy : Pick → Float → Float
 qualityBy min wrong = cond (lt (nat 0) wrong) (min (whole (negℤ (pos 10)) ⊗ log10Of wrong) (nat 1000)) (nat 1000) ⊘ nat 10
 
--- the quality of the winner at the place `best`
+-- M7: the quality of the winner at the place `best`
 abbrev pub qualityOf : Pick → List Float → ℕ → ℕ → Float
 qualityOf min ps n best = qualityBy min (wrongOf ps best (upToThirtySix n))

@@ -7,11 +7,12 @@ use lib.Signed.{leZ}
 use lib.Ieee.{Float, nan}
 use Rattle.floats.specs.Key.{keyOf}
 
--- a later place takes over where its key is not below the best one's
+-- M6, K8: a later place takes over where its key is not below the best one's
 abbrev pub takesOver : List Float → ℕ → ℕ → Bool
 takesOver l best i = leZ (keyOf (getD l best nan)) (keyOf (getD l i nan))
 
--- the place of the largest of the first k, by key, the later on equality
+-- M6: the place of the largest of the first k, by key, the later on equality (`winner-wins`, `winner-only`,
+-- mosaic_laws/proofs/Winner.antt)
 unfoldable pub winningPlace : List Float → ℕ → ℕ
 winningPlace l zero = 0
 winningPlace l (suc k) = cond (takesOver l (winningPlace l k) k) k (winningPlace l k)

@@ -14,7 +14,8 @@ use Rattle.mosaic_alleles.specs.Alleles.{countAt}
 use Rattle.mosaic_shared.specs.declared.priors.Density.{Density}
 use Rattle.mosaic_shared.specs.declared.shared.Shared.{Shared}
 
--- what M4's log beta density (`lnDensity`, mosaic_hypotheses/specs/Prior.antt) takes from the parameters, by a log gamma; the law is `gain-by`
+-- M4: what the log beta density (`lnDensity`, mosaic_hypotheses/specs/Prior.antt) takes from the parameters, by a log gamma; the law is
+-- `gain-by`
 unfoldable pub densityOf : (Float → Float) → Params → Density
 densityOf lnGamma p = record {
   a = p .alpha ⊖ nat 1;
@@ -24,28 +25,30 @@ densityOf lnGamma p = record {
   «gamma_sum» = lnGamma (p .alpha ⊕ p .beta);
 }
 
--- what M4 adds for one germline allele of n, and what for two (`forGermline`, mosaic_hypotheses/specs/Prior.antt); the law is `germline-by`
+-- M4: what it adds for one germline allele of n, and what for two (`forGermline`, mosaic_hypotheses/specs/Prior.antt); the law is
+-- `germline-by`
 unfoldable pub forOne : ℕ → Float
 forOne n = neg (lnOf (nat n))
 
 unfoldable pub forTwo : ℕ → Float
 forTwo n = neg (lnOf (nat (n * (n - 1) / 2)))
 
--- M3: the log factorial of each of eight counts
+-- M3: the log factorial of each of the first k counts, and of all eight; the law is `found-by`
 abbrev pub factorialsOver : List ℕ → ℕ → List Float
 factorialsOver counts = placed (replicate 8 (nat 0)) (λ i. lnFactorial stirlingOf (countAt counts i))
 
 unfoldable pub factorialsOf : List ℕ → List Float
 factorialsOf counts = factorialsOver counts 8
 
--- M3: each of eight counts times the logarithm of the VAF that a somatic allele starts at
+-- M1, M3: each of the first k counts, and of all eight, times the logarithm of the VAF that a somatic allele starts at; the law is
+-- `found-by`
 abbrev pub startsOver : List ℕ → ℕ → List Float
 startsOver counts = placed (replicate 8 (nat 0)) (λ i. nat (countAt counts i) ⊗ lnOf (decimal 5 2))
 
 unfoldable pub startsOf : List ℕ → List Float
 startsOf counts = startsOver counts 8
 
--- all of it, of a call with n alleles and this total, by the short log gamma
+-- M2 to M5: all of it, of a call with n alleles and this total, by the short log gamma
 unfoldable pub sharedOf : Params → List ℕ → ℕ → ℕ → Shared
 sharedOf p counts n total = record {
   total = nat total;

@@ -10,8 +10,8 @@ use kernels_stirling::stirling::ln_factorial;
 use mosaic_alleles::counts::count;
 use mosaic_params::params::Params;
 
-// The total, its log factorial, each count's log factorial, each count's term at the start, the density's numbers, the highest VAF, and what one
-// and what two germline alleles add to the prior.
+// The total, its log factorial, each count's log factorial, each count's term at the start, the density's numbers, the highest VAF, and
+// what one and what two germline alleles add to the prior.
 pub struct Shared {
     pub total: f64,
     pub of_total: f64,

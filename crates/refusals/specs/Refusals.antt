@@ -1,9 +1,10 @@
 -- The numbers of the refusals. Definitions only (RULES.md, R0 to R12).
 use Prim.Native.Nat.{ℕ}
 use Rattle.refusals.specs.declared.Refusal.{Refusal}
-use Rattle.refusals.specs.declared.Refusal.the-variants.{Done, NoCluster, TooMany, Shape, Count, Weight, Model, Table, Row, OtherTrio, NotComplete, NoCall, BadPart}
+use Rattle.refusals.specs.declared.Refusal.the-variants.{Done, NoCluster, TooMany, Shape, Count, Weight, Model, Table, Row}
+use Rattle.refusals.specs.declared.Refusal.the-variants.{OtherTrio, NotComplete, NoCall, BadPart}
 
--- its number
+-- R0 to R12: the number of a refusal
 abbrev pub numberOf : Refusal → ℕ
 numberOf Done = 0
 numberOf NoCluster = 1

@@ -2,7 +2,9 @@
 use mathlib.Core.Path.{_≡_, refl, sym, ap, _∙_}
 use mathlib.Core.Bool.{Bool, true, false, cond}
 use Prim.Native.Nat.{ℕ, zero, suc, _+_, _-_, _*_, _/_, _%_, _^_, _≤_, _<_}
-use native.Mathlib.Nat.{le-trans, not-suc-le-zero, lt-of-lt-of-le, lt-of-le-of-lt, le-of-eq, mul-one, one-mul, mul-assoc, mul-left-comm, mul-right-comm, mul-le-mul, mul-le-mul-left, mul-le-mul-right, le-of-mul-le-mul-right, pow-succ', mul-lt-mul-of-pos-right, lt-of-mul-lt-mul-right, div-add-mod', mod-lt, mod-eq-of-lt, div-eq-of-lt}
+use native.Mathlib.Nat.{le-trans, not-suc-le-zero, lt-of-lt-of-le, lt-of-le-of-lt, le-of-eq, mul-one, one-mul, mul-assoc, mul-left-comm}
+use native.Mathlib.Nat.{mul-right-comm, mul-le-mul, mul-le-mul-left, mul-le-mul-right, le-of-mul-le-mul-right, pow-succ'}
+use native.Mathlib.Nat.{mul-lt-mul-of-pos-right, lt-of-mul-lt-mul-right, div-add-mod', mod-lt, mod-eq-of-lt, div-eq-of-lt}
 use native.Mathlib.Omega.{arith}
 use borrow.Author.Tests.{lt-ltb, le-ltb, ltb-true, ltb-false, ne-eqb, eqb-true, eqb-false}
 use lib.Dec.{T, ltb, leb, eqb, lit<}
@@ -16,7 +18,7 @@ use lib.Ieee.Exact.{HasValue, odd-sign}
 use lib.Ieee.Nearest.{div-same}
 use Rattle.text_writing.specs.declared.figures.Figure.the-variants.{Is, TooLarge}
 use Rattle.text_writing.specs.Laying.{glyphOf, wholeText}
-use Rattle.text_writing.specs.Figures.{nearestHundredths, figureAt, figureOf, figureText}
+use Rattle.text_writing.specs.Figures.{nearestHundredths, figureAt, figureOf, figureText, Nearest}
 
 -- ---- by any fraction of the same value
 
@@ -36,8 +38,12 @@ same-size a c b d C D h = go (ltb a (2 ^ 53 * c)) refl
     turned = mul-right-comm (2 ^ 53) c d
 
     go : (t : Bool) → ltb a (2 ^ 53 * c) ≡ t → t ≡ ltb b (2 ^ 53 * d)
-    go true e = sym (lt-ltb b (2 ^ 53 * d) (lt-of-mul-lt-mul-right c (lt-of-le-of-lt (le-of-eq (sym h)) (lt-of-lt-of-le (mul-lt-mul-of-pos-right (ltb-true a (2 ^ 53 * c) e) D) (le-of-eq turned)))))
-    go false e = sym (le-ltb b (2 ^ 53 * d) (le-of-mul-le-mul-right (le-trans (le-of-eq (sym turned)) (le-trans (mul-le-mul-right d (ltb-false a (2 ^ 53 * c) e)) (le-of-eq h))) C))
+    go true e =
+        sym (lt-ltb b (2 ^ 53 * d) (lt-of-mul-lt-mul-right c
+        (lt-of-le-of-lt (le-of-eq (sym h)) (lt-of-lt-of-le (mul-lt-mul-of-pos-right (ltb-true a (2 ^ 53 * c) e) D) (le-of-eq turned)))))
+    go false e =
+        sym (le-ltb b (2 ^ 53 * d) (le-of-mul-le-mul-right
+        (le-trans (le-of-eq (sym turned)) (le-trans (mul-le-mul-right d (ltb-false a (2 ^ 53 * c) e)) (le-of-eq h))) C))
 
 same-figure : (s : Bool) (a c b d : ℕ) → 0 < c → 0 < d → a * d ≡ b * c → figureAt s a c ≡ figureAt s b d
 same-figure s a c b d C D h = rw (same-size a c b d C D h, same-hundredths a c b d C D h)
@@ -53,14 +59,17 @@ by-value (fin t m e) s a c C v = ap (λ (u : Bool). figureAt u (m * up e) (down 
 -- below 2^53, where q is and k is at most n
 low-figure : (s : Bool) (q k j n : ℕ) → k + j ≡ n → q < 2 ^ 53 → figureAt s (q * 2 ^ k) (2 ^ n) ≡ Is s (nearestHundredths q (2 ^ j))
 low-figure s q k j n e h =
-    same-figure s (q * 2 ^ k) (2 ^ n) q (2 ^ j) (pow-pos n) (pow-pos j) (mul-assoc q (2 ^ k) (2 ^ j) ∙ ap (λ (z : ℕ). q * z) (sym (pow-add 2 k j) ∙ ap (λ (z : ℕ). 2 ^ z) e))
-    ∙ ap (λ (t : Bool). cond t (Is s (nearestHundredths q (2 ^ j))) TooLarge) (lt-ltb q (2 ^ 53 * 2 ^ j) (lt-of-lt-of-le h (le-trans (le-of-eq (sym (mul-one (2 ^ 53)))) (mul-le-mul-left (2 ^ 53) (pow-pos j)))))
+    same-figure s (q * 2 ^ k) (2 ^ n) q (2 ^ j) (pow-pos n) (pow-pos j)
+    (mul-assoc q (2 ^ k) (2 ^ j) ∙ ap (λ (z : ℕ). q * z) (sym (pow-add 2 k j) ∙ ap (λ (z : ℕ). 2 ^ z) e))
+    ∙ ap (λ (t : Bool). cond t (Is s (nearestHundredths q (2 ^ j))) TooLarge)
+    (lt-ltb q (2 ^ 53 * 2 ^ j) (lt-of-lt-of-le h (le-trans (le-of-eq (sym (mul-one (2 ^ 53)))) (mul-le-mul-left (2 ^ 53) (pow-pos j)))))
 
 -- not below it, where k is above n and q has 53 digits
 high-figure : (s : Bool) (q k n : ℕ) → n < k → 2 ^ 52 ≤ q → figureAt s (q * 2 ^ k) (2 ^ n) ≡ TooLarge
 high-figure s q k n h l =
     ap (λ (t : Bool). cond t (Is s (nearestHundredths (q * 2 ^ k) (2 ^ n))) TooLarge)
-    (le-ltb (q * 2 ^ k) (2 ^ 53 * 2 ^ n) (le-trans (le-of-eq (halved (2 ^ 52) (2 ^ n) ∙ ap (λ (z : ℕ). 2 ^ 52 * z) (sym (pow-succ' 2 n)))) (mul-le-mul l (pow-mono h))))
+    (le-ltb (q * 2 ^ k) (2 ^ 53 * 2 ^ n)
+    (le-trans (le-of-eq (halved (2 ^ 52) (2 ^ n) ∙ ap (λ (z : ℕ). 2 ^ 52 * z) (sym (pow-succ' 2 n)))) (mul-le-mul l (pow-mono h))))
   where
     halved : (a b : ℕ) → 2 * a * b ≡ a * (2 * b)
     halved a b = simp (mul-assoc, mul-left-comm)
@@ -75,7 +84,9 @@ no-field s t h = by-value (odd 53 s t 0 1074) s (t * 2 ^ 0) (2 ^ 1074) (pow-pos 
 -- a field k + 1: 2^52 + t units of 2^(k − 1074)
 some-field : (s : Bool) (k t : ℕ) → (suc k ≡ 2047 → ⊥) → figureOf (ofFields binary64 s (suc k) t) ≡ figureAt s ((2 ^ 52 + t) * 2 ^ k) (2 ^ 1074)
 unfolding ofFields
-some-field s k t h = rw (ne-eqb (suc k) 2047 h) (by-value (odd 53 s (2 ^ 52 + t) k 1074) s ((2 ^ 52 + t) * 2 ^ k) (2 ^ 1074) (pow-pos 1074) (odd-sign 53 s (2 ^ 52 + t) k 1074))
+some-field s k t h =
+    rw (ne-eqb (suc k) 2047 h) (by-value (odd 53 s (2 ^ 52 + t) k 1074) s ((2 ^ 52 + t) * 2 ^ k) (2 ^ 1074) (pow-pos 1074)
+    (odd-sign 53 s (2 ^ 52 + t) k 1074))
 
 -- the field of the infinities and of NaN
 full-field : (s : Bool) (t : ℕ) → figureOf (ofFields binary64 s 2047 t) ≡ TooLarge
@@ -105,7 +116,8 @@ module _ (x : Float) (f : T (fits binary64 x)) (b : ℕ) (e : b ≡ toBits binar
   pub figure-low : (k : ℕ) → b / 2 ^ 52 % 2 ^ 11 ≡ k → (k ≡ 0 → ⊥) → k ≤ 1075 → figureOf x ≡ Is sign (nearestHundredths (2 ^ 52 + b % 2 ^ 52) (2 ^ (1075 - k)))
   figure-low zero h n l = absurd (n refl)
   figure-low (suc k) h n l =
-      by-fields (suc k) h ∙ some-field sign k (b % 2 ^ 52) (λ z. omega arith) ∙ low-figure sign (2 ^ 52 + b % 2 ^ 52) k (1075 - suc k) 1074 (omega arith) (omega arith)
+      by-fields (suc k) h ∙ some-field sign k (b % 2 ^ 52) (λ z. omega arith)
+      ∙ low-figure sign (2 ^ 52 + b % 2 ^ 52) k (1075 - suc k) 1074 (omega arith) (omega arith)
 
   pub figure-high : (k : ℕ) → b / 2 ^ 52 % 2 ^ 11 ≡ k → 1075 < k → figureOf x ≡ TooLarge
   figure-high zero h l = absurd (not-suc-le-zero l)
@@ -114,7 +126,8 @@ module _ (x : Float) (f : T (fits binary64 x)) (b : ℕ) (e : b ≡ toBits binar
       go : (z : Bool) → eqb (suc k) 2047 ≡ z → figureOf x ≡ TooLarge
       go true z = by-fields 2047 (h ∙ eqb-true (suc k) 2047 z) ∙ full-field sign (b % 2 ^ 52)
       go false z =
-          by-fields (suc k) h ∙ some-field sign k (b % 2 ^ 52) (eqb-false (suc k) 2047 z) ∙ high-figure sign (2 ^ 52 + b % 2 ^ 52) k 1074 (omega arith) (omega arith)
+          by-fields (suc k) h ∙ some-field sign k (b % 2 ^ 52) (eqb-false (suc k) 2047 z)
+          ∙ high-figure sign (2 ^ 52 + b % 2 ^ 52) k 1074 (omega arith) (omega arith)
 
 -- ---- the steps of the code
 
@@ -144,11 +157,6 @@ unfolding figureText
 figure-text s h k c d e f g = append-assoc (take k (45 ∷ [])) (wholeText (h / 100)) (46 ∷ c ∷ d ∷ []) ∙ rw (e, f, g, sign-text s)
 
 -- ---- the definition gives the nearest
-
-pub record Nearest (a c h : ℕ) : Type 0 where
-  -- h − 1/2 ≤ 100·a / c < h + 1/2
-  pub not-above : 2 * h * c ≤ 200 * a + c
-  pub not-below : 200 * a < (2 * h + 1) * c
 
 pub nearest-hundredths : (a c : ℕ) → 0 < c → Nearest a c (nearestHundredths a c)
 nearest-hundredths a c C =

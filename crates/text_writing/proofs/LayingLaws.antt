@@ -3,7 +3,8 @@ use mathlib.Core.Path.{_≡_, refl, sym, ap, _∙_}
 use mathlib.Core.Bool.{Bool, true, false, cond}
 use mathlib.Core.List.{List, [], _∷_, _++_, append-assoc}
 use Prim.Native.Nat.{ℕ, zero, suc, _+_, _-_, _*_, _/_, _%_, _^_, _≤_, _<_, min}
-use native.Mathlib.Nat.{add-assoc, le-trans, le-of-eq, lt-of-le-of-lt, not-suc-le-zero, le-of-suc-le-suc, zero-lt-suc, lt-irrefl, one-le-pow, pow-suc, pow-le-pow-right, mod-eq-of-lt, mod-lt}
+use native.Mathlib.Nat.{add-assoc, le-trans, le-of-eq, lt-of-le-of-lt, not-suc-le-zero, le-of-suc-le-suc, zero-lt-suc, lt-irrefl}
+use native.Mathlib.Nat.{one-le-pow, pow-suc, pow-le-pow-right, mod-eq-of-lt, mod-lt}
 use native.Mathlib.Numerals.{add-one}
 use native.Mathlib.Omega.{arith}
 use borrow.Author.Tests.{le-leb, lt-leb, lt-ltb, le-ltb, ltb-true, ltb-false, leb-true, leb-false}
@@ -69,12 +70,15 @@ module _ (l : List ℕ) (at : ℕ) (s t : List ℕ) where
       let both : min (length (s ++ t)) (length l - at) ≡ n + m = omega (arith, length-append s t) in
       let front : take (at + n) after ≡ take at l ++ take n s = take-paste l at s n (omega arith) (omega arith) in
       let back : drop (at + n + m) after ≡ drop (at + (n + m)) l =
-      sym (drop-drop m (at + n) after) ∙ ap (drop m) (drop-paste l at s n (omega arith) (omega arith)) ∙ drop-drop m (at + n) l ∙ ap (λ (k : ℕ). drop k l) (add-assoc at n m) in
+      sym (drop-drop m (at + n) after) ∙ ap (drop m) (drop-paste l at s n (omega arith) (omega arith)) ∙ drop-drop m (at + n) l
+      ∙ ap (λ (k : ℕ). drop k l) (add-assoc at n m) in
       ap (λ (k : ℕ). paste (paste l at s k) (at + n) t (min (length t) (length (paste l at s k) - (at + n)))) whole
       ∙ ap (λ (k : ℕ). paste after (at + n) t (min (length t) (k - (at + n)))) kept
       ∙ ap (λ (f : List ℕ). f ++ take m t ++ drop (at + n + m) after) front
       ∙ ap (λ (b : List ℕ). take at l ++ take n s ++ take m t ++ b) back
-      ∙ ap (λ (b : List ℕ). b ++ drop (at + (n + m)) l) (append-assoc (take at l) (take n s) (take m t) ∙ ap (λ (b : List ℕ). take at l ++ b) (ap (λ (b : List ℕ). b ++ take m t) (take-all n s (omega arith)) ∙ sym (take-append-add s t m)))
+      ∙ ap (λ (b : List ℕ). b ++ drop (at + (n + m)) l)
+      (append-assoc (take at l) (take n s) (take m t)
+      ∙ ap (λ (b : List ℕ). take at l ++ b) (ap (λ (b : List ℕ). b ++ take m t) (take-all n s (omega arith)) ∙ sym (take-append-add s t m)))
       ∙ ap (paste l at (s ++ t)) (sym both)
 
   -- s does not fit, and nothing comes behind it
@@ -84,7 +88,8 @@ module _ (l : List ℕ) (at : ℕ) (s t : List ℕ) where
       let n = length l - at in
       let one : min (length s) n ≡ n = omega arith in
       let both : min (length (s ++ t)) n ≡ n = omega (arith, length-append s t) in
-      ap (paste l at s) one ∙ ap (λ (b : List ℕ). take at l ++ b ++ drop (at + n) l) (sym (take-append-le n s t (omega arith))) ∙ ap (paste l at (s ++ t)) (sym both)
+      ap (paste l at s) one ∙ ap (λ (b : List ℕ). take at l ++ b ++ drop (at + n) l) (sym (take-append-le n s t (omega arith)))
+      ∙ ap (paste l at (s ++ t)) (sym both)
 
   pub laid-append : laid (laid l at s) (laidEnd (length l) at (length s)) t ≡ laid l at (s ++ t)
   unfolding laidEnd

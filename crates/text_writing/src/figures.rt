@@ -60,7 +60,8 @@ fn last_digit(n: u64) -> u8
 
 // Lays a float with two decimals.
 pub fn lay_figure(text: &mut [u8], at: usize, x: f64) -> usize
-    ensures { λ r. ⌜ (r ≡ laidEnd (length (now (text .entry))) at (length (figureText (figureOf x)))) × (now (text .exit) ≡ laid (now (text .entry)) at (figureText (figureOf x))) ⌝ }
+    ensures { λ r. ⌜ (r ≡ laidEnd (length (now (text .entry))) at (length (figureText (figureOf x))))
+        × (now (text .exit) ≡ laid (now (text .entry)) at (figureText (figureOf x))) ⌝ }
 {
     let Figure::Is(negative, h) = hundredths(x) else {
         return lay(text, at, b"*");

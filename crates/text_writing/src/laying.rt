@@ -19,7 +19,8 @@ fn copy(text: &mut [u8], at: usize, s: &[u8], n: usize)
 
 // Lays a text at a place, as far as there is room, and answers where it ends: one place past the buffer's end where there was too little.
 pub fn lay(text: &mut [u8], at: usize, s: &[u8]) -> usize
-    ensures { λ r. ⌜ (r ≡ laidEnd (length (now (text .entry))) at (length (now (s .entry)))) × (now (text .exit) ≡ laid (now (text .entry)) at (now (s .entry))) ⌝ }
+    ensures { λ r. ⌜ (r ≡ laidEnd (length (now (text .entry))) at (length (now (s .entry))))
+        × (now (text .exit) ≡ laid (now (text .entry)) at (now (s .entry))) ⌝ }
 {
     let room = text.len();
     if room < at {
@@ -35,7 +36,8 @@ pub fn lay(text: &mut [u8], at: usize, s: &[u8]) -> usize
 
 // Lays a number in decimal, with no zero before it.
 pub fn lay_whole(text: &mut [u8], at: usize, n: u64) -> usize
-    ensures { λ r. ⌜ (r ≡ laidEnd (length (now (text .entry))) at (length (wholeText n))) × (now (text .exit) ≡ laid (now (text .entry)) at (wholeText n)) ⌝ }
+    ensures { λ r. ⌜ (r ≡ laidEnd (length (now (text .entry))) at (length (wholeText n)))
+        × (now (text .exit) ≡ laid (now (text .entry)) at (wholeText n)) ⌝ }
 {
     let mut digits = [0u8; 20];
     let k = io::decimal(n, &mut digits);

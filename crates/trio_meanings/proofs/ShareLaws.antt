@@ -23,7 +23,8 @@ use Rattle.floats.proofs.Bounds.{zero-not-below, within-whole, within-fraction,
 use Rattle.floats.proofs.Bounds.{within-ratio, above-fraction, positive-not-below}
 use Rattle.floats.proofs.Fractions.{le-fractions}
 use Rattle.floats.proofs.Whole.{zero-below}
-use Rattle.floats.proofs.Sums.{Term, AllTerms, Summed, summed-terms}
+use Rattle.floats.specs.Sums.{Term, AllTerms, Summed}
+use Rattle.floats.proofs.Sums.{summed-terms}
 use Rattle.floats.proofs.Quotients.{over-div}
 use Rattle.trio_family.specs.declared.pair.Pair.{Pair}
 use Rattle.trio_samples.specs.Samples.{upToEight, clusters, named, expectation, expectationTotal, clusterShare}
@@ -80,7 +81,7 @@ module _ (n : ℕ) (h : Pair) (c : ℕ) (used : c < upToEight n) where
   terms-length : length terms ≡ upToEight n
   terms-length = length-map (clusters n) (expectation h) ∙ numbers-length 0 (upToEight n)
 
-  total-sums : Summed 10 (lit≤ tt) 0 (nat 0) terms
+  total-sums : Summed 10 0 (nat 0) terms
   total-sums =
       summed-terms 10 (lit≤ tt) terms (omega (arith, terms-length)) (all-expected h 0 (upToEight n)) zero-not-below
       (within-whole (pos 0) 0 (lit≤ tt) (lit≤ tt)) (omega (arith, terms-length, used-few n))

@@ -26,7 +26,8 @@ scores c = c .before .before .args .s
 
 hom-lost : (c : tie.Joined1) → (leZ (keyOf (scores c .homref)) (keyOf (scores c .homalt)) && leZ (keyOf (scores c .het)) (keyOf (scores c .homalt))) ≡ false
 hom-lost c =
-    ⊎-elim (λ w. rw (sym (c .before .at-most .ensures) ∙ w .0 .taken, sym (w .1 .ensures) ∙ w .2 .left)) (λ w. rw (sym (c .before .at-most .ensures) ∙ w .left)) (c .if1 .came)
+    ⊎-elim (λ w. rw (sym (c .before .at-most .ensures) ∙ w .0 .taken, sym (w .1 .ensures) ∙ w .2 .left))
+    (λ w. rw (sym (c .before .at-most .ensures) ∙ w .left)) (c .if1 .came)
 
 at-most-requires-3 : tie.Need-at-most-requires-3
 at-most-requires-3 c κs = search needs

@@ -31,13 +31,19 @@ all-in-requires-3 c κs = search needs
 returns-2 : tie.Need-returns-2
 unfolding modelAllowed round ofInt ofBits
 returns-2 c =
-    rw (← c .before .before .before .before .before .before .all-in .ensures, not-false (c .before .before .before .before .before .before .all-in .result) (c .before .before .before .before .before .if1 .left))
+    rw (
+      ← c .before .before .before .before .before .before .all-in .ensures,
+      not-false (c .before .before .before .before .before .before .all-in .result) (c .before .before .before .before .before .if1 .left),
+    )
     (rw (← c .before .before .before .all-in2 .ensures, c .before .before .if2 .taken) (c .all-in3 .ensures))
 
 returns-3 : tie.Need-returns-3
 unfolding modelAllowed round ofInt ofBits
 returns-3 c =
-    rw (← c .before .before .before .before .all-in .ensures, not-false (c .before .before .before .before .all-in .result) (c .before .before .before .if1 .left))
+    rw (
+      ← c .before .before .before .before .all-in .ensures,
+      not-false (c .before .before .before .before .all-in .result) (c .before .before .before .if1 .left),
+    )
     (rw (← c .before .all-in2 .ensures, c .if2 .left))
 
 pub model-allowed-spec : {M : Type 1} → statement M

@@ -26,7 +26,12 @@ returns-3 : tie.Need-returns-3
 returns-3 c =
     let first = c .before .before .before .before .count-allowed in
     let second = c .before .before .count-allowed2 in
-    rw (← first .ensures, not-false (first .result) (c .before .before .before .if1 .left), ← second .ensures, not-false (second .result) (c .before .if2 .left)) (c .count-allowed3 .ensures)
+    rw (
+      ← first .ensures,
+      not-false (first .result) (c .before .before .before .if1 .left),
+      ← second .ensures,
+      not-false (second .result) (c .before .if2 .left),
+    ) (c .count-allowed3 .ensures)
 
 pub counts-allowed-spec : {M : Type 1} → statement M
 counts-allowed-spec = tie.close (tie.spec count-allowed-requires returns count-allowed-requires-2 returns-2 count-allowed-requires-3 returns-3)

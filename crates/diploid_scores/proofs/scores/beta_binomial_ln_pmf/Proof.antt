@@ -33,8 +33,15 @@ unfolding betaLnPmf
 returns c =
     let above = c .before .before .before in
     let start = above .before .before .before .before .before in
-    rw
-    (above .before .before .ln-gamma .ensures, above .before .ln-gamma2 .ensures, above .ln-gamma3 .ensures, c .before .before .ln-gamma4 .ensures, c .before .ln-gamma5 .ensures, c .ln-gamma6 .ensures, start .pre)
+    rw (
+      above .before .before .ln-gamma .ensures,
+      above .before .ln-gamma2 .ensures,
+      above .ln-gamma3 .ensures,
+      c .before .before .ln-gamma4 .ensures,
+      c .before .ln-gamma5 .ensures,
+      c .ln-gamma6 .ensures,
+      start .pre,
+    )
 
 pub beta-binomial-ln-pmf-spec : {M : Type 1} → statement M
 beta-binomial-ln-pmf-spec =

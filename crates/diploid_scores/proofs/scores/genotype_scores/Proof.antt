@@ -31,7 +31,8 @@ small-total c =
     let z = s .args .alt2 in
     let all : T (counts s) = subst T (sym (counts-good c)) tt in
     let alts = and-r (countAllowed x) (countAllowed y && countAllowed z) all in
-    total x y z (leb→le x 1000000 (and-l (countAllowed x) (countAllowed y && countAllowed z) all)) (leb→le y 1000000 (and-l (countAllowed y) (countAllowed z) alts)) (leb→le z 1000000 (and-r (countAllowed y) (countAllowed z) alts))
+    total x y z (leb→le x 1000000 (and-l (countAllowed x) (countAllowed y && countAllowed z) all))
+    (leb→le y 1000000 (and-l (countAllowed y) (countAllowed z) alts)) (leb→le z 1000000 (and-r (countAllowed y) (countAllowed z) alts))
   where
     total : (x y z : ℕ) → x ≤ 1000000 → y ≤ 1000000 → z ≤ 1000000 → x + y + z ≤ 3000000
     total x y z h k l = omega arith

@@ -42,8 +42,13 @@ array-read-ln-pmf-by-factorials-2 c = search needs
 ln-pmf-by-factorials-requires-2 : tie.Need-ln-pmf-by-factorials-requires-2
 ln-pmf-by-factorials-requires-2 c κs =
     let s = c .before .before .before .before in
-    let a = s .args in
-    (search needs, less-last (a .reference) (a .this) (a .other) (s .pre .0), s .pre .3, s .pre .2 ∙ ap fullLnFactorial (but-last (a .reference) (a .this)), c .before .before .full-ln-factorial .ensures)
+    let a = s .args in (
+      search needs,
+      less-last (a .reference) (a .this) (a .other) (s .pre .0),
+      s .pre .3,
+      s .pre .2 ∙ ap fullLnFactorial (but-last (a .reference) (a .this)),
+      c .before .before .full-ln-factorial .ensures,
+    )
 
 returns-2 : tie.Need-returns-2
 unfolding oneWay round ofInt ofBits

@@ -34,8 +34,13 @@ start c = c .before .before .before .before
 
 ln-pmf-by-factorials-requires : tie.Need-ln-pmf-by-factorials-requires
 ln-pmf-by-factorials-requires c κs =
-    let a = start c .args in
-    (search needs, start c .pre, c .before .before .full-ln-factorial .ensures, c .before .full-ln-factorial2 .ensures ∙ ap fullLnFactorial (but-first (a .reference) (a .alt1) (a .alt2)), c .full-ln-factorial3 .ensures)
+    let a = start c .args in (
+      search needs,
+      start c .pre,
+      c .before .before .full-ln-factorial .ensures,
+      c .before .full-ln-factorial2 .ensures ∙ ap fullLnFactorial (but-first (a .reference) (a .alt1) (a .alt2)),
+      c .full-ln-factorial3 .ensures,
+    )
 
 phased-het-requires : tie.Need-phased-het-requires
 phased-het-requires c κs = search needs
@@ -46,8 +51,13 @@ array-read-ln-pmf-by-factorials-2 c = search needs
 ln-pmf-by-factorials-requires-2 : tie.Need-ln-pmf-by-factorials-requires-2
 ln-pmf-by-factorials-requires-2 d κs =
     let c = d .before .before in
-    let a = start c .args in
-    (search needs, start c .pre, c .before .full-ln-factorial2 .ensures, c .before .before .full-ln-factorial .ensures ∙ ap fullLnFactorial (but-both (a .reference) (a .alt1) (a .alt2)), c .full-ln-factorial3 .ensures)
+    let a = start c .args in (
+      search needs,
+      start c .pre,
+      c .before .full-ln-factorial2 .ensures,
+      c .before .before .full-ln-factorial .ensures ∙ ap fullLnFactorial (but-both (a .reference) (a .alt1) (a .alt2)),
+      c .full-ln-factorial3 .ensures,
+    )
 
 with-prior-requires : tie.Need-with-prior-requires
 with-prior-requires c κs = search needs
@@ -62,8 +72,14 @@ returns : tie.Need-returns
 unfolding phasedScores round ofInt ofBits
 returns c =
     let hom = c .before .before .before in
-    rw
-    (c .before .before .with-prior .ensures, c .before .with-prior2 .ensures, c .with-prior3 .ensures, hom .before .before .ln-pmf-by-factorials .ensures, hom .before .phased-het .ensures, hom .ln-pmf-by-factorials2 .ensures)
+    rw (
+      c .before .before .with-prior .ensures,
+      c .before .with-prior2 .ensures,
+      c .with-prior3 .ensures,
+      hom .before .before .ln-pmf-by-factorials .ensures,
+      hom .before .phased-het .ensures,
+      hom .ln-pmf-by-factorials2 .ensures,
+    )
 
 pub phased-genotype-scores-spec : {M : Type 1} → statement M
 phased-genotype-scores-spec =

@@ -27,7 +27,8 @@ returns-3 : tie.Need-returns-3
 unfolding tableAllowed round ofInt ofBits
 returns-3 c =
     let n = length (c .before .before .before .before .before .before .args .table .now) in
-    rw (eq-eqb (n % 2) 0 (search needs), le-leb n 32 (search needs), sym (c .before .before .all-in .ensures) ∙ c .before .if3 .taken) (c .never-falling .ensures)
+    rw (eq-eqb (n % 2) 0 (search needs), le-leb n 32 (search needs), sym (c .before .before .all-in .ensures) ∙ c .before .if3 .taken)
+    (c .never-falling .ensures)
 
 returns-4 : tie.Need-returns-4
 unfolding tableAllowed round ofInt ofBits

@@ -27,10 +27,16 @@ shared-slice-read-result : tie.Need-shared-slice-read-result Inv-loop μ-loop
 shared-slice-read-result c = search needs
 
 returns-2 : tie.Need-returns-2 Inv-loop μ-loop
-returns-2 c = let start = c .before .before .before .before .before .args in sym (calibrated-under (start .table .now) (start .raw-gq) (search needs) (c .before .if2 .taken))
+returns-2 c =
+    let start = c .before .before .before .before .before .args in sym (calibrated-under (start .table .now) (start .raw-gq) (search needs)
+    (c .before .if2 .taken))
 
 loop-holds : tie.Need-loop-holds Inv-loop μ-loop
-loop-holds c = let start = c .before .before .before .before .args in (search needs, sym (calibrated-from (start .table .now) (start .raw-gq) (search needs) (c .if2 .left)))
+loop-holds c =
+    let start = c .before .before .before .before .args in (
+      search needs,
+      sym (calibrated-from (start .table .now) (start .raw-gq) (search needs) (c .if2 .left)),
+    )
 
 add-loop : tie.Need-add-loop Inv-loop μ-loop
 add-loop c = search needs
@@ -93,7 +99,12 @@ returns-3 : tie.Need-returns-3 Inv-loop μ-loop
 returns-3 c =
     let start = c .before .before .before .before .before .before .before .before .before .before .before .before .before .before .before .args in
     let now = c .before .before .before .before .before .before .before .before .before .before .loop in
-    rw (← now .inv .1, from-here (start .table .now) (start .raw-gq) (now .i) (search needs) (sym (c .before .before .before .before .before .before .in-range .ensures) ∙ c .before .before .before .before .before .if3 .taken)) (c .along .ensures)
+    rw (
+      ← now .inv .1,
+      from-here (start .table .now) (start .raw-gq) (now .i) (search needs)
+          (sym (c .before .before .before .before .before .before .in-range .ensures) ∙ c .before .before .before .before .before .if3 .taken),
+    )
+    (c .along .ensures)
 
 add-i : tie.Need-add-i Inv-loop μ-loop
 add-i c = search needs

@@ -36,7 +36,12 @@ sub-result c = rw (difference c) (sub-fits w32 (field c) 1023 (omega (arith, fie
 
 returns : tie.Need-returns
 returns c =
-    rw (toZ-ofZ w32 (toZ w32 (field c) -ℤ pos 1023) (sub-result c), difference c, normal-fields (c .args .x) (subst T (sym (c .good .0 .1)) tt) (c .pre) .exponent-is, exponent-field)
+    rw (
+      toZ-ofZ w32 (toZ w32 (field c) -ℤ pos 1023) (sub-result c),
+      difference c,
+      normal-fields (c .args .x) (subst T (sym (c .good .0 .1)) tt) (c .pre) .exponent-is,
+      exponent-field,
+    )
 
 pub exponent-of-spec : {M : Type 1} → statement M
 exponent-of-spec = tie.close (tie.spec float-to-bits-field cast-result sub-result returns)

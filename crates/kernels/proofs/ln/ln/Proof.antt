@@ -64,7 +64,8 @@ scaled c = arg (c .before) ⊗ fin false 1 (pos 54)
 
 scaled-normal : (c : tie.Then5) → Above 1022 (scaled c)
 unfolding ofBits
-scaled-normal c = scaled-up (arg (c .before)) (fits-above (arg (c .before)) (arg-fits (c .before)) (arg-positive (c .before))) (subst T (sym (c .if5 .taken)) tt)
+scaled-normal c =
+    scaled-up (arg (c .before)) (fits-above (arg (c .before)) (arg-fits (c .before)) (arg-positive (c .before))) (subst T (sym (c .if5 .taken)) tt)
 
 scaled-small : (c : tie.Then5) → natAbs (exponent (scaled c)) ≤ 1074
 scaled-small c = exponent-small (scaled c) (mul-fits binary64 (arg (c .before)) (fin false 1 (pos 54))) (scaled-normal c .is-positive)

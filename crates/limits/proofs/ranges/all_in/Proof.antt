@@ -45,8 +45,11 @@ loop-again : tie.Need-loop-again Inv-loop μ-loop
 loop-again c =
     let a = c .before .before .before .before .before .before .args in
     let s = c .before .before .before .before .loop in
-    let f = c .before .in-range in
-    (search needs, every-more (inRange (a .low) (a .high)) nan (a .xs .now) (s .i) (search needs) (sym (f .ensures) ∙ not-false (f .result) (c .if1 .left)) ∙ s .inv .1)
+    let f = c .before .in-range in (
+      search needs,
+      every-more (inRange (a .low) (a .high)) nan (a .xs .now) (s .i) (search needs)
+          (sym (f .ensures) ∙ not-false (f .result) (c .if1 .left)) ∙ s .inv .1,
+    )
 
 returns-2 : tie.Need-returns-2 Inv-loop μ-loop
 returns-2 c =

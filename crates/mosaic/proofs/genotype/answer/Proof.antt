@@ -23,7 +23,16 @@ quality-requires : tie.Need-quality-requires
 quality-requires c κs = search needs
 
 returns : tie.Need-returns
-returns c = rw (c .quality .ensures, c .before .ploidy .ensures, c .before .before .all-probabilities .ensures, c .before .before .before .flags .ensures, c .before .before .before .before .germline-alleles .ensures, c .before .before .before .before .before .before .list-alleles .ensures, listed (c .before .before .before .before .before .before .before .before .before .before .before .args .counts .now))
+returns c =
+    rw (
+      c .quality .ensures,
+      c .before .ploidy .ensures,
+      c .before .before .all-probabilities .ensures,
+      c .before .before .before .flags .ensures,
+      c .before .before .before .before .germline-alleles .ensures,
+      c .before .before .before .before .before .before .list-alleles .ensures,
+      listed (c .before .before .before .before .before .before .before .before .before .before .before .args .counts .now),
+    )
 
 pub answer-spec : {M : Type 1} → statement M
 answer-spec =

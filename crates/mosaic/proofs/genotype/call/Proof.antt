@@ -30,7 +30,11 @@ returns-2 c =
     let w = c .before .before .before .before in
     let a = w .before .before in
     let e : w .total .result ≡ totalOf (a .args .counts .now) = w .total .ensures ∙ total-allowed (a .args .counts .now) (a .pre .0) (a .pre .1) in
-    rw (← e, le-ltb (w .total .result) (a .args .params .depth) (c .before .before .if1 .left), eq-eqb (w .total .result) 0 (c .before .if2 .taken)) (c .blank-answer2 .ensures)
+    rw (
+      ← e,
+      le-ltb (w .total .result) (a .args .params .depth) (c .before .before .if1 .left),
+      eq-eqb (w .total .result) 0 (c .before .if2 .taken),
+    ) (c .blank-answer2 .ensures)
 
 choose-requires : tie.Need-choose-requires
 choose-requires c κs = search needs
@@ -44,7 +48,11 @@ returns-3 c =
     let w = c .before .before .before .before .before in
     let a = w .before .before in
     let e : w .total .result ≡ totalOf (a .args .counts .now) = w .total .ensures ∙ total-allowed (a .args .counts .now) (a .pre .0) (a .pre .1) in
-    rw (← e, le-ltb (w .total .result) (a .args .params .depth) (c .before .before .before .if1 .left), ne-eqb (w .total .result) 0 (c .before .before .if2 .left))
+    rw (
+      ← e,
+      le-ltb (w .total .result) (a .args .params .depth) (c .before .before .before .if1 .left),
+      ne-eqb (w .total .result) 0 (c .before .before .if2 .left),
+    )
     (rw (c .answer .ensures, c .before .choose .ensures, ← w .total .ensures, ne-eqb (w .total .result) 0 (c .before .before .if2 .left)))
 
 pub call-spec : {M : Type 1} → statement M

@@ -35,7 +35,9 @@ loop-again c = (search needs, rw (add-one, c .somatic .ensures, c .before .befor
 
 returns : tie.Need-returns Inv-loop μ-loop
 unfolding flagsOf
-returns c = let a = c .before .before .before .args in let e : c .before .loop .i ≡ length (a .counts .now) = omega arith in c .before .loop .inv .1 ∙ ap (flagsOver (a .counts .now) (a .g)) e
+returns c =
+    let a = c .before .before .before .args in let e : c .before .loop .i ≡ length (a .counts .now) = omega arith in c .before .loop .inv .1
+    ∙ ap (flagsOver (a .counts .now) (a .g)) e
 
 pub flags-spec : {M : Type 1} → statement M
 flags-spec =

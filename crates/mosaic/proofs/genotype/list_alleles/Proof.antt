@@ -19,7 +19,8 @@ loop-holds : tie.Need-loop-holds Inv-loop μ-loop
 loop-holds c = (search needs, refl)
 
 list-allele-requires : tie.Need-list-allele-requires Inv-loop μ-loop
-list-allele-requires c κs = (search needs, rw (c .before .loop .inv .1) (listed-low (c .before .before .before .args .counts .now) (c .before .loop .i) (search needs)))
+list-allele-requires c κs =
+    (search needs, rw (c .before .loop .inv .1) (listed-low (c .before .before .before .args .counts .now) (c .before .loop .i) (search needs)))
 
 add-i : tie.Need-add-i Inv-loop μ-loop
 add-i c = search needs

@@ -10,7 +10,8 @@ use Rattle.mosaic_candidates.proofs.likelihood.likelihood.Statement.{st
 use Rattle.mosaic_candidates.proofs.likelihood.likelihood.Tie as tie
 
 abbrev Inv-loop : tie.InvT-loop
-Inv-loop counts g of-total terms ln-share factorials sum₀ i₀ sum i = (i ≤ length counts) × (sum ≡ likelihoodByOver counts g of-total factorials terms ln-share i)
+Inv-loop counts g of-total terms ln-share factorials sum₀ i₀ sum i =
+    (i ≤ length counts) × (sum ≡ likelihoodByOver counts g of-total factorials terms ln-share i)
 
 abbrev μ-loop : tie.MeasureT-loop
 μ-loop counts g of-total terms ln-share factorials sum₀ i₀ sum i = length counts - i
@@ -47,7 +48,9 @@ loop-again c = (search needs, rw (add-one, c .gained .ensures, c .before .before
 
 returns : tie.Need-returns Inv-loop μ-loop
 unfolding likelihoodBy
-returns c = let a = c .before .before .before .args in let e : c .before .loop .i ≡ length (a .counts .now) = omega arith in c .before .loop .inv .1 ∙ ap (likelihoodByOver (a .counts .now) (a .g) (a .of-total) (a .t4) (a .terms) (a .ln-share)) e
+returns c =
+    let a = c .before .before .before .args in let e : c .before .loop .i ≡ length (a .counts .now) = omega arith in c .before .loop .inv .1
+    ∙ ap (likelihoodByOver (a .counts .now) (a .g) (a .of-total) (a .t4) (a .terms) (a .ln-share)) e
 
 pub likelihood-spec : {M : Type 1} → statement M
 likelihood-spec =

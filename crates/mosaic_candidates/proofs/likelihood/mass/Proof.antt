@@ -4,6 +4,7 @@ use Prim.Native.Nat.{_≤_, _-_}
 use lib.ListN.{length}
 use lib.Ieee.{ofInt, ofBits}
 use Rattle.mosaic_candidates.specs.Shares.{massOver}
+use Rattle.mosaic_candidates.proofs.ShareLaws.{mass-over}
 use borrow.Author.Needs.{needs}
 use native.Mathlib.Omega.{arith}
 use native.Mathlib.Numerals.{add-one}
@@ -42,7 +43,9 @@ loop-again : tie.Need-loop-again Inv-loop μ-loop
 loop-again c = (search needs, rw (add-one, c .gained .ensures, c .before .somatic .ensures, c .before .before .before .loop .inv .1))
 
 returns : tie.Need-returns Inv-loop μ-loop
-returns c = let a = c .before .before .before .args in let e : c .before .loop .i ≡ length (a .counts .now) = omega arith in c .before .loop .inv .1 ∙ ap (massOver (a .counts .now) (a .g) (a .t3)) e
+returns c =
+    let a = c .before .before .before .args in let e : c .before .loop .i ≡ length (a .counts .now) = omega arith in c .before .loop .inv .1
+    ∙ ap (massOver (a .counts .now) (a .g) (a .t3)) e ∙ mass-over (a .counts .now) (a .g) (a .t3)
 
 pub mass-spec : {M : Type 1} → statement M
 mass-spec =

@@ -17,7 +17,13 @@ ln-requires-2 c κs = search needs
 
 returns-2 : tie.Need-returns-2
 unfolding gainBy ofInt ofBits
-returns-2 c = rw (c .before .before .before .before .before .before .before .before .if1 .left, c .before .before .before .before .before .before .before .if2 .taken, c .before .before .before .before .before .before .ln .ensures, c .before .before .before .before .ln2 .ensures)
+returns-2 c =
+    rw (
+      c .before .before .before .before .before .before .before .before .if1 .left,
+      c .before .before .before .before .before .before .before .if2 .taken,
+      c .before .before .before .before .before .before .ln .ensures,
+      c .before .before .before .before .ln2 .ensures,
+    )
 
 returns-3 : tie.Need-returns-3
 unfolding gainBy ofInt ofBits

@@ -4,6 +4,7 @@ use Prim.Native.Nat.{_≤_, _-_}
 use lib.ListN.{length}
 use mathlib.Core.Logic.{⊎-elim}
 use Rattle.mosaic_candidates.specs.Shares.{anyOver}
+use Rattle.mosaic_candidates.proofs.ShareLaws.{any-over}
 use borrow.Author.Needs.{needs}
 use native.Mathlib.Omega.{arith}
 use native.Mathlib.Numerals.{add-one}
@@ -29,10 +30,16 @@ loop-less : tie.Need-loop-less Inv-loop μ-loop
 loop-less c = search needs
 
 loop-again : tie.Need-loop-again Inv-loop μ-loop
-loop-again c = (search needs, rw (add-one, ← c .before .before .loop .inv .1) (⊎-elim (λ w. rw (w .0 .taken) (w .1 ∙ w .0 .taken)) (λ w. rw (w .0 .left) (w .2 ∙ w .1 .ensures)) (c .if1 .came)))
+loop-again c = (
+  search needs,
+  rw (add-one, ← c .before .before .loop .inv .1)
+      (⊎-elim (λ w. rw (w .0 .taken) (w .1 ∙ w .0 .taken)) (λ w. rw (w .0 .left) (w .2 ∙ w .1 .ensures)) (c .if1 .came)),
+)
 
 returns : tie.Need-returns Inv-loop μ-loop
-returns c = let a = c .before .before .before .args in let e : c .before .loop .i ≡ length (a .counts .now) = omega arith in c .before .loop .inv .1 ∙ ap (anyOver (a .counts .now) (a .g)) e
+returns c =
+    let a = c .before .before .before .args in let e : c .before .loop .i ≡ length (a .counts .now) = omega arith in c .before .loop .inv .1
+    ∙ ap (anyOver (a .counts .now) (a .g)) e ∙ any-over (a .counts .now) (a .g)
 
 pub any-somatic-spec : {M : Type 1} → statement M
 any-somatic-spec =

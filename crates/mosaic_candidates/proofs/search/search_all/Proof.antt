@@ -15,7 +15,12 @@ prior-here-requires c κs = search needs
 
 returns : tie.Need-returns
 unfolding progressFound
-returns c = rw (c .before .prior-here .ensures, c .before .before .before .before .search-vafs .ensures, c .before .before .before .before .before .start .ensures)
+returns c =
+    rw (
+      c .before .prior-here .ensures,
+      c .before .before .before .before .search-vafs .ensures,
+      c .before .before .before .before .before .start .ensures,
+    )
 
 pub search-all-spec : {M : Type 1} → statement M
 search-all-spec = tie.close (tie.spec start-requires search-vafs-requires prior-here-requires returns)

@@ -33,7 +33,9 @@ loop-again c = (search needs, rw (add-one, c .offer-allele .ensures, c .before .
 
 returns : tie.Need-returns Inv-loop μ-loop
 unfolding progressAll
-returns c = let a = c .before .before .before .args in let e : c .before .loop .i ≡ length (a .counts .now) = omega arith in c .before .loop .inv .1 ∙ ap (over (progressOffered (a .counts .now) (a .g) (a .shared)) (a .kept)) e
+returns c =
+    let a = c .before .before .before .args in let e : c .before .loop .i ≡ length (a .counts .now) = omega arith in c .before .loop .inv .1
+    ∙ ap (over (progressOffered (a .counts .now) (a .g) (a .shared)) (a .kept)) e
 
 pub search-vafs-spec : {M : Type 1} → statement M
 search-vafs-spec =

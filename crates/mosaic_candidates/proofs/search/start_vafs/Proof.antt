@@ -44,7 +44,9 @@ loop-again c = (search needs, rw (add-one, c .pick .ensures, c .before .somatic 
 
 returns : tie.Need-returns Inv-loop μ-loop
 unfolding startVafs
-returns c = let a = c .before .before .before .args in let e : c .before .loop .i ≡ length (a .counts .now) = omega arith in c .before .loop .inv .1 ∙ ap (startOver (a .counts .now) (a .g)) e
+returns c =
+    let a = c .before .before .before .args in let e : c .before .loop .i ≡ length (a .counts .now) = omega arith in c .before .loop .inv .1
+    ∙ ap (startOver (a .counts .now) (a .g)) e
 
 pub start-vafs-spec : {M : Type 1} → statement M
 start-vafs-spec =

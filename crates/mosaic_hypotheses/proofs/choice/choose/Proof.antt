@@ -37,7 +37,8 @@ returns-2 c =
     let left = c .before .before .if1 .left in
     let h = few-counts (w .before .before .args .counts .now) (λ e. left (w .total .ensures ∙ e)) in
     rw (← w .total .ensures, ne-eqb (w .total .result) 0 left)
-    (rw (c .choose-at .ensures, c .before .shared-of .ensures, w .total .ensures, h .whole) (chosen-by (w .before .before .args .params) (w .before .before .args .counts .now) (h .few)))
+    (rw (c .choose-at .ensures, c .before .shared-of .ensures, w .total .ensures, h .whole)
+    (chosen-by (w .before .before .args .params) (w .before .before .args .counts .now) (h .few)))
 
 pub choose-spec : {M : Type 1} → statement M
 choose-spec =

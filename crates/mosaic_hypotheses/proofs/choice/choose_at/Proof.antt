@@ -18,13 +18,15 @@ best-place-requires c κs = search needs
 mul-pair : tie.Need-mul-pair
 mul-pair c =
     let scan = c .before .before .before .scan-all .result in
-    let b : c .best-place .result ≤ 35 = rw (c .best-place .ensures) (winner-low (scan .posteriors) (upToThirtySix (scan .count)) 35 (in-use-low (scan .count))) in
+    let b : c .best-place .result ≤ 35 = rw (c .best-place .ensures)
+    (winner-low (scan .posteriors) (upToThirtySix (scan .count)) 35 (in-use-low (scan .count))) in
     omega arith
 
 array-copy-out-pair : tie.Need-array-copy-out-pair
 array-copy-out-pair c =
     let scan = c .before .before .before .scan-all .result in
-    let b : c .best-place .result ≤ 35 = rw (c .best-place .ensures) (winner-low (scan .posteriors) (upToThirtySix (scan .count)) 35 (in-use-low (scan .count))) in
+    let b : c .best-place .result ≤ 35 = rw (c .best-place .ensures)
+    (winner-low (scan .posteriors) (upToThirtySix (scan .count)) 35 (in-use-low (scan .count))) in
     omega arith
 
 find-requires : tie.Need-find-requires

@@ -1,4 +1,5 @@
--- `mosaic_hypotheses::scan::scan_all` meets its contract. The loop's invariant: the two tables are the list of pairs, and the first `t` pairs have been looked at.
+-- `mosaic_hypotheses::scan::scan_all` meets its contract. The loop's invariant: the two tables are the list of pairs, and the first `t`
+-- pairs have been looked at.
 -- Assumes nothing.
 use mathlib.Core.Path.{_≡_, refl, ap, _∙_}
 use mathlib.Core.Logic.{⊎-elim}
@@ -18,7 +19,8 @@ use Rattle.mosaic_hypotheses.proofs.scan.scan_all.Tie as tie
 
 abbrev Inv-loop : tie.InvT-loop
 Inv-loop counts shared firsts seconds scan₀ t₀ scan t =
-    (t ≤ 36) × (scan .count ≤ t) × (scan ≡ scanOver counts shared t) × ((i : ℕ) → twoAlleles (getD firsts i 0) (getD seconds i 0) ≡ getD allPairs i (twoAlleles 0 0))
+    (t ≤ 36) × (scan .count ≤ t) × (scan ≡ scanOver counts shared t)
+    × ((i : ℕ) → twoAlleles (getD firsts i 0) (getD seconds i 0) ≡ getD allPairs i (twoAlleles 0 0))
 
 abbrev μ-loop : tie.MeasureT-loop
 μ-loop counts shared firsts seconds scan₀ t₀ scan t = 36 - t
@@ -66,7 +68,9 @@ loop-again c =
 
 returns : tie.Need-returns Inv-loop μ-loop
 unfolding scannedBy
-returns c = let a = c .before .before .before .args in let e : c .before .loop .t ≡ 36 = omega arith in c .before .loop .inv .2 ∙ ap (scanOver (a .counts .now) (a .shared)) e
+returns c =
+    let a = c .before .before .before .args in let e : c .before .loop .t ≡ 36 = omega arith in c .before .loop .inv .2
+    ∙ ap (scanOver (a .counts .now) (a .shared)) e
 
 pub scan-all-spec : {M : Type 1} → statement M
 scan-all-spec =

@@ -18,14 +18,26 @@ in-range-requires-2 c κs = search needs
 
 returns-2 : tie.Need-returns-2
 unfolding paramsAllowed round ofInt ofBits
-returns-2 c = rw (← c .before .before .before .in-range .ensures, not-false (c .before .before .before .in-range .result) (c .before .before .if1 .left), ← c .before .in-range2 .ensures, not-true (c .before .in-range2 .result) (c .if2 .taken))
+returns-2 c =
+    rw (
+      ← c .before .before .before .in-range .ensures,
+      not-false (c .before .before .before .in-range .result) (c .before .before .if1 .left),
+      ← c .before .in-range2 .ensures,
+      not-true (c .before .in-range2 .result) (c .if2 .taken),
+    )
 
 in-range-requires-3 : tie.Need-in-range-requires-3
 in-range-requires-3 c κs = search needs
 
 returns-3 : tie.Need-returns-3
 unfolding paramsAllowed round ofInt ofBits
-returns-3 c = rw (← c .before .before .before .before .in-range .ensures, not-false (c .before .before .before .before .in-range .result) (c .before .before .before .if1 .left), ← c .before .before .in-range2 .ensures, not-false (c .before .before .in-range2 .result) (c .before .if2 .left)) (c .in-range3 .ensures)
+returns-3 c =
+    rw (
+      ← c .before .before .before .before .in-range .ensures,
+      not-false (c .before .before .before .before .in-range .result) (c .before .before .before .if1 .left),
+      ← c .before .before .in-range2 .ensures,
+      not-false (c .before .before .in-range2 .result) (c .before .if2 .left),
+    ) (c .in-range3 .ensures)
 
 pub params-allowed-spec : {M : Type 1} → statement M
 params-allowed-spec =

@@ -36,8 +36,11 @@ loop-less c = search needs
 loop-again : tie.Need-loop-again Inv-loop μ-loop
 loop-again c =
     let i = c .before .before .loop .i in
-    let best = c .before .before .before .args .best in
-    (search needs, rw (add-one, ← c .before .before .loop .inv .1) (⊎-elim (λ w. rw (ne-eqb i best (w .0 .taken)) (w .1)) (λ w. rw (eq-eqb i best (w .0 .left)) (w .1)) (c .if1 .came)))
+    let best = c .before .before .before .args .best in (
+      search needs,
+      rw (add-one, ← c .before .before .loop .inv .1)
+          (⊎-elim (λ w. rw (ne-eqb i best (w .0 .taken)) (w .1)) (λ w. rw (eq-eqb i best (w .0 .left)) (w .1)) (c .if1 .came)),
+    )
 
 returns : tie.Need-returns Inv-loop μ-loop
 returns c = let a = c .before .before .args in let e : c .before .loop .i ≡ a .n = omega arith in c .before .loop .inv .1 ∙ ap (wrongOf (a .t1) (a .best)) e

@@ -47,7 +47,12 @@ loop-less c = search needs
 
 loop-again : tie.Need-loop-again Inv-loop μ-loop
 unfolding winningPlace
-loop-again c = (search needs, search needs, rw (add-one, ← c .before .before .before .loop .inv .2, ← c .before .at-most .ensures) (⊎-elim (λ w. rw (w .0 .taken) (w .1)) (λ w. rw (w .0 .left) (w .1)) (c .if1 .came)))
+loop-again c = (
+  search needs,
+  search needs,
+  rw (add-one, ← c .before .before .before .loop .inv .2, ← c .before .at-most .ensures)
+      (⊎-elim (λ w. rw (w .0 .taken) (w .1)) (λ w. rw (w .0 .left) (w .1)) (c .if1 .came)),
+)
 
 returns : tie.Need-returns Inv-loop μ-loop
 returns c =

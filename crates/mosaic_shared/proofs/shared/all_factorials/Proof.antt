@@ -42,7 +42,9 @@ loop-again c = (search needs, rw (add-one, c .ln-factorial .ensures, c .before .
 
 returns : tie.Need-returns Inv-loop μ-loop
 unfolding factorialsOf
-returns c = let a = c .before .before .before .args in let e : c .before .loop .i ≡ 8 = omega arith in c .before .loop .inv .1 ∙ ap (factorialsOver (a .counts .now)) e
+returns c =
+    let a = c .before .before .before .args in let e : c .before .loop .i ≡ 8 = omega arith in c .before .loop .inv .1
+    ∙ ap (factorialsOver (a .counts .now)) e
 
 pub all-factorials-spec : {M : Type 1} → statement M
 all-factorials-spec =

@@ -46,7 +46,9 @@ loop-again c = (search needs, rw (add-one, c .before .count .ensures, c .before 
 
 returns : tie.Need-returns Inv-loop μ-loop
 unfolding startsOf
-returns c = let a = c .before .before .before .before .args in let e : c .before .loop .i ≡ 8 = omega arith in c .before .loop .inv .1 ∙ ap (startsOver (a .counts .now)) e
+returns c =
+    let a = c .before .before .before .before .args in let e : c .before .loop .i ≡ 8 = omega arith in c .before .loop .inv .1
+    ∙ ap (startsOver (a .counts .now)) e
 
 pub all-starts-spec : {M : Type 1} → statement M
 all-starts-spec =

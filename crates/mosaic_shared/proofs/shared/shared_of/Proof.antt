@@ -27,7 +27,15 @@ for-two-requires c κs = search needs
 
 returns : tie.Need-returns
 unfolding sharedOf
-returns c = rw (c .for-two .ensures, c .before .for-one .ensures, c .before .before .ln-factorial .ensures, c .before .before .before .before .density-of .ensures, c .before .before .before .before .before .all-starts .ensures, c .before .before .before .before .before .before .all-factorials .ensures)
+returns c =
+    rw (
+      c .for-two .ensures,
+      c .before .for-one .ensures,
+      c .before .before .ln-factorial .ensures,
+      c .before .before .before .before .density-of .ensures,
+      c .before .before .before .before .before .all-starts .ensures,
+      c .before .before .before .before .before .before .all-factorials .ensures,
+    )
 
 pub shared-of-spec : {M : Type 1} → statement M
 shared-of-spec =

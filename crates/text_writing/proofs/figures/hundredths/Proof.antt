@@ -12,7 +12,9 @@ bits-requires : tie.Need-bits-requires
 bits-requires c κs = search needs
 
 returns : tie.Need-returns
-returns c = sym (figure-high (c .before .before .args .x) (subst T (sym (c .before .before .good .0 .1)) tt) (c .before .bits .result) (c .before .bits .ensures) _ refl (c .if1 .taken))
+returns c =
+    sym (figure-high (c .before .before .args .x) (subst T (sym (c .before .before .good .0 .1)) tt) (c .before .bits .result)
+    (c .before .bits .ensures) _ refl (c .if1 .taken))
 
 scaled-requires : tie.Need-scaled-requires
 scaled-requires c κs = search needs
@@ -21,7 +23,8 @@ returns-2 : tie.Need-returns-2
 returns-2 c =
     let s = c .before .before .before .before in
     let b = c .before .before .before .bits in
-    ap (Is (leb (2 ^ 63) (b .result))) (c .scaled .ensures) ∙ sym (figure-none (s .args .x) (subst T (sym (s .good .0 .1)) tt) (b .result) (b .ensures) (c .before .if2 .taken))
+    ap (Is (leb (2 ^ 63) (b .result))) (c .scaled .ensures)
+    ∙ sym (figure-none (s .args .x) (subst T (sym (s .good .0 .1)) tt) (b .result) (b .ensures) (c .before .if2 .taken))
 
 add-scaled : tie.Need-add-scaled
 add-scaled c = search needs

@@ -45,7 +45,10 @@ array-share-prefix-minus : tie.Need-array-share-prefix-minus
 array-share-prefix-minus c = sign-short (c .before .before .before .negative .given .0 .0) (c .before .sign-length .result) (c .before .sign-length .ensures)
 
 slice-aggregate-lay-2 : tie.Need-slice-aggregate-lay-2
-slice-aggregate-lay-2 c = sym (length-take-le (c .before .before .sign-length .result) (45 ∷ []) (sign-short (c .before .before .before .before .negative .given .0 .0) (c .before .before .sign-length .result) (c .before .before .sign-length .ensures)))
+slice-aggregate-lay-2 c =
+    sym (length-take-le (c .before .before .sign-length .result) (45 ∷ [])
+    (sign-short (c .before .before .before .before .negative .given .0 .0) (c .before .before .sign-length .result)
+    (c .before .before .sign-length .ensures)))
 
 lay-requires-2 : tie.Need-lay-requires-2
 lay-requires-2 c κs = search needs
@@ -72,12 +75,19 @@ returns-2 : tie.Need-returns-2
 returns-2 c =
     let a = c .before .before .before .before .before .before .before .before .before .before .before .before .before .before .before .before .before .before .before .before .before .before .args in
     let f = c .before .before .before .before .before .before .before .before .before .before .before .before .before .before .before .before .before .before .negative .given in
-    let first : Laid (a .text .now) (a .at) (take (c .before .before .before .before .before .before .before .before .before .before .before .before .before .before .before .before .sign-length .result) (45 ∷ [])) (c .before .before .before .before .before .before .before .before .before .before .before .before .before .lay2 .result) (c .before .before .before .before .before .before .before .before .before .before .before .before .before .lay2 .last .0) =
-    record { ends = c .before .before .before .before .before .before .before .before .before .before .before .before .before .lay2 .ensures .0; gives = c .before .before .before .before .before .before .before .before .before .before .before .before .before .lay2 .ensures .1 } in
-    let second = behind-it (wholeText (f .0 .1 .0 / 100)) first (c .before .before .before .before .before .before .before .before .before .lay-whole .ensures .0) (c .before .before .before .before .before .before .before .before .before .lay-whole .ensures .1) in
+    let first : Laid (a .text .now) (a .at)
+    (take (c .before .before .before .before .before .before .before .before .before .before .before .before .before .before .before .before .sign-length .result) (45 ∷ [])) (c .before .before .before .before .before .before .before .before .before .before .before .before .before .lay2 .result) (c .before .before .before .before .before .before .before .before .before .before .before .before .before .lay2 .last .0) =
+    record {
+      ends = c .before .before .before .before .before .before .before .before .before .before .before .before .before .lay2 .ensures .0;
+      gives = c .before .before .before .before .before .before .before .before .before .before .before .before .before .lay2 .ensures .1;
+    } in
+    let second = behind-it (wholeText (f .0 .1 .0 / 100)) first
+    (c .before .before .before .before .before .before .before .before .before .lay-whole .ensures .0)
+    (c .before .before .before .before .before .before .before .before .before .lay-whole .ensures .1) in
     let all = behind-it (46 ∷ c .before .before .before .before .before .before .last-digit .result ∷ c .before .before .before .before .before .last-digit2 .result ∷ []) second (c .before .before .lay3 .ensures .0) (c .before .before .lay3 .ensures .1) in
     let text =
-    figure-text (f .0 .0) (f .0 .1 .0) (c .before .before .before .before .before .before .before .before .before .before .before .before .before .before .before .before .sign-length .result) (c .before .before .before .before .before .before .last-digit .result) (c .before .before .before .before .before .last-digit2 .result) (c .before .before .before .before .before .before .before .before .before .before .before .before .before .before .before .before .sign-length .ensures) (c .before .before .before .before .before .before .last-digit .ensures) (c .before .before .before .before .before .last-digit2 .ensures)
+    figure-text (f .0 .0) (f .0 .1 .0)
+    (c .before .before .before .before .before .before .before .before .before .before .before .before .before .before .before .before .sign-length .result) (c .before .before .before .before .before .before .last-digit .result) (c .before .before .before .before .before .last-digit2 .result) (c .before .before .before .before .before .before .before .before .before .before .before .before .before .before .before .before .sign-length .ensures) (c .before .before .before .before .before .before .last-digit .ensures) (c .before .before .before .before .before .last-digit2 .ensures)
     ∙ ap figureText (sym (f .1) ∙ c .before .before .before .before .before .before .before .before .before .before .before .before .before .before .before .before .before .before .before .before .hundredths .ensures) in
     (all .ends ∙ ap (λ (t : List ℕ). laidEnd (length (a .text .now)) (a .at) (length t)) text, all .gives ∙ ap (laid (a .text .now) (a .at)) text)
 

@@ -17,7 +17,9 @@ abbrev μ-loop : tie.MeasureT-loop
 μ-loop text₀ at s n i₀ text i = n - i
 
 kept : (c : tie.At-loop Inv-loop μ-loop) → length (c .loop .text) ≡ length (c .before .args .text .now)
-kept c = ap length (c .loop .inv .1) ∙ length-paste (c .before .args .text .now) (c .before .args .at) (c .before .args .s .now) (c .loop .i) (omega arith) (omega arith)
+kept c =
+    ap length (c .loop .inv .1) ∙ length-paste (c .before .args .text .now) (c .before .args .at) (c .before .args .s .now) (c .loop .i)
+    (omega arith) (omega arith)
 
 loop-holds : tie.Need-loop-holds Inv-loop μ-loop
 loop-holds c = (search needs, paste-zero (c .args .text .now) (c .args .at) (c .args .s .now))

@@ -28,7 +28,8 @@ returns : tie.Need-returns
 returns c =
     let a = c .before .before .before .before .before .before .before .before .args in
     let d = c .before .before .before .before .before .decimal .ensures in
-    let text = d .1 .1 ∙ whole-text (c .before .before .before .before .before .decimal .result) (a .n) (c .before .before .before .before .before .before .before .before .fits .n .fits) (d .1 .0) in
+    let text = d .1 .1 ∙ whole-text (c .before .before .before .before .before .decimal .result) (a .n)
+    (c .before .before .before .before .before .before .before .before .fits .n .fits) (d .1 .0) in
     let laid-so = c .before .before .lay .ensures in
     (laid-so .0 ∙ ap (λ (l : List ℕ). laidEnd (length (a .text .now)) (a .at) (length l)) text, laid-so .1 ∙ ap (laid (a .text .now) (a .at)) text)
 
