@@ -1,6 +1,6 @@
--- Lists that the rules of several crates are said over. Definitions only (RULES.md, T1 to T3, T8, M1, M7, M8).
+-- Lists that the rules of several crates are said over. Definitions only (RULES.md, T1 to T3, T8, T9, M1, M7, M8).
 use Prim.Native.Nat.{ℕ, zero, suc, _-_}
-use mathlib.Core.Bool.{Bool, not, cond}
+use mathlib.Core.Bool.{Bool, true, false, not, cond}
 use mathlib.Core.List.{List, [], _∷_, _++_}
 use lib.ListN.{length, replicate}
 
@@ -13,6 +13,11 @@ numbers i (suc n) = i ∷ numbers (suc i) n
 abbrev pub passing : {A : Type 0} → (A → Bool) → List A → List A
 passing t [] = []
 passing t (x ∷ l) = cond (t x) (x ∷ passing t l) (passing t l)
+
+-- T9, M1: there is a member
+abbrev pub someIn : {A : Type 0} → List A → Bool
+someIn [] = false
+someIn (x ∷ l) = true
 
 -- T3, T8: each member of a list once: of those that a test calls the same the first stays
 abbrev pub distinctBy : {A : Type 0} → (A → A → Bool) → List A → List A

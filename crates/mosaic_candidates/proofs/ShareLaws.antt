@@ -8,12 +8,12 @@ use native.Mathlib.Omega.{arith}
 use lib.ListN.{length}
 use lib.Ieee.{Float}
 use Rattle.floats.specs.F64.{_⊕_, nat, sumFrom}
-use Rattle.lists.specs.Lists.{numbers, passing}
+use Rattle.lists.specs.Lists.{numbers, passing, someIn}
 use Rattle.lists.specs.Over.{over}
 use Rattle.lists.proofs.PassingLaws.{front, passing-append}
 use Rattle.mosaic_alleles.specs.Alleles.{somaticIn}
 use Rattle.mosaic_alleles.specs.declared.pair.GermlinePair.{GermlinePair}
-use Rattle.mosaic_candidates.specs.Shares.{vafAt, someIn, anyOver, anySomatic, massOver, massOf}
+use Rattle.mosaic_candidates.specs.Shares.{vafAt, anyOver, anySomatic, massOver, massOf}
 
 -- ---- one more number
 

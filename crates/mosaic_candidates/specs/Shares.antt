@@ -2,22 +2,19 @@
 -- (RULES.md, M1, M3, M5).
 use Prim.Native.Nat.{ℕ}
 use mathlib.Core.Bool.{Bool, true, false, _||_, cond}
-use mathlib.Core.List.{List, [], _∷_, map}
+use mathlib.Core.List.{List, map}
 use lib.ListN.{length, getD, replicate}
 use lib.Ieee.{Float, nan, inf, lt, le}
 use Rattle.floats.specs.F64.{_⊕_, _⊖_, _⊗_, _⊘_, nat, decimal, sumFrom}
 use Rattle.kernels.specs.Ln.{lnOf}
 use Rattle.floats.specs.MaxMin.{larger}
+use Rattle.lists.specs.Lists.{someIn}
 use Rattle.lists.specs.Over.{over, placed}
 use Rattle.mosaic_alleles.specs.Alleles.{somaticIn, somaticAlleles, alone}
 use Rattle.mosaic_alleles.specs.declared.pair.GermlinePair.{GermlinePair}
 use Rattle.mosaic_shared.specs.declared.priors.Density.{Density}
 
--- M1, M5: whether a list has a member; whether there is a somatic allele
-abbrev pub someIn : List ℕ → Bool
-someIn [] = false
-someIn (i ∷ l) = true
-
+-- M1, M5: whether there is a somatic allele
 abbrev pub anySomatic : List ℕ → GermlinePair → Bool
 anySomatic counts g = someIn (somaticAlleles counts g)
 
