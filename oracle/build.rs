@@ -3,15 +3,18 @@
 use std::path::{Path, PathBuf};
 use std::{env, fs};
 
-/// Where kanpig's files are looked for unless KANPIG_SRC says otherwise, seen from the repository's folder.
-const DEFAULT_SOURCE: &str = "../shared/docs/src/src/kplib";
+/// The port, as oracle/run has it built.
+const LIBRARIES: [&str; 4] = ["kernel_exports", "diploid_export", "trio_export", "mosaic_export"];
+
+/// Where kanpig's files are looked for unless KANPIG_SRC says otherwise, seen from the repository's folder. It is no part of the repository.
+const DEFAULT_SOURCE: &str = "oracle/kanpig";
 
 /// A file of kanpig's.
 struct Source {
     name: &'static str,
     /// The `use`s that are left out.
     crates: &'static [&'static str],
-    /// Names and what they become; src/kanpig.rs, src/trio_kanpig.rs and src/kanpig_mosaic.rs have what stands behind the new ones.
+    /// Names and what they become; src/kernels/bound.rs has what stands behind the new ones.
     renamed: &'static [(&'static str, &'static str)],
 }
 
@@ -73,7 +76,7 @@ fn main() {
     let repository = here.join("..");
     let folder = repository.join("target/staticlib");
     println!("cargo:rustc-link-search=native={}", folder.display());
-    for library in ["kernel_exports", "diploid_export", "trio_export", "mosaic_export"] {
+    for library in LIBRARIES {
         println!("cargo:rustc-link-lib=static={library}");
         println!("cargo:rerun-if-changed={}", folder.join(format!("lib{library}.a")).display());
     }

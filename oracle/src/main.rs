@@ -1,59 +1,104 @@
-//! The comparison of the port with plain Rust. `oracle/run` builds and starts it, in the repository's folder.
-mod asked;
-mod bench;
-mod cases;
-mod changes;
-mod compare;
-mod desks;
-mod diploid;
-mod diploid_cases;
-mod diploid_inputs;
-mod distances;
-mod flushed;
-mod forged;
-mod fuzz;
-mod histories;
-mod inputs;
-mod kanpig;
-mod kanpig_mosaic;
-mod kernels;
-mod limits;
-mod mosaic;
-mod mosaic_cases;
-mod mosaic_inputs;
-mod mosaic_limits;
-mod mosaic_walks;
-mod pairs;
-mod part;
-mod port;
-mod site_cases;
-mod step_cases;
-mod tail_changes;
-mod tail_inputs;
-mod tally;
-mod threads;
-mod trio;
-mod trio_cases;
-mod trio_compare;
-mod trio_distances;
-mod trio_inputs;
-mod trio_kanpig;
-mod trio_limits;
-mod trio_words;
+//! The comparison of the port with plain Rust. `oracle/run` builds and starts it, in the repository's folder. Each folder stands on those before it
+//! alone; diploid, trio and mosaic do not know one another.
 
+/// What everybody uses.
+mod floor {
+    pub mod compared;
+    pub mod exchange;
+    pub mod floats;
+    pub mod panics;
+    pub mod random;
+    pub mod source;
+    pub mod tally;
+    pub mod threads;
+}
+
+mod kernels {
+    pub mod bound;
+    pub mod cases;
+    pub mod compare;
+    pub mod flushed;
+    pub mod inputs;
+    pub mod pairs;
+    pub mod plain;
+    pub mod port;
+    pub mod tail;
+}
+
+mod diploid {
+    pub mod cases;
+    pub mod compare;
+    pub mod distances;
+    pub mod inputs;
+    pub mod kanpig;
+    pub mod limits;
+    pub mod port;
+    pub mod types;
+}
+
+mod trio {
+    pub mod cases;
+    pub mod compare;
+    pub mod desks;
+    pub mod distances;
+    pub mod forged;
+    pub mod histories;
+    pub mod inputs;
+    pub mod kanpig;
+    pub mod limits;
+    pub mod part;
+    pub mod pass;
+    pub mod port;
+    pub mod steps;
+    pub mod types;
+    pub mod words;
+}
+
+mod mosaic {
+    pub mod cases;
+    pub mod compare;
+    pub mod inputs;
+    pub mod kanpig;
+    pub mod limits;
+    pub mod port;
+    pub mod types;
+    pub mod walks;
+}
+
+/// What is for `vectors` and `calls` alone.
+mod programs {
+    pub mod calls;
+    pub mod fuzz;
+    pub mod sites;
+    pub mod spellings;
+    pub mod vectors;
+}
+
+/// What takes several genotypers together.
+mod tasks {
+    pub mod bench;
+    pub mod changes;
+    pub mod compare;
+    pub mod limits;
+    pub mod tails;
+}
+
+use floor::source;
+use programs::{calls, fuzz, vectors};
 use std::process::ExitCode;
+use tasks::{bench, changes, compare, limits, tails};
 
 fn main() -> ExitCode {
     let task = std::env::args().nth(1).unwrap_or_default();
-    if !kanpig::FOUND && ["cases", "changes", "distances", "limits", "walks"].contains(&task.as_str()) {
-        eprintln!("{}", kanpig::NOT_FOUND);
+    if !source::FOUND && ["cases", "changes", "distances", "limits", "walks"].contains(&task.as_str()) {
+        eprintln!("{}", source::NOT_FOUND);
         return ExitCode::FAILURE;
     }
     match task.as_str() {
         "compare" if compare::run() => {}
         "compare" => return ExitCode::FAILURE,
         "cases" => {
-            if let Err(error) = cases::write().and_then(|()| site_cases::write()) {
+            if let Err(error) = vectors::write().and_then(|()| calls::write()) {
                 eprintln!("the cases were not written: {error}");
                 return ExitCode::FAILURE;
             }
@@ -62,17 +107,17 @@ fn main() -> ExitCode {
         "changes" => {
             changes::run();
             println!();
-            tail_changes::run();
+            tails::run();
         }
         "distances" => {
-            distances::run();
-            trio_distances::run();
+            diploid::distances::run();
+            trio::distances::run();
         }
         "fuzz" if fuzz::run(std::env::args().nth(2).and_then(|n| n.parse().ok())) => {}
         "fuzz" => return ExitCode::FAILURE,
         "limits" => limits::run(),
-        "pairs" => pairs::run(),
-        "walks" => mosaic_walks::run(),
+        "pairs" => kernels::pairs::run(),
+        "walks" => mosaic::walks::run(),
         _ => {
             eprintln!("usage: oracle compare|cases|bench|changes|distances|fuzz|limits|pairs|walks");
             return ExitCode::from(2);

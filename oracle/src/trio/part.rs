@@ -1,0 +1,97 @@
+//! A part as its words say it, forged or not, and when its shape is right (docs/RULES.md, S1), by another way than the port's.
+use super::types::{count_allowed, genotypes, weight_allowed, Input};
+use super::words::numbers;
+use crate::floor::floats::words;
+use crate::kernels::plain::key;
+use std::cmp::Reverse;
+
+/// A position and its score.
+pub type Entry = (u32, f64);
+
+#[derive(Clone, Copy, Debug)]
+pub struct Part {
+    pub n: u32,
+    pub marks: u64,
+    pub held: u32,
+    pub positions: [u32; 2],
+    pub scores: [f64; 2],
+    pub counts: [u32; 24],
+    pub weights: [f64; 8],
+}
+
+impl Part {
+    pub const ZEROS: Part = Part { n: 0, marks: 0, held: 0, positions: [0; 2], scores: [0.0; 2], counts: [0; 24], weights: [0.0; 8] };
+
+    /// An input with these marks and at most two entries, the better one first.
+    pub fn of(input: &Input, marks: u64, entries: &[Entry]) -> Part {
+        let mut part = Part { n: input.n, marks, held: entries.len() as u32, ..Part::ZEROS };
+        part.counts[..input.counts.len()].copy_from_slice(&input.counts);
+        part.weights[..input.weights.len()].copy_from_slice(&input.weights);
+        for (i, &(position, score)) in entries.iter().enumerate() {
+            (part.positions[i], part.scores[i]) = (position, score);
+        }
+        part
+    }
+
+    /// The words of `part` behind the register, which `show` answers.
+    pub fn words(&self) -> String {
+        let Part { n, marks, held, .. } = self;
+        let lists = [numbers(&self.positions), words(&self.scores), numbers(&self.counts), words(&self.weights)];
+        format!("{n} {marks} {held} {}", lists.join(" "))
+    }
+
+    /// The input of a part with 1 to 8 clusters.
+    pub fn input(&self) -> Input {
+        let n = self.n as usize;
+        Input { n: self.n, counts: self.counts[..3 * n].to_vec(), weights: self.weights[..n].to_vec() }
+    }
+
+    /// The entries in use.
+    pub fn entries(&self) -> Vec<Entry> {
+        let all = [(self.positions[0], self.scores[0]), (self.positions[1], self.scores[1])];
+        all[..self.held.min(2) as usize].to_vec()
+    }
+
+    fn input_is_right(&self) -> bool {
+        let n = self.n as usize;
+        (1..=8).contains(&n)
+            && self.counts[..3 * n].iter().all(|&count| count_allowed(count))
+            && self.counts[3 * n..].iter().all(|&count| count == 0)
+            && self.weights[..n].iter().all(|&x| weight_allowed(x))
+            && self.weights[n..].iter().all(|x| x.to_bits() == 0)
+    }
+
+    /// The positions of the marked rows; marks past the last row make none of them.
+    fn marked_positions(&self) -> Vec<u32> {
+        let g = genotypes(self.n).len() as u32;
+        (0..g * g * g).filter(|position| self.marks >> (position / (g * g)) & 1 == 1).collect()
+    }
+
+    /// S1, in its own order.
+    pub fn is_right(&self) -> bool {
+        if !self.input_is_right() || self.marks >> genotypes(self.n).len() != 0 {
+            return false;
+        }
+        let open = self.marked_positions();
+        let entries = self.entries();
+        let unused_zero = (entries.len()..2).all(|i| self.positions[i] == 0 && self.scores[i].to_bits() == 0);
+        let sound = entries.iter().all(|(position, score)| open.contains(position) && !score.is_nan());
+        self.held as usize == open.len().min(2) && unused_zero && sound && is_ranked(&entries)
+    }
+
+    /// Whether two parts have one input, weights by their bits.
+    pub fn same_input(&self, other: &Part) -> bool {
+        let bits = |part: &Part| part.weights.map(f64::to_bits);
+        self.n == other.n && self.counts == other.counts && bits(self) == bits(other)
+    }
+}
+
+/// Larger scores first, and of equal ones the later position (T7).
+pub fn rank(&(position, score): &Entry) -> Reverse<(i64, u32)> {
+    Reverse((key(score), position))
+}
+
+/// At different positions, and each better than the next.
+fn is_ranked(entries: &[Entry]) -> bool {
+    entries.windows(2).all(|two| two[0].0 != two[1].0 && rank(&two[0]) < rank(&two[1]))
+}
