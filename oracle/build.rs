@@ -4,7 +4,7 @@ use std::path::{Path, PathBuf};
 use std::{env, fs};
 
 /// The port, as oracle/run has it built.
-const LIBRARIES: [&str; 4] = ["kernel_exports", "diploid_export", "trio_export", "mosaic_export"];
+const LIBRARIES: [&str; 4] = ["kernels_c", "diploid_c", "trio_c", "mosaic_c"];
 
 /// Where kanpig's files are looked for unless KANPIG_SRC says otherwise, seen from the repository's folder. It is no part of the repository.
 const DEFAULT_SOURCE: &str = "oracle/kanpig";
