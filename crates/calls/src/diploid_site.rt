@@ -41,14 +41,14 @@ fn called(line: &[u8], site: usize, text: &mut [u8], at: usize, r: GenotypeResul
 pub fn diploid(line: &[u8], site: usize, text: &mut [u8], at: usize) -> End {
     let start = next_field(line, site, TAB);
     let Many::Are(many) = how_many(line, start) else {
-        return End::Unread;
+        return End::Unreadable;
     };
     if many != 3 {
-        return End::Unread;
+        return End::Unreadable;
     }
     let mut counts = [0u32; 3];
     let Read::To(_) = read_counts(line, start, 3, &mut counts) else {
-        return End::Unread;
+        return End::Unreadable;
     };
     let no_table = [0.0f64; 1];
     let r = genotype(

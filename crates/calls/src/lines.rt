@@ -1,52 +1,39 @@
-// Lines out of pieces of input: each line is gathered in a lent buffer until it ends, and then answered.
+// Each line of the input is gathered in a lent buffer until it ends, and then answered.
 use crate::answers;
 use crate::sites;
 use crate::sites::End;
 use libc::STDOUT_FILENO;
-use text_reading::fields::field;
-use text_reading::fields::field_end;
+use text_lines::gathering::fits;
+use text_lines::gathering::gather;
+use text_lines::gathering::is_unended;
+use text_lines::waiting::Waiting;
+use text_lines::waiting::is_due;
+use text_lines::waiting::may_go;
+use text_lines::waiting::written;
 use text_writing::laying::first_bytes;
 use text_writing::laying::lay;
 
-// What is kept between two pieces: how many bytes of an unended line have come, past its buffer's end where it is too long; how many lines have
-// ended; where the answers that wait end; and whether every write so far went well, since after one that failed nothing more is written.
+// What is kept between two pieces: how many bytes of an unended line have come, how many lines have ended, and the answers that wait.
 pub struct Held {
     pub count: usize,
     pub ended: u64,
-    pub waiting: usize,
-    pub open: bool,
+    pub waiting: Waiting,
 }
 
 pub fn nothing_held() -> Held {
     Held {
         count: 0,
         ended: 0,
-        waiting: 0,
-        open: true,
+        waiting: written(true),
     }
-}
-
-// Whether all that waits was written. A text that did not fit its buffer never is.
-fn went_out(text: &[u8], count: usize) -> bool {
-    count <= text.len() && io::write_all(STDOUT_FILENO, first_bytes(text, count))
 }
 
 // Writes what waits.
-pub fn written(text: &[u8], held: Held) -> Held {
-    if held.open {
-        return Held {
-            count: held.count,
-            ended: held.ended,
-            waiting: 0,
-            open: went_out(text, held.waiting),
-        };
+fn flush(text: &[u8], waiting: Waiting) -> Waiting {
+    if may_go(text, waiting) {
+        return written(io::write_all(STDOUT_FILENO, first_bytes(text, waiting.count)));
     }
-    Held {
-        count: held.count,
-        ended: held.ended,
-        waiting: 0,
-        open: false,
-    }
+    written(false)
 }
 
 // One line more.
@@ -59,53 +46,56 @@ fn one_more(ended: u64) -> u64 {
 
 // The answer to a line of so many bytes, which is the line of this number.
 fn answer(line: &[u8], count: usize, number: u64, text: &mut [u8], at: usize) -> usize {
-    if line.len() < count {
+    if !fits(line, count) {
         return answers::unreadable(text, at, number);
     }
-    let End::At(end) = sites::answer(&line[..count], text, at) else {
+    let End::At(end) = sites::answer(first_bytes(line, count), text, at) else {
         return answers::unreadable(text, at, number);
     };
     end
 }
 
-// Answers a line that has ended. Half of the buffer is more than an answer takes.
+// Answers a line that has ended.
 fn answered(line: &[u8], text: &mut [u8], held: Held) -> Held {
+    let waiting = held.waiting;
     let number = one_more(held.ended);
-    let end = answer(line, held.count, number, text, held.waiting);
-    let after = Held {
+    let end = answer(line, held.count, number, text, waiting.count);
+    let mut after = Waiting {
+        count: lay(text, end, b"\n"),
+        well: waiting.well,
+    };
+    if is_due(text, after) {
+        after = flush(text, after);
+    }
+    Held {
         count: 0,
         ended: number,
-        waiting: lay(text, end, b"\n"),
-        open: held.open,
-    };
-    if after.waiting > text.len() / 2 {
-        return written(text, after);
+        waiting: after,
     }
-    after
 }
 
-// Takes the next piece of the input.
+// Takes the next piece of the input, and writes the answers to the lines that end in it.
 pub fn feed(piece: &[u8], line: &mut [u8], text: &mut [u8], held: Held) -> Held {
     let mut h = held;
-    let mut i = 0;
-    while i < piece.len() {
-        let end = field_end(piece, i, b'\n');
-        h.count = lay(line, h.count, field(piece, i, b'\n'));
-        if piece.len() <= end {
-            return h;
-        }
+    let mut gathered = gather(line, held.count, piece, 0);
+    while gathered.next <= piece.len() {
+        h.count = gathered.count;
         h = answered(line, text, h);
-        i = end + 1;
+        gathered = gather(line, 0, piece, gathered.next);
     }
-    h
+    let waiting = h.waiting;
+    Held {
+        count: gathered.count,
+        ended: h.ended,
+        waiting: flush(text, waiting),
+    }
 }
 
-// The input has ended: a last line without its newline is answered too, and what waits is written.
+// The input has ended: a last line without its newline is answered too.
 pub fn end(line: &[u8], text: &mut [u8], held: Held) {
-    if held.count > 0 {
+    if is_unended(held.count) {
         let last = answered(line, text, held);
-        written(text, last);
-        return;
+        let waiting = last.waiting;
+        flush(text, waiting);
     }
-    written(text, held);
 }

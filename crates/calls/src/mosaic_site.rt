@@ -90,14 +90,14 @@ fn called(line: &[u8], site: usize, text: &mut [u8], at: usize, r: MosaicResult)
 pub fn mosaic(line: &[u8], site: usize, text: &mut [u8], at: usize) -> End {
     let start = next_field(line, site, TAB);
     let Many::Are(many) = how_many(line, start) else {
-        return End::Unread;
+        return End::Unreadable;
     };
     if many > 2048 {
-        return End::Unread;
+        return End::Unreadable;
     }
     let mut counts = [0u32; 2048];
     let Read::To(_) = read_counts(line, start, many, &mut counts) else {
-        return End::Unread;
+        return End::Unreadable;
     };
     let r = genotype(Params::default(), &counts[..many]);
     End::At(called(line, site, text, at, r))

@@ -11,25 +11,25 @@ use text_reading::wholes::read_whole;
 
 pub enum Count {
     Is(u32),
-    Unread,
+    Unreadable,
 }
 
 // How many fields follow, all of them numbers.
 pub enum Many {
     Are(usize),
-    Unread,
+    Unreadable,
 }
 
 // Where the field behind those that were read starts.
 pub enum Read {
     To(usize),
-    Unread,
+    Unreadable,
 }
 
 // A whole number of at most 15 digits, as every number of a line.
 pub fn short_whole(digits: &[u8]) -> Whole {
     if digits.len() > 15 {
-        return Whole::Unread;
+        return Whole::Unreadable;
     }
     read_whole(digits)
 }
@@ -37,7 +37,7 @@ pub fn short_whole(digits: &[u8]) -> Whole {
 // A count. What no u32 holds is handed on as the largest one, and so gets its refusal.
 pub fn read_count(digits: &[u8]) -> Count {
     let Whole::Is(n) = short_whole(digits) else {
-        return Count::Unread;
+        return Count::Unreadable;
     };
     if n > u32::MAX as u64 {
         return Count::Is(u32::MAX);
@@ -51,7 +51,7 @@ pub fn how_many(line: &[u8], start: usize) -> Many {
     let mut many: usize = 0;
     while at <= line.len() {
         let Decimal::Is(_) = read_decimal(field(line, at, TAB)) else {
-            return Many::Unread;
+            return Many::Unreadable;
         };
         many += 1;
         at = next_field(line, at, TAB);
@@ -67,7 +67,7 @@ pub fn read_counts(line: &[u8], start: usize, n: usize, counts: &mut [u32]) -> R
     let mut i = 0;
     while i < n {
         let Count::Is(x) = read_count(field(line, at, TAB)) else {
-            return Read::Unread;
+            return Read::Unreadable;
         };
         counts[i] = x;
         at = next_field(line, at, TAB);
@@ -84,7 +84,7 @@ pub fn read_weights(line: &[u8], start: usize, n: usize, weights: &mut [f64]) ->
     let mut i = 0;
     while i < n {
         let Decimal::Is(x) = read_decimal(field(line, at, TAB)) else {
-            return Read::Unread;
+            return Read::Unreadable;
         };
         weights[i] = x;
         at = next_field(line, at, TAB);

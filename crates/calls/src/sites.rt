@@ -18,7 +18,7 @@ const MOSAIC: u64 = 0x6d6f73616963;
 // Where an answer ends, or that its line cannot be read. Nothing is laid before all of a line is read.
 pub enum End {
     At(usize),
-    Unread,
+    Unreadable,
 }
 
 // The answer to a line, without its newline, at a place of the text.
@@ -27,12 +27,12 @@ pub fn answer(line: &[u8], text: &mut [u8], at: usize) -> End {
     let site = next_field(line, 0, TAB);
     let name = field(line, site, TAB);
     if name.len() == 0 {
-        return End::Unread;
+        return End::Unreadable;
     }
     match kind {
         TRIO => trio(line, site, text, at),
         DIPLOID => diploid(line, site, text, at),
         MOSAIC => mosaic(line, site, text, at),
-        _ => End::Unread,
+        _ => End::Unreadable,
     }
 }

@@ -69,10 +69,10 @@ fn counted(line: &[u8], site: usize, start: usize, text: &mut [u8], at: usize, n
     let clusters = n as usize;
     let places = 3 * clusters;
     let Read::To(to_weights) = read_counts(line, start, places, &mut counts) else {
-        return End::Unread;
+        return End::Unreadable;
     };
     let Read::To(_) = read_weights(line, to_weights, clusters, &mut weights) else {
-        return End::Unread;
+        return End::Unreadable;
     };
     let c = call(n, &counts[..places], &weights[..clusters]);
     End::At(closed(line, site, text, at, n, c))
@@ -81,11 +81,11 @@ fn counted(line: &[u8], site: usize, start: usize, text: &mut [u8], at: usize, n
 pub fn trio(line: &[u8], site: usize, text: &mut [u8], at: usize) -> End {
     let first = next_field(line, site, TAB);
     let Whole::Is(n) = short_whole(field(line, first, TAB)) else {
-        return End::Unread;
+        return End::Unreadable;
     };
     let start = next_field(line, first, TAB);
     let Many::Are(many) = how_many(line, start) else {
-        return End::Unread;
+        return End::Unreadable;
     };
     if n > 8 {
         return End::At(refused(line, site, text, at, n));

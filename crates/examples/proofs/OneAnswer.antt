@@ -94,6 +94,12 @@ use Rattle.text_writing.proofs.figures.lay_figure.Reads as lay-figure
 use Rattle.text_writing.proofs.laying.first_bytes.Reads as first-bytes
 use Rattle.text_writing.proofs.laying.lay.Reads as lay
 use Rattle.text_writing.proofs.laying.lay_whole.Reads as lay-whole
+use Rattle.text_lines.proofs.gathering.gather.Reads as gather
+use Rattle.text_lines.proofs.gathering.fits.Reads as fits
+use Rattle.text_lines.proofs.gathering.is_unended.Reads as is-unended
+use Rattle.text_lines.proofs.waiting.is_due.Reads as is-due
+use Rattle.text_lines.proofs.waiting.may_go.Reads as may-go
+use Rattle.text_lines.proofs.waiting.written.Reads as written
 
 -- Whatever the lifetimes and the arguments, and whatever these refer to at the end of either call, at most one result meets the contract.
 abbrev pub OneAnswer : {K : Type 0} {A R E : K → Type 0} → ((κ : K) → A κ → R κ → E κ → Type 0) → Type 0
@@ -465,3 +471,24 @@ lay-figure-once κ a v w e f p q = only (p .0) (q .0)
 
 pub lay-figure-ends : (κ : _) (a : _) (v w : _) (e f : _) → lay-figure.Post κ a v e → lay-figure.Post κ a w f → e .0 .now ≡ f .0 .now
 lay-figure-ends κ a v w e f p q = only (p .1) (q .1)
+
+pub gather-once : OneAnswer gather.Post
+gather-once κ a v w e f p q = only (p .result-is) (q .result-is)
+
+pub gather-ends : (κ : _) (a : _) (v w : _) (e f : _) → gather.Post κ a v e → gather.Post κ a w f → e .0 .now ≡ f .0 .now
+gather-ends κ a v w e f p q = only (p .holds) (q .holds)
+
+pub fits-once : OneAnswer fits.Post
+fits-once κ a v w e f = only
+
+pub is-unended-once : OneAnswer is-unended.Post
+is-unended-once κ a v w e f = only
+
+pub is-due-once : OneAnswer is-due.Post
+is-due-once κ a v w e f = only
+
+pub may-go-once : OneAnswer may-go.Post
+may-go-once κ a v w e f = only
+
+pub written-once : OneAnswer written.Post
+written-once κ a v w e f = only

@@ -21,7 +21,7 @@ use Rattle.floats.specs.F64.{_⊘_, nat, ratio}
 use Rattle.floats.proofs.Rounded.{exact-small}
 use Rattle.lists.specs.Every.{every}
 use Rattle.text_reading.specs.declared.wholes.Whole.the-variants as whole
-use Rattle.text_reading.specs.declared.decimals.Decimal.the-variants.{Is, Unread}
+use Rattle.text_reading.specs.declared.decimals.Decimal.the-variants.{Is, Unreadable}
 use Rattle.text_reading.specs.Fields.{upTo, behind, fieldEnd}
 use Rattle.text_reading.specs.Wholes.{isDigit, allDigits, number, wholeNumberOf}
 use Rattle.text_reading.specs.Decimals.{point, plainDecimal, pointDecimal, decimalOf}
@@ -86,11 +86,11 @@ all-digits : (l : List ℕ) → allDigits l ≡ true → T (every isDigit l)
 all-digits l e = and-r (ltb 0 (length l)) (every isDigit l) (subst T (sym e) tt)
 
 module _ (w : List ℕ) where
-  pub plain-long : 15 < length w → Unread ≡ plainDecimal w
+  pub plain-long : 15 < length w → Unreadable ≡ plainDecimal w
   unfolding plainDecimal
   plain-long h = rw (lt-leb (length w) 15 h, and-false (allDigits w))
 
-  pub plain-unread : length w ≤ 15 → wholeNumberOf w ≡ whole.Unread → Unread ≡ plainDecimal w
+  pub plain-unread : length w ≤ 15 → wholeNumberOf w ≡ whole.Unreadable → Unreadable ≡ plainDecimal w
   unfolding plainDecimal
   plain-unread h e = rw (whole-unread w h e)
 
@@ -114,15 +114,15 @@ pub record Divided (w p : List ℕ) (n m : ℕ) : Type 0 where
   pub value : Is (nat (n * 10 ^ length p + m) ⊘ nat (10 ^ length p)) ≡ pointDecimal w p
 
 module _ (w p : List ℕ) where
-  pub point-long : 15 < length w + length p → Unread ≡ pointDecimal w p
+  pub point-long : 15 < length w + length p → Unreadable ≡ pointDecimal w p
   unfolding pointDecimal
   point-long h = rw (lt-leb (length w + length p) 15 h, and-false (allDigits p), and-false (allDigits w))
 
-  pub point-left : length w + length p ≤ 15 → wholeNumberOf w ≡ whole.Unread → Unread ≡ pointDecimal w p
+  pub point-left : length w + length p ≤ 15 → wholeNumberOf w ≡ whole.Unreadable → Unreadable ≡ pointDecimal w p
   unfolding pointDecimal
   point-left h e = rw (whole-unread w (omega arith) e)
 
-  pub point-right : length w + length p ≤ 15 → wholeNumberOf p ≡ whole.Unread → Unread ≡ pointDecimal w p
+  pub point-right : length w + length p ≤ 15 → wholeNumberOf p ≡ whole.Unreadable → Unreadable ≡ pointDecimal w p
   unfolding pointDecimal
   point-right h e = rw (whole-unread p (omega arith) e, and-false (allDigits w))
 

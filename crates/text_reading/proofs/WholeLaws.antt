@@ -12,10 +12,10 @@ use lib.ListN.{length, getD, drop, drop-of-length-le}
 use Rattle.lists.proofs.PlaceLaws.{drop-next}
 use Rattle.lists.specs.Every.{every}
 use Rattle.lists.proofs.EveryLaws.{every-more, every-end}
-use Rattle.text_reading.specs.declared.wholes.Whole.the-variants.{Is, Unread}
+use Rattle.text_reading.specs.declared.wholes.Whole.the-variants.{Is, Unreadable}
 use Rattle.text_reading.specs.Wholes.{isDigit, allDigits, numberFrom, number, wholeNumberOf, digitOf, grownBy}
 
-never : {n : ℕ} → Unread ≡ Is n → ⊥
+never : {n : ℕ} → Unreadable ≡ Is n → ⊥
 never h = let z : _≡_ {A = ℕ} 0 1 = cc in omega arith
 
 -- ---- one digit more
@@ -30,12 +30,12 @@ pub step-yes : (n b m : ℕ) → grownBy n (digitOf b) ≡ Is m → DigitStep n 
 unfolding grownBy
 step-yes n b m h = go (isDigit b) refl h
   where
-    by-tests : (p q : Bool) → isDigit b ≡ true → ltb (n * 10 + (b - 48)) (2 ^ 64) ≡ q → cond (p && q) (Is (n * 10 + (b - 48))) Unread ≡ Is m → DigitStep n b m
+    by-tests : (p q : Bool) → isDigit b ≡ true → ltb (n * 10 + (b - 48)) (2 ^ 64) ≡ q → cond (p && q) (Is (n * 10 + (b - 48))) Unreadable ≡ Is m → DigitStep n b m
     by-tests true true d l e = let same : m ≡ n * 10 + (b - 48) = cc in record { digit = d; grown = same; fits = rw same (ltb-true _ _ l) }
     by-tests true false d l e = absurd (never e)
     by-tests false q d l e = absurd (never e)
 
-    go : (t : Bool) → isDigit b ≡ t → cond (leb (cond t (b - 48) 10) 9 && ltb (n * 10 + cond t (b - 48) 10) (2 ^ 64)) (Is (n * 10 + cond t (b - 48) 10)) Unread ≡ Is m → DigitStep n b m
+    go : (t : Bool) → isDigit b ≡ t → cond (leb (cond t (b - 48) 10) 9 && ltb (n * 10 + cond t (b - 48) 10) (2 ^ 64)) (Is (n * 10 + cond t (b - 48) 10)) Unreadable ≡ Is m → DigitStep n b m
     go true d e = by-tests (leb (b - 48) 9) (ltb (n * 10 + (b - 48)) (2 ^ 64)) d refl e
     go false d e = absurd (never e)
 
@@ -45,7 +45,7 @@ number-grows n [] = omega arith
 number-grows n (b ∷ l) = let h = number-grows (n * 10 + (b - 48)) l in omega arith
 
 -- a byte that does not go on: no digit, or a number that is too large however the rest goes on
-pub step-no : (n b : ℕ) (l : List ℕ) → grownBy n (digitOf b) ≡ Unread → (every isDigit (b ∷ l) && ltb (numberFrom n (b ∷ l)) (2 ^ 64)) ≡ false
+pub step-no : (n b : ℕ) (l : List ℕ) → grownBy n (digitOf b) ≡ Unreadable → (every isDigit (b ∷ l) && ltb (numberFrom n (b ∷ l)) (2 ^ 64)) ≡ false
 unfolding grownBy
 step-no n b l h = go (n * 10 + (b - 48)) (leb 48 b) (leb b 57) refl refl h
   where
@@ -53,12 +53,12 @@ step-no n b l h = go (n * 10 + (b - 48)) (leb 48 b) (leb b 57) refl refl h
     large m true g = le-ltb (numberFrom m l) (2 ^ 64) (le-trans g (number-grows m l))
     large m false g = refl
 
-    by-tests : (m : ℕ) (p q : Bool) → leb (b - 48) 9 ≡ p → ltb m (2 ^ 64) ≡ q → b ≤ 57 → cond (p && q) (Is m) Unread ≡ Unread → (every isDigit l && ltb (numberFrom m l) (2 ^ 64)) ≡ false
+    by-tests : (m : ℕ) (p q : Bool) → leb (b - 48) 9 ≡ p → ltb m (2 ^ 64) ≡ q → b ≤ 57 → cond (p && q) (Is m) Unreadable ≡ Unreadable → (every isDigit l && ltb (numberFrom m l) (2 ^ 64)) ≡ false
     by-tests m true true e g d u = absurd (never (sym u))
     by-tests m true false e g d u = large m (every isDigit l) (ltb-false m (2 ^ 64) g)
     by-tests m false q e g d u = let k : 9 < b - 48 = leb-false (b - 48) 9 e in absurd (omega arith)
 
-    go : (m : ℕ) (p q : Bool) → n * 10 + (b - 48) ≡ m → leb b 57 ≡ q → cond (leb (cond (p && q) (b - 48) 10) 9 && ltb (n * 10 + cond (p && q) (b - 48) 10) (2 ^ 64)) (Is (n * 10 + cond (p && q) (b - 48) 10)) Unread ≡ Unread
+    go : (m : ℕ) (p q : Bool) → n * 10 + (b - 48) ≡ m → leb b 57 ≡ q → cond (leb (cond (p && q) (b - 48) 10) 9 && ltb (n * 10 + cond (p && q) (b - 48) 10) (2 ^ 64)) (Is (n * 10 + cond (p && q) (b - 48) 10)) Unreadable ≡ Unreadable
         → (((p && q) && every isDigit l) && ltb (numberFrom m l) (2 ^ 64)) ≡ false
     go m true true z e u = by-tests m (leb (b - 48) 9) (ltb m (2 ^ 64)) refl refl (leb-true b 57 e) (rw z at u)
     go m true false z e u = refl
@@ -84,14 +84,14 @@ module _ (l : List ℕ) (n i : ℕ) (r : Read l n i) where
         fits = s .fits;
       }
 
-  pub read-no : i < length l → grownBy n (digitOf (getD l i 0)) ≡ Unread → Unread ≡ wholeNumberOf l
+  pub read-no : i < length l → grownBy n (digitOf (getD l i 0)) ≡ Unreadable → Unreadable ≡ wholeNumberOf l
   unfolding wholeNumberOf
   read-no h e =
       let none : (every isDigit l && ltb (number l) (2 ^ 64)) ≡ false =
       rw (← r .all, ← r .same, drop-next l i 0 h) (step-no n (getD l i 0) (drop (i + 1) l) e) in
       refused (ltb 0 (length l)) (every isDigit l) (ltb (number l) (2 ^ 64)) none
     where
-      refused : (p q t : Bool) → (q && t) ≡ false → Unread ≡ cond ((p && q) && t) (Is (number l)) Unread
+      refused : (p q t : Bool) → (q && t) ≡ false → Unreadable ≡ cond ((p && q) && t) (Is (number l)) Unreadable
       refused true q t h = rw h
       refused false q t h = refl
 
@@ -137,24 +137,24 @@ number-lt (b ∷ l) t =
 short-number : (l : List ℕ) → length l ≤ 15 → T (every isDigit l) → number l < 2 ^ 64
 short-number l h t = lt-of-lt-of-le (number-lt l t) (le-trans (pow-le-pow-right (zero-lt-suc 9) h) (lit≤ tt))
 
-short-whole : (l : List ℕ) → length l ≤ 15 → wholeNumberOf l ≡ cond (allDigits l) (Is (number l)) Unread
+short-whole : (l : List ℕ) → length l ≤ 15 → wholeNumberOf l ≡ cond (allDigits l) (Is (number l)) Unreadable
 unfolding wholeNumberOf
 short-whole l h = go (allDigits l) refl
   where
-    go : (t : Bool) → allDigits l ≡ t → cond (t && ltb (number l) (2 ^ 64)) (Is (number l)) Unread ≡ cond t (Is (number l)) Unread
+    go : (t : Bool) → allDigits l ≡ t → cond (t && ltb (number l) (2 ^ 64)) (Is (number l)) Unreadable ≡ cond t (Is (number l)) Unreadable
     go true e = rw (lt-ltb (number l) (2 ^ 64) (short-number l h (and-r (ltb 0 (length l)) (every isDigit l) (subst T (sym e) tt))))
     go false e = refl
 
 pub whole-number-read : (l : List ℕ) (n : ℕ) → length l ≤ 15 → wholeNumberOf l ≡ Is n → (allDigits l ≡ true) × (n ≡ number l)
 whole-number-read l n h e = go (allDigits l) (sym (short-whole l h) ∙ e)
   where
-    go : (t : Bool) → cond t (Is (number l)) Unread ≡ Is n → (t ≡ true) × (n ≡ number l)
+    go : (t : Bool) → cond t (Is (number l)) Unreadable ≡ Is n → (t ≡ true) × (n ≡ number l)
     go true e = (refl, cc)
     go false e = absurd (never e)
 
-pub whole-unread : (l : List ℕ) → length l ≤ 15 → wholeNumberOf l ≡ Unread → allDigits l ≡ false
+pub whole-unread : (l : List ℕ) → length l ≤ 15 → wholeNumberOf l ≡ Unreadable → allDigits l ≡ false
 whole-unread l h e = go (allDigits l) (sym (short-whole l h) ∙ e)
   where
-    go : (t : Bool) → cond t (Is (number l)) Unread ≡ Unread → t ≡ false
+    go : (t : Bool) → cond t (Is (number l)) Unreadable ≡ Unreadable → t ≡ false
     go true e = absurd (never (sym e))
     go false e = refl

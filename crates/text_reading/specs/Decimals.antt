@@ -6,7 +6,7 @@ use lib.Dec.{leb, ltb}
 use lib.ListN.{length}
 use Rattle.floats.specs.F64.{decimal}
 use Rattle.text_reading.specs.declared.decimals.Decimal.{Decimal}
-use Rattle.text_reading.specs.declared.decimals.Decimal.the-variants.{Is, Unread}
+use Rattle.text_reading.specs.declared.decimals.Decimal.the-variants.{Is, Unreadable}
 use Rattle.text_reading.specs.Fields.{upTo, behind}
 use Rattle.text_reading.specs.Wholes.{allDigits, number}
 
@@ -16,12 +16,12 @@ point = 46
 
 -- at most 15 digits
 unfoldable pub plainDecimal : List ℕ → Decimal
-plainDecimal w = cond (allDigits w && leb (length w) 15) (Is (decimal (number w) 0)) Unread
+plainDecimal w = cond (allDigits w && leb (length w) 15) (Is (decimal (number w) 0)) Unreadable
 
 -- digits before the point and digits behind it, at most 15 in all
 unfoldable pub pointDecimal : List ℕ → List ℕ → Decimal
 pointDecimal w p =
-    cond (allDigits w && (allDigits p && leb (length w + length p) 15)) (Is (decimal (number (w ++ p)) (length p))) Unread
+    cond (allDigits w && (allDigits p && leb (length w + length p) 15)) (Is (decimal (number (w ++ p)) (length p))) Unreadable
 
 -- A3: with a point where there is one
 unfoldable pub decimalOf : List ℕ → Decimal

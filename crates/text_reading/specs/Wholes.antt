@@ -6,7 +6,7 @@ use lib.Dec.{leb, ltb}
 use lib.ListN.{length}
 use Rattle.lists.specs.Every.{every}
 use Rattle.text_reading.specs.declared.wholes.Whole.{Whole}
-use Rattle.text_reading.specs.declared.wholes.Whole.the-variants.{Is, Unread}
+use Rattle.text_reading.specs.declared.wholes.Whole.the-variants.{Is, Unreadable}
 
 -- a byte from `0` to `9`
 abbrev pub isDigit : ℕ → Bool
@@ -26,11 +26,11 @@ number l = numberFrom 0 l
 
 -- A2: digits whose number is below 2^64
 unfoldable pub wholeNumberOf : List ℕ → Whole
-wholeNumberOf l = cond (allDigits l && ltb (number l) (2 ^ 64)) (Is (number l)) Unread
+wholeNumberOf l = cond (allDigits l && ltb (number l) (2 ^ 64)) (Is (number l)) Unreadable
 
 -- what the steps of the reading are: the value of a byte, 10 where it is no digit, and a number with one digit more
 abbrev pub digitOf : ℕ → ℕ
 digitOf b = cond (isDigit b) (b - 48) 10
 
 unfoldable pub grownBy : ℕ → ℕ → Whole
-grownBy n d = cond (leb d 9 && ltb (n * 10 + d) (2 ^ 64)) (Is (n * 10 + d)) Unread
+grownBy n d = cond (leb d 9 && ltb (n * 10 + d) (2 ^ 64)) (Is (n * 10 + d)) Unreadable

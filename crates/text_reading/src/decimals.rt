@@ -8,7 +8,7 @@ use crate::wholes::read_whole;
 
 pub enum Decimal {
     Is(f64),
-    Unread,
+    Unreadable,
 }
 
 fn ten_to(k: usize) -> u64
@@ -29,10 +29,10 @@ fn plain(whole: &[u8]) -> Decimal
     ensures { λ r. ⌜ r ≡ plainDecimal (now (whole .entry)) ⌝ }
 {
     if whole.len() > 15 {
-        return Decimal::Unread;
+        return Decimal::Unreadable;
     }
     let Whole::Is(n) = read_whole(whole) else {
-        return Decimal::Unread;
+        return Decimal::Unreadable;
     };
     Decimal::Is(n as f64)
 }
@@ -42,16 +42,16 @@ fn with_point(whole: &[u8], part: &[u8]) -> Decimal
     ensures { λ r. ⌜ r ≡ pointDecimal (now (whole .entry)) (now (part .entry)) ⌝ }
 {
     if whole.len() > 15 {
-        return Decimal::Unread;
+        return Decimal::Unreadable;
     }
     if part.len() > 15 - whole.len() {
-        return Decimal::Unread;
+        return Decimal::Unreadable;
     }
     let Whole::Is(n) = read_whole(whole) else {
-        return Decimal::Unread;
+        return Decimal::Unreadable;
     };
     let Whole::Is(m) = read_whole(part) else {
-        return Decimal::Unread;
+        return Decimal::Unreadable;
     };
     let scale = ten_to(part.len());
     Decimal::Is((n * scale + m) as f64 / scale as f64)

@@ -5,7 +5,7 @@ ghost use Rattle.text_reading.specs.Wholes.{digitOf, grownBy, wholeNumbe
 
 pub enum Whole {
     Is(u64),
-    Unread,
+    Unreadable,
 }
 
 // The value of a decimal digit; 10 for any other byte.
@@ -26,14 +26,14 @@ fn grown(n: u64, d: u64) -> Whole
     ensures { λ r. ⌜ r ≡ grownBy n d ⌝ }
 {
     if d > 9 {
-        return Whole::Unread;
+        return Whole::Unreadable;
     }
     if n > u64::MAX / 10 {
-        return Whole::Unread;
+        return Whole::Unreadable;
     }
     let tens = n * 10;
     if d > u64::MAX - tens {
-        return Whole::Unread;
+        return Whole::Unreadable;
     }
     Whole::Is(tens + d)
 }
@@ -43,13 +43,13 @@ pub fn read_whole(field: &[u8]) -> Whole
     ensures { λ r. ⌜ r ≡ wholeNumberOf (now (field .entry)) ⌝ }
 {
     if field.len() == 0 {
-        return Whole::Unread;
+        return Whole::Unreadable;
     }
     let mut n: u64 = 0;
     let mut i = 0;
     while i < field.len() {
         let Whole::Is(m) = grown(n, digit(field[i])) else {
-            return Whole::Unread;
+            return Whole::Unreadable;
         };
         n = m;
         i += 1;

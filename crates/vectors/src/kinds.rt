@@ -1,20 +1,19 @@
-// The kinds of cases: the first word of a line names its kind. A kind is a function of the line, the place behind its name, the text and
-// what waits there, and of the registers if it works with them, with a branch here.
-use crate::diploid_cases;
-use crate::kernel_cases;
-use crate::kernel_cases::Kernel;
-use crate::mosaic_cases;
-use crate::registers::Answered;
-use crate::registers::Registers;
-use crate::step_cases;
+// The kinds of cases: the first word of a line names its kind.
+// A new kind is a name, the digits of its words, and a branch of `answered`, or of `listed` if it has a list, whose function writes the answer
+// from the words that were read. A word more in an answer is a line more in that function.
+use crate::animal_cases;
+use crate::read::SPACE;
+use crate::read::read;
+use crate::registers;
 use crate::trio_cases;
-use crate::words::SPACE;
+use crate::words;
+use crate::words::Words;
 use crate::write;
-use crate::write::Out;
 use crate::write::Text;
 use text_reading::fields::field;
 use text_reading::fields::next_field;
 use text_reading::names::packed;
+use text_writing::laying::lay_whole;
 
 // The names, as `packed` has them: their bytes in ASCII.
 const LN: u64 = 0x6c6e;
@@ -57,41 +56,100 @@ const CLOSE: u64 = 0x636c6f7365;
 
 const SHOW: u64 = 0x73686f77;
 
-// The answer to a kind that asks no register.
-fn plain(name: u64, line: &[u8], at: usize, text: &mut Text, out: Out) -> Out {
+// The words of a question, a hexadecimal digit for each: 4 and 8 a whole number of so many bytes, f a float, 9 a register, c a cluster, 2 a mode
+// or a sample; 3 three floats, d a part; a a list of u32 and b one of floats, of which a kind has at most one each, a first.
+fn digits(name: u64) -> u64 {
     match name {
-        LN => kernel_cases::of_float(Kernel::Ln, line, at, text, out),
-        EXP => kernel_cases::of_float(Kernel::Exp, line, at, text, out),
-        LOG10 => kernel_cases::of_float(Kernel::Log10, line, at, text, out),
-        POW10 => kernel_cases::of_float(Kernel::Pow10, line, at, text, out),
-        LGAMMA => kernel_cases::of_float(Kernel::Lgamma, line, at, text, out),
-        STIRLING => kernel_cases::of_float(Kernel::Stirling, line, at, text, out),
-        BINOMIAL => kernel_cases::binomial(line, at, text, out),
-        KEY => kernel_cases::key(line, at, text, out),
-        DIPLOID => diploid_cases::diploid(line, at, text, out),
-        MENDEL => trio_cases::mendel(line, at, text, out),
-        SAMPLE => trio_cases::sample(line, at, text, out),
-        CALL => trio_cases::call(line, at, text, out),
-        MOSAIC => mosaic_cases::mosaic(line, at, text, out),
-        _ => write::unread(text, out),
+        LN | EXP | LOG10 | POW10 | LGAMMA | STIRLING | KEY => 0xf000_0000,
+        BINOMIAL => 0x44f0_0000,
+        DIPLOID => 0x2333_b444,
+        MENDEL => 0xcccc_cc00,
+        SAMPLE => 0x4ab2_4400,
+        CALL => 0x4ab0_0000,
+        MOSAIC => 0x34a0_0000,
+        OPEN => 0x94ab_0000,
+        PART => 0x9d00_0000,
+        COPY | MERGE => 0x9900_0000,
+        ROW => 0x9400_0000,
+        CLOSE | SHOW => 0x9000_0000,
+        _ => 0x1000_0000,
     }
 }
 
-// The answer to a line, without its newline, and the registers after it.
-pub fn answer(line: &[u8], text: &mut Text, out: Out, registers: Registers) -> Answered {
-    let name = packed(field(line, 0, SPACE));
-    let at = next_field(line, 0, SPACE);
+fn kernel(name: u64, x: f64) -> f64 {
     match name {
-        OPEN => step_cases::open(line, at, text, out, registers),
-        PART => step_cases::part(line, at, text, out, registers),
-        COPY => step_cases::copy(line, at, text, out, registers),
-        ROW => step_cases::row(line, at, text, out, registers),
-        MERGE => step_cases::merge(line, at, text, out, registers),
-        CLOSE => step_cases::close(line, at, text, out, registers),
-        SHOW => step_cases::show(line, at, text, out, registers),
-        _ => Answered {
-            out: plain(name, line, at, text, out),
-            registers,
-        },
+        EXP => kernels::exp::exp(x),
+        LOG10 => kernels_tens::log10::log10(x),
+        POW10 => kernels_tens::log10::pow10(x),
+        LGAMMA => kernels_gamma::gamma::ln_gamma(x),
+        STIRLING => kernels_stirling::stirling::stirling(x),
+        _ => kernels::ln::ln(x),
     }
+}
+
+fn binomial(words: &Words) -> f64 {
+    let k = words::number(words, 0);
+    let n = words::number(words, 4);
+    kernels_gamma::binomial::ln_pmf(k, n, words::float(words, 8))
+}
+
+// A NaN has no key.
+fn key(text: &mut Text, at: usize, x: f64) -> usize {
+    if x != x {
+        return write::float(text, at, x);
+    }
+    write::signed(text, at, floats::key::key(x))
+}
+
+// The answer to a kind whose words have a list.
+fn listed(name: u64, registers: &mut Words, words: &Words, text: &mut Text, at: usize) -> usize {
+    let mut counts = [0u32; 2048];
+    let mut floats = [0.0f64; 2048];
+    let n = words::many(words, words::COUNTS);
+    let m = words::many(words, words::FLOATS);
+    words::counts(words, words::COUNTS + 1, n, &mut counts);
+    words::floats(words, words::FLOATS + 1, m, &mut floats);
+    let us = &counts[..n];
+    let fs = &floats[..m];
+    match name {
+        DIPLOID => animal_cases::diploid(words, fs, text, at),
+        MOSAIC => animal_cases::mosaic(words, us, text, at),
+        SAMPLE => trio_cases::sample(words, us, fs, text, at),
+        OPEN => lay_whole(text, at, trio_cases::open(registers, words, us, fs)),
+        _ => trio_cases::call(words, us, fs, text, at),
+    }
+}
+
+// The answer to a kind that works with registers.
+fn stepped(name: u64, registers: &mut Words, words: &Words, text: &mut Text, at: usize) -> usize {
+    match name {
+        PART => trio_cases::part(registers, words, text, at),
+        COPY => trio_cases::copy(registers, words, text, at),
+        ROW => lay_whole(text, at, trio_cases::row(registers, words)),
+        MERGE => lay_whole(text, at, trio_cases::merge(registers, words)),
+        CLOSE => trio_cases::closing(registers, words, text, at),
+        _ => registers::show(registers, words, text, at),
+    }
+}
+
+// The answer to the words of a line that can be read.
+fn answered(name: u64, registers: &mut Words, words: &Words, text: &mut Text, at: usize) -> usize {
+    match name {
+        BINOMIAL => write::float(text, at, binomial(words)),
+        KEY => key(text, at, words::float(words, 0)),
+        MENDEL => trio_cases::mendel(words, text, at),
+        DIPLOID | MOSAIC | SAMPLE | OPEN | CALL => listed(name, registers, words, text, at),
+        PART | COPY | ROW | MERGE | CLOSE | SHOW => stepped(name, registers, words, text, at),
+        _ => write::float(text, at, kernel(name, words::float(words, 0))),
+    }
+}
+
+// The answer to a line, without its newline.
+pub fn answer(line: &[u8], registers: &mut Words, text: &mut Text, at: usize) -> usize {
+    let mut words: Words = [0; 4161];
+    let name = packed(field(line, 0, SPACE));
+    if read(line, next_field(line, 0, SPACE), digits(name), &mut words) {
+        return answered(name, registers, &words, text, at);
+    }
+    write::unreadable(text, at)
 }

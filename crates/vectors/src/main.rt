@@ -1,55 +1,101 @@
-// Answers the cases of standard input, line for line (docs/VECTORS.md).
-mod diploid_cases;
-mod kernel_cases;
+// Answers the cases of standard input, line for line (docs/VECTORS.md): each line is gathered in a buffer until it ends, and then answered.
+mod animal_cases;
 mod kinds;
-mod lines;
-mod lists;
-mod mosaic_cases;
+mod read;
 mod registers;
-mod step_cases;
 mod trio_cases;
 mod words;
 mod write;
 
 use libc::STDIN_FILENO;
-use lines::Held;
+use libc::STDOUT_FILENO;
+use text_lines::gathering::fits;
+use text_lines::gathering::gather;
+use text_lines::gathering::is_unended;
+use text_lines::waiting::Waiting;
+use text_lines::waiting::is_due;
+use text_lines::waiting::may_go;
+use text_lines::waiting::written;
+use text_writing::laying::first_bytes;
+use text_writing::laying::lay;
+use words::Words;
 use write::Text;
 
-// What is kept from read to read, and whether to read again.
-struct Turn {
-    held: Held,
-    more: bool,
+// What is kept between two pieces: how many bytes of an unended line have come, and the answers that wait.
+struct Held {
+    count: usize,
+    waiting: Waiting,
 }
 
-// One read. The answers to all lines that it ends are written before the next, so that the program can be asked line by line.
-fn read_once(input: &mut [u8], line: &mut [u8], text: &mut Text, held: Held) -> Turn {
-    let got = libc::read(STDIN_FILENO, input);
-    if got <= 0 {
-        return Turn { held, more: false };
+// Writes what waits.
+fn flush(text: &Text, waiting: Waiting) -> Waiting {
+    if may_go(text, waiting) {
+        return written(io::write_all(STDOUT_FILENO, first_bytes(text, waiting.count)));
     }
-    let n = io::count(got, input);
-    let mut after = lines::feed(&input[..n], line, text, held);
-    let out = write::flush(text, after.out);
-    after.out = out;
-    Turn {
-        held: after,
-        more: out.open,
+    written(false)
+}
+
+fn answer(line: &[u8], count: usize, registers: &mut Words, text: &mut Text, at: usize) -> usize {
+    if fits(line, count) {
+        return kinds::answer(first_bytes(line, count), registers, text, at);
+    }
+    write::unreadable(text, at)
+}
+
+// Answers a line that has ended.
+fn answered(line: &[u8], held: Held, registers: &mut Words, text: &mut Text) -> Waiting {
+    let waiting = held.waiting;
+    let end = answer(line, held.count, registers, text, waiting.count);
+    let after = Waiting {
+        count: lay(text, end, b"\n"),
+        well: waiting.well,
+    };
+    if is_due(text, after) {
+        return flush(text, after);
+    }
+    after
+}
+
+// Takes the next piece of the input, and writes the answers to the lines that end in it.
+fn feed(piece: &[u8], line: &mut [u8], registers: &mut Words, text: &mut Text, held: Held) -> Held {
+    let mut waiting = held.waiting;
+    let mut gathered = gather(line, held.count, piece, 0);
+    while gathered.next <= piece.len() {
+        let count = gathered.count;
+        waiting = answered(line, Held { count, waiting }, registers, text);
+        gathered = gather(line, 0, piece, gathered.next);
+    }
+    Held {
+        count: gathered.count,
+        waiting: flush(text, waiting),
     }
 }
 
-// Nothing says that the input ends, so the reads are counted down, from a number that no run uses up.
+// The input has ended: a last line without its newline is answered too.
+fn end(line: &[u8], registers: &mut Words, text: &mut Text, held: Held) {
+    if is_unended(held.count) {
+        let last = answered(line, held, registers, text);
+        flush(text, last);
+    }
+}
+
+// Nothing says that the input ends, so the reads are counted down, from a number that no run uses up. The answers to all lines that a read
+// ends are written before the next, so that the program can be asked line by line.
 fn main() {
     let mut input = io::large_buffer();
     let mut line = io::buffer();
     let mut text = io::large_buffer();
-    let mut held = lines::nothing_held();
+    let mut registers: Words = [0; 4161];
+    let mut waiting = written(true);
+    let mut held = Held { count: 0, waiting };
     let mut turns = u64::MAX;
     let mut more = true;
     while turns > 0 && more {
-        let t = read_once(&mut input, &mut line, &mut text, held);
-        held = t.held;
-        more = t.more;
+        let n = io::count(libc::read(STDIN_FILENO, &mut input), &input);
+        held = feed(&input[..n], &mut line, &mut registers, &mut text, held);
+        waiting = held.waiting;
+        more = n > 0 && waiting.well;
         turns -= 1;
     }
-    lines::end(&line, &mut text, held);
+    end(&line, &mut registers, &mut text, held);
 }

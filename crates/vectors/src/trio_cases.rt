@@ -1,71 +1,44 @@
-// The cases of a trio that ask no register: the Mendelian term, an animal's score, the whole call.
-ghost use Prim.Native.Nat.{_≤_};
-ghost use lib.ListN.{length};
-use crate::lists;
-use crate::lists::Counts;
-use crate::lists::Floats;
+// The cases of a trio: the Mendelian term, an animal's score, the whole call, and the steps, which work with registers.
+use crate::registers;
 use crate::words;
+use crate::words::Words;
 use crate::write;
-use crate::write::Out;
 use crate::write::Text;
-use trio_closings::animal;
+use text_writing::laying::lay;
+use text_writing::laying::lay_whole;
+use trio::merging;
+use trio::rows;
 use trio_closings::closing::Closed;
-use trio_family::ground;
+use trio_closings::closing::close;
+use trio_family::ground::ground_number;
 use trio_family::pair::Pair;
+use trio_family::pair::Triple;
 use trio_family::sample::Sample;
 use trio_mendel::mendel::distinct_pairs;
 use trio_mendel::mendel::mendelian_prior;
 use trio_opening::opening::open_part;
 use trio_parts::part::Stepped;
 
-// A pair, and where the next word starts.
-struct ReadPair {
-    pair: Pair,
-    after: usize,
-}
-
-struct ReadSample {
-    sample: Sample,
-    after: usize,
-}
-
-// A cluster number, how many counts and weights came, and where the next word starts.
-struct Input {
-    clusters: u64,
-    counts: usize,
-    weights: usize,
-    after: usize,
-}
-
-// What opening the input of a line gave, and where the next word starts.
-pub struct Opening {
-    pub stepped: Stepped,
-    pub after: usize,
-}
-
-fn read_pair(line: &[u8], at: usize) -> ReadPair {
-    let low = words::read_u32(line, at);
-    let high = words::read_u32(line, low.after);
-    ReadPair {
-        pair: Pair {
-            low: low.is as u64,
-            high: high.is as u64,
-        },
-        after: high.after,
+fn pair(words: &Words, low: usize, high: usize) -> Pair {
+    Pair {
+        low: words::whole(words, low),
+        high: words::whole(words, high),
     }
 }
 
-// A genotype: the lower number first, and no cluster past the eighth.
-fn read_genotype(line: &[u8], at: usize) -> ReadPair {
-    let read = read_pair(line, at);
-    let pair = read.pair;
-    ReadPair {
-        pair,
-        after: words::only_if(pair.low <= pair.high && pair.high <= 7, read.after),
+// A pair with its higher number in front is no genotype, and is not read.
+pub fn mendel(words: &Words, text: &mut Text, at: usize) -> usize {
+    let child = pair(words, 0, 4);
+    let father = pair(words, 8, 12);
+    let mother = pair(words, 16, 20);
+    if child.high < child.low || father.high < father.low || mother.high < mother.low {
+        return write::unreadable(text, at);
     }
+    let to_distinct = write::float(text, at, mendelian_prior(child, father, mother));
+    write::then_whole(text, to_distinct, distinct_pairs(father, mother))
 }
 
-fn sample_of(n: u32) -> Sample {
+fn sample_of(n: u64) -> Sample {
     match n {
         0 => Sample::Child,
         1 => Sample::Father,
@@ -73,118 +46,97 @@ fn sample_of(n: u32) -> Sample {
     }
 }
 
-fn read_sample(line: &[u8], at: usize) -> ReadSample {
-    let word = words::read_u32(line, at);
-    ReadSample {
-        sample: sample_of(word.is),
-        after: words::only_if(word.is <= 2, word.after),
-    }
-}
-
-fn read_input(line: &[u8], at: usize, counts: &mut [u32], weights: &mut [f64]) -> Input
-    ensures { λ r. ⌜ (r .counts ≤ length (now (counts .entry))) × (r .weights ≤ length (now (weights .entry))) ⌝ }
-{
-    let n = words::read_u32(line, at);
-    let i = lists::read_count_list(line, n.after, counts);
-    let j = lists::read_float_list(line, i.after, weights);
-    Input {
-        clusters: n.is as u64,
-        counts: i.count,
-        weights: j.count,
-        after: j.after,
-    }
-}
-
-// Opens the cluster number, counts and weights from a place on.
-pub fn open_input(line: &[u8], at: usize) -> Opening {
-    let mut counts: Counts = [0; 2048];
-    let mut weights: Floats = [0.0; 1024];
-    let input = read_input(line, at, &mut counts, &mut weights);
-    Opening {
-        stepped: open_part(
-            input.clusters,
-            &counts[..input.counts],
-            &weights[..input.weights],
-        ),
-        after: input.after,
-    }
-}
-
-pub fn mendel(line: &[u8], at: usize, text: &mut Text, out: Out) -> Out {
-    let child = read_genotype(line, at);
-    let father = read_genotype(line, child.after);
-    let mother = read_genotype(line, father.after);
-    if !words::done(line, mother.after) {
-        return write::unread(text, out);
-    }
-    let c = child.pair;
-    let f = father.pair;
-    let m = mother.pair;
-    let term = write::float(text, out, mendelian_prior(c, f, m));
-    write::then_whole(text, term, distinct_pairs(f, m))
-}
-
 // The score of an animal of a part. What opening would refuse is not read.
-pub fn sample(line: &[u8], at: usize, text: &mut Text, out: Out) -> Out {
-    let opened = open_input(line, at);
-    let read = read_sample(line, opened.after);
-    let genotype = read_pair(line, read.after);
-    let stepped = opened.stepped;
-    let refusal = stepped.refusal;
-    if !words::done(line, genotype.after) || refusals::number(refusal) != 0 {
-        return write::unread(text, out);
+pub fn sample(words: &Words, us: &[u32], fs: &[f64], text: &mut Text, at: usize) -> usize {
+    let opened = open_part(words[0], us, fs);
+    let refusal = opened.refusal;
+    if refusals::number(refusal) != 0 {
+        return write::unreadable(text, at);
     }
-    let part = stepped.part;
-    let animal = read.sample;
-    let pair = genotype.pair;
-    let scored = animal::sample_score(part, animal, pair);
-    write::float(text, out, scored.score)
+    let part = opened.part;
+    let animal = sample_of(words[12]);
+    let scored = trio_closings::animal::sample_score(part, animal, pair(words, 16, 20));
+    write::float(text, at, scored.score)
 }
 
-fn pair(text: &mut Text, out: Out, p: Pair) -> Out {
-    let low = write::then_whole(text, out, p.low);
-    write::then_whole(text, low, p.high)
+fn then_pair(text: &mut Text, at: usize, p: Pair) -> usize {
+    let to_high = write::then_whole(text, at, p.low);
+    write::then_whole(text, to_high, p.high)
 }
 
 // The runner-up, or that there is none.
-fn runner(text: &mut Text, out: Out, closed: Closed) -> Out {
-    if !closed.has_runner {
-        return write::then_number(text, out, 0);
+fn then_runner(text: &mut Text, at: usize, c: Closed) -> usize {
+    if !c.has_runner {
+        return write::then_whole(text, at, 0);
     }
-    let entry = closed.runner;
-    let one = write::then_number(text, out, 1);
-    let position = write::then_whole(text, one, entry.position);
-    write::then_float(text, position, entry.score)
+    let runner = c.runner;
+    let to_position = write::then_whole(text, at, 1);
+    let to_score = write::then_whole(text, to_position, runner.position);
+    write::then_float(text, to_score, runner.score)
+}
+
+fn then_triple(text: &mut Text, at: usize, t: Triple) -> usize {
+    let child = t.child;
+    let father = t.father;
+    let mother = t.mother;
+    let to_father = then_pair(text, at, child);
+    let to_mother = then_pair(text, to_father, father);
+    then_pair(text, to_mother, mother)
 }
 
 // What closing answers, but for the part.
-pub fn closed(text: &mut Text, out: Out, closed: Closed) -> Out {
-    let refusal = closed.refusal;
-    let ground = closed.ground;
-    let triple = closed.triple;
-    let child = triple.child;
-    let father = triple.father;
-    let mother = triple.mother;
-    let to_child = write::number(text, out, refusals::number(refusal));
-    let to_father = pair(text, to_child, child);
-    let to_mother = pair(text, to_father, father);
-    let to_score = pair(text, to_mother, mother);
-    let to_ground = write::then_float(text, to_score, closed.score);
-    let to_runner = write::then_number(text, to_ground, ground::ground_number(ground));
-    runner(text, to_runner, closed)
+fn closed(text: &mut Text, at: usize, c: Closed) -> usize {
+    let refusal = c.refusal;
+    let triple = c.triple;
+    let ground = c.ground;
+    let to_triple = lay_whole(text, at, refusals::number(refusal) as u64);
+    let to_score = then_triple(text, to_triple, triple);
+    let to_ground = write::then_float(text, to_score, c.score);
+    let to_runner = write::then_whole(text, to_ground, ground_number(ground) as u64);
+    then_runner(text, to_runner, c)
 }
 
-pub fn call(line: &[u8], at: usize, text: &mut Text, out: Out) -> Out {
-    let mut counts: Counts = [0; 2048];
-    let mut weights: Floats = [0.0; 1024];
-    let input = read_input(line, at, &mut counts, &mut weights);
-    if !words::done(line, input.after) {
-        return write::unread(text, out);
-    }
-    let answer = trio_desks::call::call(
-        input.clusters,
-        &counts[..input.counts],
-        &weights[..input.weights],
-    );
-    closed(text, out, answer)
+pub fn call(words: &Words, us: &[u32], fs: &[f64], text: &mut Text, at: usize) -> usize {
+    closed(text, at, trio_desks::call::call(words[0], us, fs))
+}
+
+// What came back from a step goes into the first register; the number of the refusal.
+fn stepped(registers: &mut Words, words: &Words, step: Stepped) -> u64 {
+    let refusal = step.refusal;
+    let part = step.part;
+    registers::set(registers, words, part);
+    refusals::number(refusal) as u64
+}
+
+pub fn open(registers: &mut Words, words: &Words, us: &[u32], fs: &[f64]) -> u64 {
+    stepped(registers, words, open_part(words[4], us, fs))
+}
+
+pub fn row(registers: &mut Words, words: &Words) -> u64 {
+    let step = rows::work_row(registers::get(registers, words, 0), words[4]);
+    stepped(registers, words, step)
+}
+
+pub fn merge(registers: &mut Words, words: &Words) -> u64 {
+    let first = registers::get(registers, words, 0);
+    let second = registers::get(registers, words, 4);
+    stepped(registers, words, merging::merge(first, second))
+}
+
+pub fn closing(registers: &mut Words, words: &Words, text: &mut Text, at: usize) -> usize {
+    let c = close(registers::get(registers, words, 0));
+    let part = c.part;
+    registers::set(registers, words, part);
+    closed(text, at, c)
+}
+
+pub fn part(registers: &mut Words, words: &Words, text: &mut Text, at: usize) -> usize {
+    registers::set(registers, words, registers::part_at(words, 4));
+    lay(text, at, b"ok")
+}
+
+pub fn copy(registers: &mut Words, words: &Words, text: &mut Text, at: usize) -> usize {
+    let part = registers::get(registers, words, 4);
+    registers::set(registers, words, part);
+    lay(text, at, b"ok")
 }

@@ -1,133 +1,77 @@
-// The words of a line, which one space parts. A word that is not there is read as an empty one, which is no number and no name.
-use text_reading::fields::field;
-use text_reading::fields::next_field;
-use text_reading::names::packed;
-use text_reading::wholes::Whole;
-use text_reading::wholes::read_whole;
+// The words of a line as numbers: a whole number is itself, a float its bits.
+ghost use Prim.Native.Nat.{_≤_};
+ghost use lib.ListN.{length};
 
-// What parts two words.
-pub const SPACE: u8 = b' ';
+// No line has so many words: the shortest is ` 0`.
+pub const MOST: usize = 2048;
 
-// The word `nan`, packed.
-const NAN: u64 = 0x6e616e;
+// Where the length of the list of counts stands, and of that of floats, 0 where a line has none; its members follow it.
+pub const COUNTS: usize = 63;
 
-// The place of a reader that met a word it could not read. It lies behind every line, so all that is read from there is empty and cannot be read
-// either: a kind reads all its words and asks once.
-pub const NOWHERE: usize = usize::MAX;
+pub const FLOATS: usize = 2112;
 
-// What a word was read as, which means nothing where it could not be read, and where the next word starts; behind the last one that is past the
-// line's end.
-pub struct U64 {
-    pub is: u64,
-    pub after: usize,
+pub type Words = [u64; 4161];
+
+// The word at a place; 0 where there is no such place.
+pub fn whole(words: &Words, at: usize) -> u64 {
+    if at < 4161 { words[at] } else { 0 }
 }
 
-pub struct U32 {
-    pub is: u32,
-    pub after: usize,
-}
-
-pub struct Float {
-    pub is: f64,
-    pub after: usize,
-}
-
-// Digits, if they are such.
-struct Digits {
-    are: u64,
-    read: bool,
-}
-
-// Whether every word could be read and nothing follows the last.
-pub fn done(line: &[u8], at: usize) -> bool {
-    line.len() < at && at != NOWHERE
-}
-
-// The place, or nowhere.
-pub fn only_if(holds: bool, at: usize) -> usize {
-    if holds { at } else { NOWHERE }
-}
-
-fn decimal(word: &[u8]) -> Digits {
-    match read_whole(word) {
-        Whole::Is(n) => Digits { are: n, read: true },
-        _ => Digits {
-            are: 0,
-            read: false,
-        },
+pub fn set(words: &mut Words, at: usize, x: u64) {
+    if at < 4161 {
+        words[at] = x;
     }
 }
 
-// A u64 in decimal.
-pub fn read_u64(line: &[u8], at: usize) -> U64 {
-    let digits = decimal(field(line, at, SPACE));
-    U64 {
-        is: digits.are,
-        after: only_if(digits.read, next_field(line, at, SPACE)),
+// A word that was read as a u32.
+pub fn number(words: &Words, at: usize) -> u32 {
+    let n = whole(words, at);
+    if n > u32::MAX as u64 {
+        return u32::MAX;
     }
+    n as u32
 }
 
-// A u32 in decimal.
-pub fn read_u32(line: &[u8], at: usize) -> U32 {
-    let word = read_u64(line, at);
-    if word.is > u32::MAX as u64 {
-        return U32 {
-            is: 0,
-            after: NOWHERE,
-        };
+// The length of a list.
+pub fn many(words: &Words, at: usize) -> usize
+    ensures { λ r. ⌜ r ≤ 2048 ⌝ }
+{
+    let n = whole(words, at);
+    if n > 2048 {
+        return 2048;
     }
-    U32 {
-        is: word.is as u32,
-        after: word.after,
-    }
-}
-
-// The value of a lowercase hexadecimal digit; 16 for any other byte.
-fn hex_digit(b: u8) -> u64 {
-    if b >= b'0' && b <= b'9' {
-        return (b - b'0') as u64;
-    }
-    if b >= b'a' && b <= b'f' {
-        return (b - b'a') as u64 + 10;
-    }
-    16
-}
-
-// Sixteen hexadecimal digits.
-fn hex(word: &[u8]) -> Digits {
-    let mut n: u64 = 0;
-    let mut read = word.len() == 16;
-    let mut i = 0;
-    while i < word.len() {
-        let d = hex_digit(word[i]);
-        read = read && d < 16;
-        n = (n << 4) | d;
-        i += 1;
-    }
-    Digits { are: n, read }
+    n as usize
 }
 
 // The float of these bits; every NaN's bits give one NaN, and are never made a float.
-fn of_bits(bits: u64) -> f64 {
+pub fn of_bits(bits: u64) -> f64 {
     if bits % 0x8000_0000_0000_0000 > 0x7FF0_0000_0000_0000 {
         return 0.0 / 0.0;
     }
     f64::from_bits(bits)
 }
 
-// A float: 16 hexadecimal digits, or `nan`.
-pub fn read_float(line: &[u8], at: usize) -> Float {
-    let word = field(line, at, SPACE);
-    let after = next_field(line, at, SPACE);
-    if packed(word) == NAN {
-        return Float {
-            is: 0.0 / 0.0,
-            after,
-        };
+pub fn float(words: &Words, at: usize) -> f64 {
+    of_bits(whole(words, at))
+}
+
+// The n words from a place on, into the first n places.
+pub fn counts(words: &Words, at: usize, n: usize, counts: &mut [u32])
+    requires { ⌜ (at ≤ 4096) × (n ≤ length (now counts)) ⌝ }
+{
+    let mut i = 0;
+    while i < n {
+        counts[i] = number(words, at + i);
+        i += 1;
     }
-    let digits = hex(word);
-    Float {
-        is: of_bits(digits.are),
-        after: only_if(digits.read, after),
+}
+
+pub fn floats(words: &Words, at: usize, n: usize, floats: &mut [f64])
+    requires { ⌜ (at ≤ 4096) × (n ≤ length (now floats)) ⌝ }
+{
+    let mut i = 0;
+    while i < n {
+        floats[i] = float(words, at + i);
+        i += 1;
     }
 }

@@ -1,122 +1,48 @@
-// Answers as text, into a lent buffer that is written out when it is half full, which is more than an answer takes.
-ghost use mathlib.Core.Path.{_≡_};
-ghost use lib.IntN.{natAbs};
-use libc::STDOUT_FILENO;
-use text_writing::laying::first_bytes;
+// Answers as text: the words of an answer are laid one behind the other, with a space between two.
+use floats::bits::bits;
 use text_writing::laying::lay;
 use text_writing::laying::lay_whole;
 
 pub type Text = [u8; 65536];
 
-// The first `count` bytes of the buffer wait to be written. A write that fails shuts the output for good, so that what was written is a
-// start of the answers.
-pub struct Out {
-    pub count: usize,
-    pub open: bool,
-}
-
-pub fn empty() -> Out {
-    Out {
-        count: 0,
-        open: true,
-    }
-}
-
-// Whether all that waits was written. A text that did not fit its buffer never is.
-fn written(text: &[u8], count: usize) -> bool {
-    count <= text.len() && io::write_all(STDOUT_FILENO, first_bytes(text, count))
-}
-
-// Writes what waits.
-pub fn flush(text: &[u8], out: Out) -> Out {
-    if out.open {
-        return Out {
-            count: 0,
-            open: written(text, out.count),
-        };
-    }
-    Out {
-        count: 0,
-        open: false,
-    }
-}
-
-pub fn bytes(text: &mut Text, out: Out, s: &[u8]) -> Out {
-    Out {
-        count: lay(text, out.count, s),
-        open: out.open,
-    }
-}
-
-pub fn end_line(text: &mut Text, out: Out) -> Out {
-    let ended = bytes(text, out, b"\n");
-    if ended.count > 32768 {
-        return flush(text, ended);
-    }
-    ended
-}
-
-fn space(text: &mut Text, out: Out) -> Out {
-    bytes(text, out, b" ")
-}
-
 // The answer to a line that cannot be read.
-pub fn unread(text: &mut Text, out: Out) -> Out {
-    bytes(text, out, b"?")
+pub fn unreadable(text: &mut Text, at: usize) -> usize {
+    lay(text, at, b"?")
 }
 
-pub fn whole(text: &mut Text, out: Out, n: u64) -> Out {
-    Out {
-        count: lay_whole(text, out.count, n),
-        open: out.open,
+pub fn float(text: &mut Text, at: usize, x: f64) -> usize {
+    if x != x {
+        return lay(text, at, b"nan");
     }
-}
-
-// The number of a refusal, a state or a place.
-pub fn number(text: &mut Text, out: Out, n: u32) -> Out {
-    whole(text, out, n as u64)
-}
-
-// The next word of an answer: a space, and the number.
-pub fn then_whole(text: &mut Text, out: Out, n: u64) -> Out {
-    let spaced = space(text, out);
-    whole(text, spaced, n)
-}
-
-pub fn then_number(text: &mut Text, out: Out, n: u32) -> Out {
-    let spaced = space(text, out);
-    number(text, spaced, n)
-}
-
-pub fn then_float(text: &mut Text, out: Out, x: f64) -> Out {
-    let spaced = space(text, out);
-    float(text, spaced, x)
+    let mut digits = [0u8; 16];
+    let k = io::hex(bits(x), 16, &mut digits);
+    lay(text, at, &digits[..k])
 }
 
 // The number without its sign.
-fn size(z: i64) -> u64
-    ensures { λ r. ⌜ r ≡ natAbs z ⌝ }
-{
+fn size(z: i64) -> u64 {
     if z < 0 {
-        ((0 - (z + 1)) as u64) + 1
+        (0 - (z + 1)) as u64 + 1
     } else {
         z as u64
     }
 }
 
-pub fn signed(text: &mut Text, out: Out, z: i64) -> Out {
+pub fn signed(text: &mut Text, at: usize, z: i64) -> usize {
     if z < 0 {
-        let minus = bytes(text, out, b"-");
-        return whole(text, minus, size(z));
+        let minus = lay(text, at, b"-");
+        return lay_whole(text, minus, size(z));
     }
-    whole(text, out, size(z))
+    lay_whole(text, at, size(z))
 }
 
-pub fn float(text: &mut Text, out: Out, x: f64) -> Out {
-    if x != x {
-        return bytes(text, out, b"nan");
-    }
-    let mut digits = [0u8; 16];
-    let k = io::hex(f64::to_bits(x), 16, &mut digits);
-    bytes(text, out, &digits[..k])
+// The next word of an answer.
+pub fn then_whole(text: &mut Text, at: usize, n: u64) -> usize {
+    let word = lay(text, at, b" ");
+    lay_whole(text, word, n)
+}
+
+pub fn then_float(text: &mut Text, at: usize, x: f64) -> usize {
+    let word = lay(text, at, b" ");
+    float(text, word, x)
 }

@@ -1,60 +1,29 @@
--- `calls::lines::feed` is safe and ends: its place in the piece rises with each line. Assumes nothing.
+-- `calls::lines::feed` is safe and ends: the next line starts further on. Assumes nothing.
+use Prim.Native.Nat.{_+_, _-_}
+use mathlib.Core.Path.{_≡_, ap}
 use native.Mathlib.Omega.{arith}
-use mathlib.Core.Path.{_≡_}
-use Prim.Native.Nat.{_≤_, _-_}
-use borrow.Author.Needs.{needs}
 use lib.ListN.{length}
 use Rattle.text_reading.proofs.FieldLaws.{end-there}
+use Rattle.text_lines.specs.Lines.{gathered}
+use Rattle.text_lines.specs.declared.gathering.Gathered.{Gathered}
+use borrow.Author.Needs.{needs}
 use Rattle.calls.proofs.lines.feed.Statement.{statement}
 use Rattle.calls.proofs.lines.feed.Tie as tie
 
 abbrev Inv-loop : tie.InvT-loop
-Inv-loop piece line₀ text₀ h₀ i₀ line text h i = (i ≤ length piece) × (length line ≡ length line₀) × (length text ≡ length text₀)
+Inv-loop piece line₀ text₀ h₀ gathered₀ line text h gathered = (length line ≡ length line₀) × (length text ≡ length text₀)
 
 abbrev μ-loop : tie.MeasureT-loop
-μ-loop piece line₀ text₀ h₀ i₀ line text h i = length piece - i
-
-loop-holds : tie.Need-loop-holds Inv-loop μ-loop
-loop-holds c = search needs
-
-field-end-requires : tie.Need-field-end-requires Inv-loop μ-loop
-field-end-requires c κs = search needs
-
-field-requires : tie.Need-field-requires Inv-loop μ-loop
-field-requires c κs = search needs
-
-lay-requires : tie.Need-lay-requires Inv-loop μ-loop
-lay-requires c κs = search needs
-
-same-length : tie.Need-same-length Inv-loop μ-loop
-same-length c = search needs
-
-same-length-2 : tie.Need-same-length-2 Inv-loop μ-loop
-same-length-2 c = search needs
-
-returns : tie.Need-returns Inv-loop μ-loop
-returns c = search needs
-
-answered-requires : tie.Need-answered-requires Inv-loop μ-loop
-answered-requires c κs = search needs
-
-add-i : tie.Need-add-i Inv-loop μ-loop
-add-i c = search needs
+μ-loop piece line₀ text₀ h₀ gathered₀ line text h gathered = length piece + 1 - gathered .next
 
 loop-less : tie.Need-loop-less Inv-loop μ-loop
-loop-less c = omega (arith, c .before .before .before .before .before .before .before .before .before .before .before .field-end .ensures, end-there 10 (c .before .before .before .before .before .before .before .before .before .before .before .before .before .loop .i) (c .before .before .before .before .before .before .before .before .before .before .before .before .before .before .before .before .before .args .piece .now) (omega arith))
-
-loop-again : tie.Need-loop-again Inv-loop μ-loop
-loop-again c = search needs
-
-same-length-3 : tie.Need-same-length-3 Inv-loop μ-loop
-same-length-3 c = search needs
-
-same-length-4 : tie.Need-same-length-4 Inv-loop μ-loop
-same-length-4 c = search needs
-
-returns-2 : tie.Need-returns-2 Inv-loop μ-loop
-returns-2 c = search needs
+unfolding gathered
+loop-less c =
+    let gathering = c .before .before in
+    let turn = gathering .before .before .before .before .before .before .before .before .before in
+    let piece = turn .before .before .before .before .before .before .before .before .args .piece .now in
+    let next = ap (λ (g : Gathered). g .next) (gathering .gather2 .ensures .result-is) in
+    omega (arith, next, end-there 10 (turn .loop .gathered .next) piece (search needs))
 
 pub feed-spec : {M : Type 1} → statement M
 feed-spec =
@@ -62,17 +31,13 @@ feed-spec =
     (tie.spec
     Inv-loop
     μ-loop
-    loop-holds
-    field-end-requires
-    field-requires
-    lay-requires
-    same-length
-    same-length-2
-    returns
-    answered-requires
-    add-i
+    (λ c κs. search needs)
+    (λ c. search needs)
+    (λ c κs. search needs)
+    (λ c κs. search needs)
     loop-less
-    loop-again
-    same-length-3
-    same-length-4
-    returns-2)
+    (λ c. search needs)
+    (λ c κs. search needs)
+    (λ c. search needs)
+    (λ c. search needs)
+    (λ c. search needs))

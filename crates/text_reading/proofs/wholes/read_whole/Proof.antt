@@ -4,7 +4,7 @@ use Prim.Native.Nat.{_-_}
 use lib.ListN.{length, getD}
 use borrow.Author.Tests.{le-ltb}
 use borrow.Author.Needs.{needs}
-use Rattle.text_reading.specs.declared.wholes.Whole.the-variants.{Is, Unread}
+use Rattle.text_reading.specs.declared.wholes.Whole.the-variants.{Is, Unreadable}
 use Rattle.text_reading.specs.Wholes.{wholeNumberOf, digitOf, grownBy}
 use Rattle.text_reading.proofs.WholeLaws.{Read, read-on, read-no, read-end}
 use Rattle.text_reading.proofs.wholes.read_whole.Statement.{statement}
@@ -42,7 +42,7 @@ returns-2 : tie.Need-returns-2 Inv-loop μ-loop
 returns-2 c =
     let s = c .before .before .before .before .before .before .loop in
     let l = c .before .before .before .before .before .before .before .before .before .args .field .now in
-    let e : grownBy (s .n) (digitOf (getD l (s .i) 0)) ≡ Unread = sym (c .before .before .grown .ensures ∙ ap (grownBy (s .n)) (c .before .before .before .digit .ensures)) ∙ c .enum-told .given .1 in
+    let e : grownBy (s .n) (digitOf (getD l (s .i) 0)) ≡ Unreadable = sym (c .before .before .grown .ensures ∙ ap (grownBy (s .n)) (c .before .before .before .digit .ensures)) ∙ c .enum-told .given .1 in
     read-no l (s .n) (s .i) (s .inv) (search needs) e
 
 add-i : tie.Need-add-i Inv-loop μ-loop

