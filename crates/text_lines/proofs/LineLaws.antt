@@ -2,18 +2,18 @@
 use mathlib.Core.Path.{_≡_, refl, sym, ap, _∙_}
 use mathlib.Core.Bool.{Bool, true, false, cond}
 use mathlib.Core.List.{List, [], _∷_, _++_, append-nil, append-assoc}
-use Prim.Native.Nat.{ℕ, zero, suc, _+_, _≤_, _<_}
-use native.Mathlib.Numerals.{add-one}
+use Prim.Native.Nat.{ℕ, suc, _+_, _≤_, _<_}
 use native.Mathlib.Omega.{arith}
-use borrow.Author.Tests.{le-leb, lt-leb, leb-true, leb-false}
-use lib.Dec.{eqb, leb}
+use borrow.Author.Tests.{le-leb, lt-leb}
+use lib.Dec.{eqb}
 use lib.ListN.{length, take, drop, length-append, length-drop}
 use lib.Seq.{drop-drop, take-all, take-paste}
 use Rattle.text_reading.specs.Fields.{upTo, fieldEnd, behind}
-use Rattle.text_reading.proofs.FieldLaws.{end-there, up-to-short}
+use Rattle.text_reading.proofs.FieldLaws.{end-there}
 use Rattle.text_writing.specs.Laying.{laidEnd, laid}
 use Rattle.text_writing.proofs.LayingLaws.{length-laid, laid-all, end-past, end-within, end-append}
 use Rattle.text_lines.specs.Lines.{newline, linesFrom, restFrom, taken, gathered, held, fitsIn}
+use Rattle.text_lines.specs.Pieces.{Stands}
 
 -- ---- an input in two pieces
 
@@ -80,10 +80,6 @@ line-goes l (x ∷ s) h = go (eqb x newline) (line-goes (l ++ (x ∷ [])) s) h
     go false more h = let m = more (omega arith) in (m .0, m .1 ∙ append-assoc l (x ∷ []) (upTo newline s))
 
 -- ---- what a buffer and a count stand for: the bytes of a line, as long as they fit
-
-pub record Stands (line : List ℕ) (count : ℕ) (l : List ℕ) : Type 0 where
-  pub counted : count ≡ laidEnd (length line) 0 (length l)
-  pub bytes : length l ≤ length line → take (length l) line ≡ l
 
 pub nothing-stands : (line : List ℕ) → Stands line 0 []
 unfolding laidEnd

@@ -7,66 +7,19 @@ use Prim.Native.Nat.{ℕ, zero, suc, _+_, _≤_, _<_}
 use native.Mathlib.Omega.{arith}
 use borrow.Author.Tests.{leb-true, leb-false}
 use lib.Dec.{leb}
-use lib.ListN.{length, take, drop}
+use lib.ListN.{length, drop}
 use Rattle.text_writing.proofs.LayingLaws.{length-laid}
-use Rattle.text_lines.specs.Lines.{linesFrom, restFrom, taken, gathered, held, fitsIn}
-use Rattle.text_lines.proofs.LineLaws.{Stands, nothing-stands, fits-if-short, line-is, long-never, lines-cut, rest-cut}
+use Rattle.text_lines.specs.Lines.{linesFrom, restFrom, taken, gathered, held}
+use Rattle.text_lines.proofs.LineLaws.{nothing-stands, fits-if-short, line-is, long-never, lines-cut, rest-cut}
 use Rattle.text_lines.proofs.LineLaws.{gather-stands, goes-on, step-ends, step-goes}
+use Rattle.text_lines.specs.Pieces.{Seen, whole, long, seen, seenOf, withLines, keptFed, fed, fedAll, allPieces, Stands, GatheredRight}
 
--- a line that has ended, as a program sees it: its bytes, or that it is longer than the buffer
-pub data Seen : Type 0 where
-  whole : List ℕ → Seen
-  long : Seen
-
--- by the buffer and the count
-abbrev pub seen : List ℕ → ℕ → Seen
-seen line count = cond (fitsIn (length line) count) (whole (take count line)) long
-
--- by the input's line
-abbrev pub seenIn : ℕ → List ℕ → Seen
-seenIn room l = cond (leb (length l) room) (whole l) long
-
-seen-is : {line : List ℕ} {count : ℕ} {l : List ℕ} → Stands line count l → seen line count ≡ seenIn (length line) l
+seen-is : {line : List ℕ} {count : ℕ} {l : List ℕ} → Stands line count l → seen line count ≡ seenOf (length line) l
 seen-is {line} {count} {l} s = go (leb (length l) (length line)) refl
   where
     go : (t : Bool) → leb (length l) (length line) ≡ t → seen line count ≡ cond t (whole l) long
     go true e = let h = leb-true (length l) (length line) e in rw (fits-if-short s h) (ap whole (line-is s h))
     go false e = rw (long-never s (leb-false (length l) (length line) e))
-
--- the lines that ended, and what is kept
-pub record Fed : Type 0 where
-  pub lines : List Seen
-  pub line : List ℕ
-  pub count : ℕ
-
-abbrev pub before : List Seen → Fed → Fed
-before xs f = record { lines = xs ++ f .lines; line = f .line; count = f .count }
-
-abbrev pub kept : List ℕ → ℕ → Fed
-kept line count = record { lines = []; line = line; count = count }
-
--- the loop over a piece from a place on, in at most so many turns: a line that has ended is seen, and the next one is gathered
-pub fed : ℕ → List ℕ → ℕ → List ℕ → ℕ → Fed
-fed zero line count piece start = kept line count
-fed (suc k) line count piece start =
-    let g = gathered (length line) count piece start in
-    let after = held line count piece start in
-    cond (leb (g .next) (length piece)) (before (seen after (g .count) ∷ []) (fed k after 0 piece (g .next))) (kept after (g .count))
-
--- piece after piece
-pub fedAll : List ℕ → ℕ → List (List ℕ) → Fed
-fedAll line count [] = kept line count
-fedAll line count (p ∷ ps) = let f = fed (suc (length p)) line count p 0 in before (f .lines) (fedAll (f .line) (f .count) ps)
-
-abbrev pub joined : List (List ℕ) → List ℕ
-joined [] = []
-joined (p ∷ ps) = p ++ joined ps
-
--- what is right of bytes s behind the bytes l of a line: their lines are seen, and the buffer stands for the rest
-pub record Right (room : ℕ) (l s : List ℕ) (f : Fed) : Type 0 where
-  pub lines-are : f .lines ≡ map (seenIn room) (linesFrom l s)
-  pub stands : Stands (f .line) (f .count) (restFrom l s)
-  pub same-room : length (f .line) ≡ room
 
 length-held : (line : List ℕ) (count : ℕ) (piece : List ℕ) (start : ℕ) → length (held line count piece start) ≡ length line
 unfolding held
@@ -74,7 +27,7 @@ length-held line count piece start = length-laid line count (taken piece start)
 
 fed-right : (k : ℕ) (line : List ℕ) (count : ℕ) (l piece : List ℕ) (start : ℕ) → Stands line count l
     → start ≤ length piece → length piece < start + k
-    → Right (length line) l (drop start piece) (fed k line count piece start)
+    → GatheredRight (length line) l (drop start piece) (fed k line count piece start)
 unfolding fed
 fed-right zero line count l piece start s h g = absurd (omega arith)
 fed-right (suc k) line count l piece start s h g =
@@ -97,8 +50,8 @@ fed-right (suc k) line count l piece start s h g =
     same = length-held line count piece start
 
     go : (t : Bool) → leb next (length piece) ≡ t
-        → (next ≤ length piece → Right (length after) [] (drop next piece) (fed k after 0 piece next))
-        → Right (length line) l (drop start piece) (cond t (before (seen after came ∷ []) (fed k after 0 piece next)) (kept after came))
+        → (next ≤ length piece → GatheredRight (length after) [] (drop next piece) (fed k after 0 piece next))
+        → GatheredRight (length line) l (drop start piece) (cond t (withLines (seen after came ∷ []) (fed k after 0 piece next)) (keptFed after came))
     go true e more =
         let inside = leb-true next (length piece) e in
         let r = more inside in
@@ -106,22 +59,22 @@ fed-right (suc k) line count l piece start s h g =
         record {
           lines-are =
               ap (λ (m : List Seen). seen after came ∷ m) (r .lines-are)
-              ∙ ap (λ (x : Seen). x ∷ map (seenIn (length after)) (linesFrom [] (drop next piece))) (seen-is now-stands)
-              ∙ ap (λ (n : ℕ). map (seenIn n) ((l ++ taken piece start) ∷ linesFrom [] (drop next piece))) same
-              ∙ ap (map (seenIn (length line))) (sym (step .0));
+              ∙ ap (λ (x : Seen). x ∷ map (seenOf (length after)) (linesFrom [] (drop next piece))) (seen-is now-stands)
+              ∙ ap (λ (n : ℕ). map (seenOf n) ((l ++ taken piece start) ∷ linesFrom [] (drop next piece))) same
+              ∙ ap (map (seenOf (length line))) (sym (step .0));
           stands = rw (step .1) (r .stands);
           same-room = r .same-room ∙ same;
         }
     go false e more =
         let step = step-goes line count piece start l h (leb-false next (length piece) e) in
-        record { lines-are = ap (map (seenIn (length line))) (sym (step .0)); stands = rw (step .1) now-stands; same-room = same }
+        record { lines-are = ap (map (seenOf (length line))) (sym (step .0)); stands = rw (step .1) now-stands; same-room = same }
 
 map-append : (f : List ℕ → Seen) (a b : List (List ℕ)) → map f (a ++ b) ≡ map f a ++ map f b
 map-append f [] b = refl
 map-append f (x ∷ a) b = ap (λ (m : List Seen). f x ∷ m) (map-append f a b)
 
 pub pieces-right : (ps : List (List ℕ)) (line : List ℕ) (count : ℕ) (l : List ℕ) → Stands line count l
-    → Right (length line) l (joined ps) (fedAll line count ps)
+    → GatheredRight (length line) l (allPieces ps) (fedAll line count ps)
 unfolding fedAll
 pieces-right [] line count l s = record { lines-are = refl; stands = s; same-room = refl }
 pieces-right (p ∷ ps) line count l s =
@@ -131,15 +84,15 @@ pieces-right (p ∷ ps) line count l s =
     record {
       lines-are =
           ap (λ (m : List Seen). m ++ fedAll (f .line) (f .count) ps .lines) (r .lines-are)
-          ∙ ap (λ (m : List Seen). map (seenIn (length line)) (linesFrom l p) ++ m) (rest .lines-are)
-          ∙ ap (λ (n : ℕ). map (seenIn (length line)) (linesFrom l p) ++ map (seenIn n) (linesFrom (restFrom l p) (joined ps)))
+          ∙ ap (λ (m : List Seen). map (seenOf (length line)) (linesFrom l p) ++ m) (rest .lines-are)
+          ∙ ap (λ (n : ℕ). map (seenOf (length line)) (linesFrom l p) ++ map (seenOf n) (linesFrom (restFrom l p) (allPieces ps)))
           (r .same-room)
-          ∙ sym (map-append (seenIn (length line)) (linesFrom l p) (linesFrom (restFrom l p) (joined ps)))
-          ∙ ap (map (seenIn (length line))) (sym (lines-cut l p (joined ps)));
-      stands = rw (rest-cut l p (joined ps)) (rest .stands);
+          ∙ sym (map-append (seenOf (length line)) (linesFrom l p) (linesFrom (restFrom l p) (allPieces ps)))
+          ∙ ap (map (seenOf (length line))) (sym (lines-cut l p (allPieces ps)));
+      stands = rw (rest-cut l p (allPieces ps)) (rest .stands);
       same-room = rest .same-room ∙ r .same-room;
     }
 
 -- however an input is cut, the lines that are seen are its lines
-pub any-cut : (line : List ℕ) (ps : List (List ℕ)) → fedAll line 0 ps .lines ≡ map (seenIn (length line)) (linesFrom [] (joined ps))
+pub any-cut : (line : List ℕ) (ps : List (List ℕ)) → fedAll line 0 ps .lines ≡ map (seenOf (length line)) (linesFrom [] (allPieces ps))
 any-cut line ps = pieces-right ps line 0 [] (nothing-stands line) .lines-are

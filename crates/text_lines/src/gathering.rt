@@ -1,4 +1,4 @@
-// A line gathered out of pieces of input, in a lent buffer, until it ends (docs/RULES.md, A1).
+// A line gathered out of pieces of input, in a lent buffer, until it ends (docs/RULES.md, A1, A6).
 ghost use mathlib.Core.Path.{_≡_};
 ghost use lib.ListN.{length};
 ghost use Rattle.text_lines.specs.Lines.{Gathering, fitsIn, unended};

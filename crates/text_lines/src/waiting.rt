@@ -1,4 +1,4 @@
-// Answers that wait in a lent buffer to be written (docs/RULES.md, A5).
+// Answers that wait in a lent buffer to be written (docs/RULES.md, A7).
 ghost use mathlib.Core.Path.{_≡_};
 ghost use lib.ListN.{length};
 ghost use Rattle.text_lines.specs.Lines.{due, mayGo, writtenOut};
