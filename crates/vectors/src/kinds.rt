@@ -10,10 +10,17 @@ use crate::words;
 use crate::words::Words;
 use crate::write;
 use crate::write::Text;
+use floats::bits::bits;
+use kernels_gamma::binomial::ln_pmf;
 use text_reading::fields::field;
 use text_reading::fields::next_field;
 use text_reading::names::packed;
+use text_writing::laying::lay;
 use text_writing::laying::lay_whole;
+use trio::merging::merge;
+use trio::rows::work_row;
+use trio_desks::call::call;
+use trio_opening::opening::open_part;
 
 // The names, as `packed` has them: their bytes in ASCII.
 const LN: u64 = 0x6c6e;
@@ -87,18 +94,17 @@ fn kernel(name: u64, x: f64) -> f64 {
     }
 }
 
-fn binomial(words: &Words) -> f64 {
-    let k = words::number(words, 0);
-    let n = words::number(words, 4);
-    kernels_gamma::binomial::ln_pmf(k, n, words::float(words, 8))
-}
-
 // A NaN has no key.
 fn key(text: &mut Text, at: usize, x: f64) -> usize {
     if x != x {
-        return write::float(text, at, x);
+        return lay(text, at, b"nan");
     }
-    write::signed(text, at, floats::key::key(x))
+    let z = floats::key::key(x);
+    if z < 0 {
+        let minus = lay(text, at, b"-");
+        return lay_whole(text, minus, write::size(z));
+    }
+    lay_whole(text, at, write::size(z))
 }
 
 // The answer to a kind whose words have a list.
@@ -115,18 +121,35 @@ fn listed(name: u64, registers: &mut Words, words: &Words, text: &mut Text, at: 
         DIPLOID => animal_cases::diploid(words, fs, text, at),
         MOSAIC => animal_cases::mosaic(words, us, text, at),
         SAMPLE => trio_cases::sample(words, us, fs, text, at),
-        OPEN => lay_whole(text, at, trio_cases::open(registers, words, us, fs)),
-        _ => trio_cases::call(words, us, fs, text, at),
+        OPEN => {
+            let step = open_part(words[4], us, fs);
+            lay_whole(text, at, trio_cases::stepped(registers, words, step))
+        }
+        _ => trio_cases::closed(text, at, call(words[0], us, fs)),
     }
 }
 
 // The answer to a kind that works with registers.
 fn stepped(name: u64, registers: &mut Words, words: &Words, text: &mut Text, at: usize) -> usize {
     match name {
-        PART => trio_cases::part(registers, words, text, at),
-        COPY => trio_cases::copy(registers, words, text, at),
-        ROW => lay_whole(text, at, trio_cases::row(registers, words)),
-        MERGE => lay_whole(text, at, trio_cases::merge(registers, words)),
+        PART => {
+            registers::set(registers, words, registers::part_at(words, 4));
+            lay(text, at, b"ok")
+        }
+        COPY => {
+            let part = registers::get(registers, words, 4);
+            registers::set(registers, words, part);
+            lay(text, at, b"ok")
+        }
+        ROW => {
+            let step = work_row(registers::get(registers, words, 0), words[4]);
+            lay_whole(text, at, trio_cases::stepped(registers, words, step))
+        }
+        MERGE => {
+            let first = registers::get(registers, words, 0);
+            let step = merge(first, registers::get(registers, words, 4));
+            lay_whole(text, at, trio_cases::stepped(registers, words, step))
+        }
         CLOSE => trio_cases::closing(registers, words, text, at),
         _ => registers::show(registers, words, text, at),
     }
@@ -135,12 +158,16 @@ fn stepped(name: u64, registers: &mut Words, words: &Words, text: &mut Text, at:
 // The answer to the words of a line that can be read.
 fn answered(name: u64, registers: &mut Words, words: &Words, text: &mut Text, at: usize) -> usize {
     match name {
-        BINOMIAL => write::float(text, at, binomial(words)),
+        BINOMIAL => {
+            let k = words::number(words, 0);
+            let n = words::number(words, 4);
+            write::word(text, at, 0xf, bits(ln_pmf(k, n, words::float(words, 8))))
+        }
         KEY => key(text, at, words::float(words, 0)),
         MENDEL => trio_cases::mendel(words, text, at),
         DIPLOID | MOSAIC | SAMPLE | OPEN | CALL => listed(name, registers, words, text, at),
         PART | COPY | ROW | MERGE | CLOSE | SHOW => stepped(name, registers, words, text, at),
-        _ => write::float(text, at, kernel(name, words::float(words, 0))),
+        _ => write::word(text, at, 0xf, bits(kernel(name, words::float(words, 0)))),
     }
 }
 
@@ -151,5 +178,5 @@ pub fn answer(line: &[u8], registers: &mut Words, text: &mut Text, at: usize) ->
     if read(line, next_field(line, 0, SPACE), digits(name), &mut words) {
         return answered(name, registers, &words, text, at);
     }
-    write::unreadable(text, at)
+    lay(text, at, b"?")
 }

@@ -35,17 +35,15 @@ fn flush(text: &Text, waiting: Waiting) -> Waiting {
     written(false)
 }
 
-fn answer(line: &[u8], count: usize, registers: &mut Words, text: &mut Text, at: usize) -> usize {
-    if fits(line, count) {
-        return kinds::answer(first_bytes(line, count), registers, text, at);
-    }
-    write::unreadable(text, at)
-}
-
 // Answers a line that has ended.
 fn answered(line: &[u8], held: Held, registers: &mut Words, text: &mut Text) -> Waiting {
     let waiting = held.waiting;
-    let end = answer(line, held.count, registers, text, waiting.count);
+    let mut end = waiting.count;
+    if fits(line, held.count) {
+        end = kinds::answer(first_bytes(line, held.count), registers, text, end);
+    } else {
+        end = lay(text, end, b"?");
+    }
     let after = Waiting {
         count: lay(text, end, b"\n"),
         well: waiting.well,
@@ -71,16 +69,8 @@ fn feed(piece: &[u8], line: &mut [u8], registers: &mut Words, text: &mut Text, h
     }
 }
 
-// The input has ended: a last line without its newline is answered too.
-fn end(line: &[u8], registers: &mut Words, text: &mut Text, held: Held) {
-    if is_unended(held.count) {
-        let last = answered(line, held, registers, text);
-        flush(text, last);
-    }
-}
-
 // Nothing says that the input ends, so the reads are counted down, from a number that no run uses up. The answers to all lines that a read
-// ends are written before the next, so that the program can be asked line by line.
+// ends are written before the next, so that the program can be asked line by line. A last line without its newline is answered too.
 fn main() {
     let mut input = io::large_buffer();
     let mut line = io::buffer();
@@ -97,5 +87,8 @@ fn main() {
         more = n > 0 && waiting.well;
         turns -= 1;
     }
-    end(&line, &mut registers, &mut text, held);
+    if is_unended(held.count) {
+        waiting = answered(&line, held, &mut registers, &mut text);
+        flush(&text, waiting);
+    }
 }

@@ -30,8 +30,11 @@ fn hex_digit(b: u8) -> u64 {
     }
 }
 
-// Sixteen hexadecimal digits.
-fn hex(word: &[u8]) -> Whole {
+// The bits of a float: `nan`, or sixteen hexadecimal digits.
+fn float(word: &[u8]) -> Whole {
+    if packed(word) == NAN {
+        return Whole::Is(0x7FF8_0000_0000_0000);
+    }
     let mut n: u64 = 0;
     let mut read = word.len() == 16;
     let mut i = 0;
@@ -47,38 +50,26 @@ fn hex(word: &[u8]) -> Whole {
     Whole::Is(n)
 }
 
-// The bits of a float: its digits, or `nan`.
-fn float(word: &[u8]) -> Whole {
-    if packed(word) == NAN {
-        return Whole::Is(0x7FF8_0000_0000_0000);
-    }
-    hex(word)
-}
-
-// A whole number that is not above the most.
-fn at_most(most: u64, word: &[u8]) -> Whole {
-    match read_whole(word) {
-        Whole::Is(n) => if n > most {
-            Whole::Unreadable
-        } else {
-            Whole::Is(n)
-        },
-        _ => Whole::Unreadable,
-    }
-}
-
 // What a word is by its digit. No word is a 1, which unknown kinds have.
 fn value(digit: u64, word: &[u8]) -> Whole {
-    match digit {
-        0xf => float(word),
-        8 => at_most(u64::MAX, word),
-        4 => at_most(u32::MAX as u64, word),
-        LENGTH => at_most(words::MOST as u64, word),
-        9 => at_most(9, word),
-        0xc => at_most(7, word),
-        2 => at_most(2, word),
-        _ => Whole::Unreadable,
+    if digit == 0xf {
+        return float(word);
     }
+    let most = match digit {
+        8 => u64::MAX,
+        4 => u32::MAX as u64,
+        LENGTH => words::MOST as u64,
+        9 => 9,
+        0xc => 7,
+        _ => 2,
+    };
+    let Whole::Is(n) = read_whole(word) else {
+        return Whole::Unreadable;
+    };
+    if digit == 1 || n > most {
+        return Whole::Unreadable;
+    }
+    Whole::Is(n)
 }
 
 // The digit of a word of several: those of a part differ.
@@ -98,7 +89,9 @@ fn read_word(line: &[u8], at: usize, digit: u64, words: &mut Words, to: usize) -
     let Whole::Is(x) = value(digit, field(line, at, SPACE)) else {
         return NOWHERE;
     };
-    words::set(words, to, x);
+    if to < 4161 {
+        words[to] = x;
+    }
     next_field(line, at, SPACE)
 }
 

@@ -72,39 +72,23 @@ fn set_weights(words: &mut Words, at: usize, xs: [f64; 8])
     }
 }
 
-fn set_held(words: &mut Words, at: usize, held: Held)
-    requires { ⌜ at ≤ 400 ⌝ }
-{
-    let first = held.first;
-    let second = held.second;
-    words[at] = held.count;
-    words[at + 1] = first.position;
-    words[at + 2] = second.position;
-    words[at + 3] = bits(first.score);
-    words[at + 4] = bits(second.score);
-}
-
 // Puts a part into the register that the first word names.
 pub fn set(registers: &mut Words, words: &Words, part: Part) {
     let at = start(words, 0);
     let held = part.held;
+    let first = held.first;
+    let second = held.second;
     let counts = part.counts;
     let weights = part.weights;
     registers[at] = part.clusters;
     registers[at + 1] = part.marks;
-    set_held(registers, at + 2, held);
+    registers[at + 2] = held.count;
+    registers[at + 3] = first.position;
+    registers[at + 4] = second.position;
+    registers[at + 5] = bits(first.score);
+    registers[at + 6] = bits(second.score);
     set_counts(registers, at + 7, counts);
     set_weights(registers, at + 31, weights);
-}
-
-// A word of a part, behind its first.
-fn part_word(registers: &Words, from: usize, i: usize, text: &mut Text, at: usize) -> usize
-    requires { ⌜ (from ≤ 351) × (i ≤ 38) ⌝ }
-{
-    if digit_at(0xd, i) == 0xf {
-        return write::then_float(text, at, words::of_bits(registers[from + i]));
-    }
-    write::then_whole(text, at, registers[from + i])
 }
 
 // The words of the part in the register that the first word names.
@@ -113,7 +97,7 @@ pub fn show(registers: &Words, words: &Words, text: &mut Text, at: usize) -> usi
     let mut end = lay_whole(text, at, registers[from]);
     let mut i = 1;
     while i < 39 {
-        end = part_word(registers, from, i, text, end);
+        end = write::then(text, end, digit_at(0xd, i), registers[from + i]);
         i += 1;
     }
     end

@@ -17,12 +17,6 @@ pub fn whole(words: &Words, at: usize) -> u64 {
     if at < 4161 { words[at] } else { 0 }
 }
 
-pub fn set(words: &mut Words, at: usize, x: u64) {
-    if at < 4161 {
-        words[at] = x;
-    }
-}
-
 // A word that was read as a u32.
 pub fn number(words: &Words, at: usize) -> u32 {
     let n = whole(words, at);

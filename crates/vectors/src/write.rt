@@ -1,48 +1,51 @@
 // Answers as text: the words of an answer are laid one behind the other, with a space between two.
-use floats::bits::bits;
 use text_writing::laying::lay;
 use text_writing::laying::lay_whole;
 
 pub type Text = [u8; 65536];
 
-// The answer to a line that cannot be read.
-pub fn unreadable(text: &mut Text, at: usize) -> usize {
-    lay(text, at, b"?")
-}
+// The first of twelve digits.
+const TOP: u64 = 0x1000_0000_0000;
 
-pub fn float(text: &mut Text, at: usize, x: f64) -> usize {
-    if x != x {
+// A word by its digit, as a question has it: f a float, of which x are the bits, and any other a whole number.
+pub fn word(text: &mut Text, at: usize, digit: u64, x: u64) -> usize {
+    if digit != 0xf {
+        return lay_whole(text, at, x);
+    }
+    if x % 0x8000_0000_0000_0000 > 0x7FF0_0000_0000_0000 {
         return lay(text, at, b"nan");
     }
     let mut digits = [0u8; 16];
-    let k = io::hex(bits(x), 16, &mut digits);
+    let k = io::hex(x, 16, &mut digits);
     lay(text, at, &digits[..k])
 }
 
+// The next word of an answer.
+pub fn then(text: &mut Text, at: usize, digit: u64, x: u64) -> usize {
+    let next = lay(text, at, b" ");
+    word(text, next, digit, x)
+}
+
+// The words of an answer by twelve digits, 0 for no word.
+pub fn words(text: &mut Text, at: usize, digits: u64, xs: [u64; 12]) -> usize {
+    let mut end = word(text, at, digits / TOP, xs[0]);
+    let mut left = digits % TOP * 16;
+    let mut i = 1;
+    while i < 12 {
+        if left >= TOP {
+            end = then(text, end, left / TOP, xs[i]);
+        }
+        left = left % TOP * 16;
+        i += 1;
+    }
+    end
+}
+
 // The number without its sign.
-fn size(z: i64) -> u64 {
+pub fn size(z: i64) -> u64 {
     if z < 0 {
         (0 - (z + 1)) as u64 + 1
     } else {
         z as u64
     }
-}
-
-pub fn signed(text: &mut Text, at: usize, z: i64) -> usize {
-    if z < 0 {
-        let minus = lay(text, at, b"-");
-        return lay_whole(text, minus, size(z));
-    }
-    lay_whole(text, at, size(z))
-}
-
-// The next word of an answer.
-pub fn then_whole(text: &mut Text, at: usize, n: u64) -> usize {
-    let word = lay(text, at, b" ");
-    lay_whole(text, word, n)
-}
-
-pub fn then_float(text: &mut Text, at: usize, x: f64) -> usize {
-    let word = lay(text, at, b" ");
-    float(text, word, x)
 }
