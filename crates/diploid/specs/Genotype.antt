@@ -22,7 +22,7 @@ use Rattle.diploid_scores.specs.Scores.{scoredBy}
 use Rattle.diploid_qualities.specs.Quality.{qualsOf}
 use Rattle.diploid_tables.specs.Calibration.{calibrated}
 
--- G3: the state that wins: the largest key, the later state on equality (`winner-wins`, `winner-only`, diploid_laws/proofs/WinnerLaws.antt)
+-- G3: the state that wins: the largest key, the later state on equality (`state-wins`, `state-only`, diploid_laws/proofs/WinnerLaws.antt)
 unfoldable pub winningState : Scores → State
 winningState s =
     let k0 = keyOf (s .homref) in

@@ -9,12 +9,12 @@ use native.Mathlib.Omega.{arith}
 use lib.ListN.{length, drop, getD, length-drop}
 use lib.Seq.{drop-cons}
 use lib.Ieee.{Float, nan, le}
-use Rattle.diploid_tables.specs.Tables.{Entry, entries, neverFalling}
+use Rattle.diploid_tables.specs.Tables.{TablePair, entries, neverFalling}
 
 -- ---- entries
 
 -- the entry whose first member stands at i
-abbrev pub tableEntry : List Float → ℕ → Entry
+abbrev pub tableEntry : List Float → ℕ → TablePair
 tableEntry t i = record { x = getD t i nan; y = getD t (i + 1) nan }
 
 two : (i : ℕ) → i + 2 ≡ suc (suc i)

@@ -9,18 +9,18 @@ use Rattle.floats.specs.F64.{nat}
 use Rattle.limits.specs.Limits.{allIn}
 
 -- L5: a pair of a table
-pub record Entry : Type 0 where
+pub record TablePair : Type 0 where
   pub x : Float
   pub y : Float
 
 -- L5: the pairs of a table, which is lent as one list, first and second members in turn
-unfoldable pub entries : List Float → List Entry
+unfoldable pub entries : List Float → List TablePair
 entries [] = []
 entries (x ∷ []) = []
 entries (x ∷ y ∷ rest) = record { x = x; y = y } ∷ entries rest
 
 -- L5: the first members never fall
-unfoldable pub neverFalling : List Entry → Bool
+unfoldable pub neverFalling : List TablePair → Bool
 neverFalling [] = true
 neverFalling (p ∷ []) = true
 neverFalling (p ∷ q ∷ rest) = le (p .x) (q .x) && neverFalling (q ∷ rest)

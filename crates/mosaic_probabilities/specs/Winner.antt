@@ -11,7 +11,7 @@ use Rattle.floats.specs.Key.{keyOf}
 abbrev pub takesOver : List Float → ℕ → ℕ → Bool
 takesOver l best i = leZ (keyOf (getD l best nan)) (keyOf (getD l i nan))
 
--- M6: the place of the largest of the first k, by key, the later on equality (`winner-wins`, `winner-only`,
+-- M6: the place of the largest of the first k, by key, the later on equality (`place-wins`, `place-only`,
 -- mosaic_laws/proofs/Winner.antt)
 unfoldable pub winningPlace : List Float → ℕ → ℕ
 winningPlace l zero = 0

@@ -12,7 +12,7 @@ use Rattle.text_reading.specs.Fields.{upTo, fieldEnd, behind}
 use Rattle.text_reading.proofs.FieldLaws.{end-there}
 use Rattle.text_writing.specs.Laying.{laidEnd, laid}
 use Rattle.text_writing.proofs.LayingLaws.{length-laid, laid-all, end-past, end-within, end-append}
-use Rattle.text_lines.specs.Lines.{newline, linesFrom, restFrom, taken, gathered, held, fitsIn}
+use Rattle.text_lines.specs.Lines.{newline, linesFrom, restFrom, taken, gathered, bufferAfter, fitsIn}
 use Rattle.text_lines.specs.Pieces.{Stands}
 
 -- ---- an input in two pieces
@@ -106,8 +106,8 @@ module _ (line : List ℕ) (count : ℕ) (piece : List ℕ) (start : ℕ) where
 
   -- the buffer then stands for the bytes that had come and those that were taken
   pub gather-stands : (l : List ℕ) → Stands line count l
-      → Stands (held line count piece start) (gathered (length line) count piece start .count) (l ++ taken piece start)
-  unfolding gathered held
+      → Stands (bufferAfter line count piece start) (gathered (length line) count piece start .count) (l ++ taken piece start)
+  unfolding gathered bufferAfter
   gather-stands l s = record {
     counted =
         ap (λ (k : ℕ). laidEnd (length line) k (length bytes-of)) (s .counted) ∙ end-append (length line) 0 (length l) (length bytes-of)

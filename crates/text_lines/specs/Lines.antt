@@ -16,12 +16,12 @@ newline = 10
 
 -- ---- an input
 
--- A1: the lines that end in an input, each without its newline, where `l` are the bytes of the first one that came before
+-- A6: the lines that end in an input, each without its newline, where `l` are the bytes of the first one that came before
 abbrev pub linesFrom : List ℕ → List ℕ → List (List ℕ)
 linesFrom l [] = []
 linesFrom l (b ∷ bs) = cond (eqb b newline) (l ∷ linesFrom [] bs) (linesFrom (l ++ (b ∷ [])) bs)
 
--- A1: and the bytes behind the last newline: a last line that lacks its newline, if there are any
+-- A6: and the bytes behind the last newline: a last line that lacks its newline, if there are any
 abbrev pub restFrom : List ℕ → List ℕ → List ℕ
 restFrom l [] = l
 restFrom l (b ∷ bs) = cond (eqb b newline) (restFrom [] bs) (restFrom (l ++ (b ∷ [])) bs)
@@ -39,13 +39,13 @@ gathered room count piece start =
     record { count = laidEnd room count (length (taken piece start)); next = fieldEnd newline start piece + 1 }
 
 -- A6: what the buffer then holds: the bytes behind those that had come, as far as there is room
-unfoldable pub held : List ℕ → ℕ → List ℕ → ℕ → List ℕ
-held line count piece start = laid line count (taken piece start)
+unfoldable pub bufferAfter : List ℕ → ℕ → List ℕ → ℕ → List ℕ
+bufferAfter line count piece start = laid line count (taken piece start)
 
 -- A6: both, as a step leaves them
 pub record Gathering (line : List ℕ) (count : ℕ) (piece : List ℕ) (start : ℕ) (result : Gathered) (after : List ℕ) : Type 0 where
   pub result-is : result ≡ gathered (length line) count piece start
-  pub holds : after ≡ held line count piece start
+  pub holds : after ≡ bufferAfter line count piece start
 
 -- A6: a line as long as its buffer fits
 abbrev pub fitsIn : ℕ → ℕ → Bool

@@ -3,7 +3,8 @@ ghost use mathlib.Core.Path.{_≡_};
 ghost use lib.ListN.{length};
 ghost use Rattle.text_lines.specs.Lines.{due, mayGo, writtenOut};
 
-// The first `count` bytes of the buffer wait; and whether every write so far went well, since after one that failed nothing more is written:
+// The first `count` bytes of the buffer wait; and whether every write so far went well, since after one that failed nothing more is
+// written:
 // what was written is a start of the answers.
 pub struct Waiting {
     pub count: usize,

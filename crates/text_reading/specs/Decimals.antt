@@ -10,15 +10,15 @@ use Rattle.text_reading.specs.declared.decimals.Decimal.the-variants.{Is
 use Rattle.text_reading.specs.Fields.{upTo, behind}
 use Rattle.text_reading.specs.Wholes.{allDigits, number}
 
--- the byte of a point
+-- A3: the byte of a point
 abbrev pub point : ℕ
 point = 46
 
--- at most 15 digits
+-- A3: at most 15 digits
 unfoldable pub plainDecimal : List ℕ → Decimal
 plainDecimal w = cond (allDigits w && leb (length w) 15) (Is (decimal (number w) 0)) Unreadable
 
--- digits before the point and digits behind it, at most 15 in all
+-- A3: digits before the point and digits behind it, at most 15 in all
 unfoldable pub pointDecimal : List ℕ → List ℕ → Decimal
 pointDecimal w p =
     cond (allDigits w && (allDigits p && leb (length w + length p) 15)) (Is (decimal (number (w ++ p)) (length p))) Unreadable

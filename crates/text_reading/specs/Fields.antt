@@ -5,15 +5,15 @@ use mathlib.Core.List.{List, [], _∷_}
 use lib.Dec.{eqb}
 use lib.ListN.{length, drop}
 
--- the bytes before the first b, or all of them where there is none
+-- A1: the bytes before the first b, or all of them where there is none
 abbrev pub upTo : ℕ → List ℕ → List ℕ
 upTo b [] = []
 upTo b (x ∷ l) = cond (eqb x b) [] (x ∷ upTo b l)
 
--- where the field that starts at a place ends; a place behind the line's end counts as its end
+-- A1: where the field that starts at a place ends; a place behind the line's end counts as its end
 unfoldable pub fieldEnd : ℕ → ℕ → List ℕ → ℕ
 fieldEnd b start l = min start (length l) + length (upTo b (drop start l))
 
--- the bytes behind the first b
+-- A1: the bytes behind the first b
 abbrev pub behind : ℕ → List ℕ → List ℕ
 behind b l = drop (suc (length (upTo b l))) l

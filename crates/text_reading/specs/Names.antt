@@ -6,15 +6,15 @@ use lib.Dec.{leb, eqb}
 use lib.ListN.{length}
 use Rattle.lists.specs.Every.{every}
 
--- a byte that a name may have
+-- A1: a byte that a name may have
 abbrev pub notZero : ℕ → Bool
 notZero b = not (eqb b 0)
 
--- the bytes behind n as digits to the base 256
+-- A1: the bytes behind n as digits to the base 256
 abbrev pub packedFrom : ℕ → List ℕ → ℕ
 packedFrom n [] = n
 packedFrom n (b ∷ l) = packedFrom (n * 256 + b) l
 
--- a name of at most eight bytes, none of them 0, as one number; 0 for any other
+-- A1: a name of at most eight bytes, none of them 0, as one number; 0 for any other
 unfoldable pub packedOf : List ℕ → ℕ
 packedOf l = cond (leb (length l) 8 && every notZero l) (packedFrom 0 l) 0

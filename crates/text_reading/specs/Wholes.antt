@@ -8,15 +8,15 @@ use Rattle.lists.specs.Every.{every}
 use Rattle.text_reading.specs.declared.wholes.Whole.{Whole}
 use Rattle.text_reading.specs.declared.wholes.Whole.the-variants.{Is, Unreadable}
 
--- a byte from `0` to `9`
+-- A2: a byte from `0` to `9`
 abbrev pub isDigit : ℕ → Bool
 isDigit b = leb 48 b && leb b 57
 
--- at least one byte, and nothing but digits
+-- A2: at least one byte, and nothing but digits
 abbrev pub allDigits : List ℕ → Bool
 allDigits l = ltb 0 (length l) && every isDigit l
 
--- the number that digits write behind n, and that they write alone
+-- A2: the number that digits write behind n, and that they write alone
 abbrev pub numberFrom : ℕ → List ℕ → ℕ
 numberFrom n [] = n
 numberFrom n (b ∷ l) = numberFrom (n * 10 + (b - 48)) l
@@ -28,7 +28,10 @@ number l = numberFrom 0 l
 unfoldable pub wholeNumberOf : List ℕ → Whole
 wholeNumberOf l = cond (allDigits l && ltb (number l) (2 ^ 64)) (Is (number l)) Unreadable
 
--- what the steps of the reading are: the value of a byte, 10 where it is no digit, and a number with one digit more
+-- ---- for the code
+
+-- A2: the value of a byte, 10 where it is no digit; and a number with one digit more. Each step reads on or ends as
+-- `wholeNumberOf` says: `read-on`, `read-no` (proofs/WholeLaws.antt)
 abbrev pub digitOf : ℕ → ℕ
 digitOf b = cond (isDigit b) (b - 48) 10
 

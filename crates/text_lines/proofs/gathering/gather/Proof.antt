@@ -5,7 +5,7 @@ use mathlib.Core.Path.{ap, _∙_}
 use lib.ListN.{length}
 use borrow.Author.Needs.{needs}
 use Rattle.text_writing.specs.Laying.{laidEnd, laid}
-use Rattle.text_lines.specs.Lines.{gathered, held}
+use Rattle.text_lines.specs.Lines.{gathered, bufferAfter}
 use Rattle.text_lines.proofs.gathering.gather.Statement.{statement}
 use Rattle.text_lines.proofs.gathering.gather.Tie as tie
 
@@ -22,7 +22,7 @@ same-length : tie.Need-same-length
 same-length c = search needs
 
 returns : tie.Need-returns
-unfolding gathered held
+unfolding gathered bufferAfter
 returns c =
     let laid-so = c .before .before .before in
     let a = laid-so .before .before .before .before .before .args in
