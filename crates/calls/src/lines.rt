@@ -14,14 +14,14 @@ use text_writing::laying::first_bytes;
 use text_writing::laying::lay;
 
 // What is kept between two pieces: how many bytes of an unended line have come, how many lines have ended, and the answers that wait.
-pub struct Held {
+pub struct Carried {
     pub count: usize,
     pub ended: u64,
     pub waiting: Waiting,
 }
 
-pub fn nothing_held() -> Held {
-    Held {
+pub fn nothing_carried() -> Carried {
+    Carried {
         count: 0,
         ended: 0,
         waiting: written(true),
@@ -56,10 +56,10 @@ fn answer(line: &[u8], count: usize, number: u64, text: &mut [u8], at: usize) ->
 }
 
 // Answers a line that has ended.
-fn answered(line: &[u8], text: &mut [u8], held: Held) -> Held {
-    let waiting = held.waiting;
-    let number = one_more(held.ended);
-    let end = answer(line, held.count, number, text, waiting.count);
+fn answered(line: &[u8], text: &mut [u8], carried: Carried) -> Carried {
+    let waiting = carried.waiting;
+    let number = one_more(carried.ended);
+    let end = answer(line, carried.count, number, text, waiting.count);
     let mut after = Waiting {
         count: lay(text, end, b"\n"),
         well: waiting.well,
@@ -67,7 +67,7 @@ fn answered(line: &[u8], text: &mut [u8], held: Held) -> Held {
     if is_due(text, after) {
         after = flush(text, after);
     }
-    Held {
+    Carried {
         count: 0,
         ended: number,
         waiting: after,
@@ -75,16 +75,16 @@ fn answered(line: &[u8], text: &mut [u8], held: Held) -> Held {
 }
 
 // Takes the next piece of the input, and writes the answers to the lines that end in it.
-pub fn feed(piece: &[u8], line: &mut [u8], text: &mut [u8], held: Held) -> Held {
-    let mut h = held;
-    let mut gathered = gather(line, held.count, piece, 0);
+pub fn feed(piece: &[u8], line: &mut [u8], text: &mut [u8], carried: Carried) -> Carried {
+    let mut h = carried;
+    let mut gathered = gather(line, carried.count, piece, 0);
     while gathered.next <= piece.len() {
         h.count = gathered.count;
         h = answered(line, text, h);
         gathered = gather(line, 0, piece, gathered.next);
     }
     let waiting = h.waiting;
-    Held {
+    Carried {
         count: gathered.count,
         ended: h.ended,
         waiting: flush(text, waiting),
@@ -92,9 +92,9 @@ pub fn feed(piece: &[u8], line: &mut [u8], text: &mut [u8], held: Held) -> Held 
 }
 
 // The input has ended: a last line without its newline is answered too.
-pub fn end(line: &[u8], text: &mut [u8], held: Held) {
-    if is_unended(held.count) {
-        let last = answered(line, text, held);
+pub fn end(line: &[u8], text: &mut [u8], carried: Carried) {
+    if is_unended(carried.count) {
+        let last = answered(line, text, carried);
         let waiting = last.waiting;
         flush(text, waiting);
     }

@@ -15,15 +15,15 @@ fn main() {
     let mut input = io::large_buffer();
     let mut line = io::buffer();
     let mut text = io::large_buffer();
-    let mut held = lines::nothing_held();
+    let mut carried = lines::nothing_carried();
     let mut turns = u64::MAX;
     let mut more = true;
     while turns > 0 && more {
         let n = io::count(libc::read(STDIN_FILENO, &mut input), &input);
-        held = lines::feed(&input[..n], &mut line, &mut text, held);
-        let waiting = held.waiting;
+        carried = lines::feed(&input[..n], &mut line, &mut text, carried);
+        let waiting = carried.waiting;
         more = n > 0 && waiting.well;
         turns -= 1;
     }
-    lines::end(&line, &mut text, held);
+    lines::end(&line, &mut text, carried);
 }

@@ -13,7 +13,8 @@ use Rattle.text_writing.proofs.LayingLaws.{length-laid}
 use Rattle.text_lines.specs.Lines.{linesFrom, restFrom, taken, gathered, bufferAfter, unended}
 use Rattle.text_lines.proofs.LineLaws.{nothing-stands, fits-if-short, line-is, long-never, lines-cut, rest-cut}
 use Rattle.text_lines.proofs.LineLaws.{gather-stands, goes-on, step-ends, step-goes}
-use Rattle.text_lines.specs.Pieces.{LineSeen, readLine, tooLong, lineSeen, lineSeenOf, withLines, keptFed, fed, fedAll, allPieces, Stands, GatheredRight}
+use Rattle.text_lines.specs.Pieces.{LineSeen, readLine, tooLong, lineSeen, lineSeenOf}
+use Rattle.text_lines.specs.Pieces.{withLines, keptFed, fed, fedAll, allPieces, Stands, GatheredRight}
 
 seen-is : {line : List ℕ} {count : ℕ} {l : List ℕ} → Stands line count l → lineSeen line count ≡ lineSeenOf (length line) l
 seen-is {line} {count} {l} s = go (leb (length l) (length line)) refl
@@ -52,7 +53,8 @@ fed-right (suc k) line count l piece start s h g =
 
     go : (t : Bool) → leb next (length piece) ≡ t
         → (next ≤ length piece → GatheredRight (length after) [] (drop next piece) (fed k after 0 piece next))
-        → GatheredRight (length line) l (drop start piece) (cond t (withLines (lineSeen after came ∷ []) (fed k after 0 piece next)) (keptFed after came))
+        → GatheredRight (length line) l (drop start piece)
+        (cond t (withLines (lineSeen after came ∷ []) (fed k after 0 piece next)) (keptFed after came))
     go true e more =
         let inside = leb-true next (length piece) e in
         let r = more inside in

@@ -1,4 +1,5 @@
--- `calls::main` is safe and ends: the number of reads that are left falls with each, and what is lent as a slice keeps its length. Assumes nothing.
+-- `calls::main` is safe and ends: the number of reads that are left falls with each, and what is lent as a slice keeps its length.
+-- Assumes nothing.
 use mathlib.Core.Path.{_≡_}
 use lib.ListN.{length}
 use borrow.Author.Needs.{needs}
@@ -6,10 +7,11 @@ use Rattle.calls.proofs.main.Statement.{statement}
 use Rattle.calls.proofs.main.Tie as tie
 
 abbrev Inv-loop : tie.InvT-loop
-Inv-loop input₀ line₀ text₀ held₀ turns₀ more₀ input line text held turns more = (65536 ≡ length input) × (4096 ≡ length line) × (65536 ≡ length text)
+Inv-loop input₀ line₀ text₀ carried₀ turns₀ more₀ input line text carried turns more =
+    (65536 ≡ length input) × (4096 ≡ length line) × (65536 ≡ length text)
 
 abbrev μ-loop : tie.MeasureT-loop
-μ-loop input₀ line₀ text₀ held₀ turns₀ more₀ input line text held turns more = turns
+μ-loop input₀ line₀ text₀ carried₀ turns₀ more₀ input line text carried turns more = turns
 
 pub main-spec : {M : Type 1} → statement M
 main-spec =

@@ -15,7 +15,10 @@ abbrev μ-loop : tie.MeasureT-loop
 
 -- the next field starts further on
 risen : (c : tie.After-next-field Inv-loop μ-loop) → c .before .before .before .before .before .before .loop .at < c .next-field .result
-risen c = omega (arith, c .next-field .ensures, end-there 9 (c .before .before .before .before .before .before .loop .at) (c .before .before .before .before .before .before .before .before .args .line .now) (c .before .before .before .before .before .loop-test .taken))
+risen c =
+    let in-loop = c .before .before .before .before .before in
+    let at-loop = in-loop .before in
+    omega (arith, c .next-field .ensures, end-there 9 (at-loop .loop .at) (at-loop .before .before .args .line .now) (in-loop .loop-test .taken))
 
 loop-holds : tie.Need-loop-holds Inv-loop μ-loop
 loop-holds c = search needs
