@@ -4,41 +4,57 @@ use crate::words;
 use crate::words::Words;
 use crate::write;
 use crate::write::Text;
+use diploid::genotype::GenotypeResult;
+use diploid::genotype::genotype;
 use diploid_models::model::Mode;
 use diploid_models::model::Model;
 use diploid_models::state::state_number;
 use floats::bits::bits;
+use mosaic::genotype::MosaicResult;
 use mosaic_params::params::Params;
-use text_writing::laying::lay_whole;
 
-fn model(words: &Words) -> Model {
-    let mut xs = [0.0f64; 11];
-    words::floats(words, 4, 11, &mut xs);
-    let n = words[0];
-    let mode = match n {
+fn mode(n: u64) -> Mode {
+    match n {
         0 => Mode::Beta,
         1 => Mode::Bino,
         _ => Mode::Phased,
-    };
-    Model {
-        mode,
-        fractions: [xs[0], xs[1], xs[2]],
-        means: [xs[4], xs[5], xs[6]],
-        precisions: [xs[8], xs[9], xs[10]],
     }
+}
+
+fn three(words: &Words, at: usize) -> [f64; 3]
+    requires { ⌜ at ≤ 4096 ⌝ }
+{
+    [
+        words::float(words, at),
+        words::float(words, at + 1),
+        words::float(words, at + 2),
+    ]
+}
+
+fn model(words: &Words) -> Model {
+    Model {
+        mode: mode(words::whole(words, 0)),
+        fractions: three(words, 4),
+        means: three(words, 8),
+        precisions: three(words, 12),
+    }
+}
+
+fn diploid_answer(text: &mut Text, at: usize, answer: GenotypeResult) -> usize {
+    let refusal = answer.refusal;
+    let state = answer.state;
+    let to_state = write::word(text, at, 4, refusals::number(refusal) as u64);
+    let to_gq = write::then(text, to_state, 8, state_number(state) as u64);
+    let to_sq = write::then(text, to_gq, 0xf, bits(answer.gq));
+    write::then(text, to_sq, 0xf, bits(answer.sq))
 }
 
 pub fn diploid(words: &Words, table: &[f64], text: &mut Text, at: usize) -> usize {
     let reference = words::number(words, 20);
     let alt1 = words::number(words, 24);
     let alt2 = words::number(words, 28);
-    let answer = diploid::genotype::genotype(model(words), table, reference, alt1, alt2);
-    let refusal = answer.refusal;
-    let state = answer.state;
-    let to_state = lay_whole(text, at, refusals::number(refusal) as u64);
-    let to_gq = write::then(text, to_state, 8, state_number(state) as u64);
-    let to_sq = write::then(text, to_gq, 0xf, bits(answer.gq));
-    write::then(text, to_sq, 0xf, bits(answer.sq))
+    let answer = genotype(model(words), table, reference, alt1, alt2);
+    diploid_answer(text, at, answer)
 }
 
 // The first n of these, as a list.
@@ -46,9 +62,7 @@ fn alleles(text: &mut Text, at: usize, n: usize, xs: [usize; 8]) -> usize {
     let mut end = write::then(text, at, 8, n as u64);
     let mut i = 0;
     while i < 8 {
-        if i < n {
-            end = write::then(text, end, 8, xs[i] as u64);
-        }
+        end = write::then_if(text, end, i < n, 8, xs[i] as u64);
         i += 1;
     }
     end
@@ -59,9 +73,7 @@ fn probabilities(text: &mut Text, at: usize, n: usize, xs: [f64; 36]) -> usize {
     let mut end = write::then(text, at, 8, n as u64);
     let mut i = 0;
     while i < 36 {
-        if i < n {
-            end = write::then(text, end, 0xf, bits(xs[i]));
-        }
+        end = write::then_if(text, end, i < n, 0xf, bits(xs[i]));
         i += 1;
     }
     end
@@ -79,40 +91,56 @@ fn how_many(flags: [bool; 8]) -> u64 {
     n
 }
 
-// The somatic alleles, each with its VAF.
+// An allele with its VAF, if it is somatic.
+fn share(text: &mut Text, at: usize, somatic: bool, allele: usize, vaf: f64) -> usize {
+    let to_vaf = write::then_if(text, at, somatic, 8, allele as u64);
+    write::then_if(text, to_vaf, somatic, 0xf, bits(vaf))
+}
+
+// The somatic alleles.
 fn shares(text: &mut Text, at: usize, somatic: [bool; 8], vafs: [f64; 8]) -> usize {
     let mut end = write::then(text, at, 8, how_many(somatic));
     let mut i = 0;
     while i < 8 {
-        if somatic[i] {
-            let to_vaf = write::then(text, end, 8, i as u64);
-            end = write::then(text, to_vaf, 0xf, bits(vafs[i]));
-        }
+        end = share(text, end, somatic[i], i, vafs[i]);
         i += 1;
     }
     end
 }
 
-pub fn mosaic(words: &Words, counts: &[u32], text: &mut Text, at: usize) -> usize {
-    let params = Params {
+fn params(words: &Words) -> Params {
+    Params {
         alpha: words::float(words, 0),
         beta: words::float(words, 1),
         highest: words::float(words, 2),
         depth: words::number(words, 4),
-    };
-    let answer = mosaic::genotype::genotype(params, counts);
+    }
+}
+
+// The refusal and the genotype.
+fn call(text: &mut Text, at: usize, answer: MosaicResult) -> usize {
     let refusal = answer.refusal;
     let pair = answer.germline;
     let germline = [pair[0], pair[1], 0, 0, 0, 0, 0, 0];
     let somatic = answer.somatic;
     let vafs = answer.vafs;
+    let to_germline = write::word(text, at, 4, refusals::number(refusal) as u64);
+    let to_somatic = alleles(text, to_germline, answer.ploidy, germline);
+    shares(text, to_somatic, somatic, vafs)
+}
+
+// The alleles that were seen, the posterior probability of the call, its quality, and the probabilities of all hypotheses.
+fn evidence(text: &mut Text, at: usize, answer: MosaicResult) -> usize {
     let observed = answer.observed;
     let chances = answer.probabilities;
-    let to_germline = lay_whole(text, at, refusals::number(refusal) as u64);
-    let to_somatic = alleles(text, to_germline, answer.ploidy, germline);
-    let to_observed = shares(text, to_somatic, somatic, vafs);
-    let to_posterior = alleles(text, to_observed, answer.seen, observed);
+    let to_posterior = alleles(text, at, answer.seen, observed);
     let to_quality = write::then(text, to_posterior, 0xf, bits(answer.posterior));
     let to_chances = write::then(text, to_quality, 0xf, bits(answer.quality));
     probabilities(text, to_chances, answer.hypotheses, chances)
+}
+
+pub fn mosaic(words: &Words, counts: &[u32], text: &mut Text, at: usize) -> usize {
+    let answer = mosaic::genotype::genotype(params(words), counts);
+    let to_observed = call(text, at, answer);
+    evidence(text, to_observed, answer)
 }

@@ -1,6 +1,7 @@
 // The kinds of cases: the first word of a line names its kind.
-// A new kind is a name, the digits of its words, and a branch of `answered`, or of `listed` if it has a list, whose function writes the answer
-// from the words that were read. A word more in an answer is a line more in that function.
+// A new kind is a name, the digits of its words, and a branch of `answered`, or of `of_lists` if it has a list, whose function writes
+// the answer from the words that were read. A word more in an answer is a line more in that function.
+ghost use Prim.Native.Nat.{_≤_};
 use crate::animal_cases;
 use crate::read::SPACE;
 use crate::read::read;
@@ -11,16 +12,7 @@ use crate::words::Words;
 use crate::write;
 use crate::write::Text;
 use floats::bits::bits;
-use kernels_gamma::binomial::ln_pmf;
-use text_reading::fields::field;
 use text_reading::fields::next_field;
-use text_reading::names::packed;
-use text_writing::laying::lay;
-use text_writing::laying::lay_whole;
-use trio::merging::merge;
-use trio::rows::work_row;
-use trio_desks::call::call;
-use trio_opening::opening::open_part;
 
 // The names, as `packed` has them: their bytes in ASCII.
 const LN: u64 = 0x6c6e;
@@ -63,8 +55,8 @@ const CLOSE: u64 = 0x636c6f7365;
 
 const SHOW: u64 = 0x73686f77;
 
-// The words of a question, a hexadecimal digit for each: 4 and 8 a whole number of so many bytes, f a float, 9 a register, c a cluster, 2 a mode
-// or a sample; 3 three floats, d a part; a a list of u32 and b one of floats, of which a kind has at most one each, a first.
+// The words of a question, a hexadecimal digit for each: 4 and 8 a whole number of so many bytes, f a float, 9 a register, c a cluster, 2 a
+// mode or a sample; 3 three floats, d a part; a a list of u32 and b one of floats, of which a kind has at most one each, a first.
 fn digits(name: u64) -> u64 {
     match name {
         LN | EXP | LOG10 | POW10 | LGAMMA | STIRLING | KEY => 0xf000_0000,
@@ -83,8 +75,14 @@ fn digits(name: u64) -> u64 {
     }
 }
 
-fn kernel(name: u64, x: f64) -> f64 {
+fn kernel(name: u64, words: &Words) -> f64 {
+    let x = words::float(words, 0);
     match name {
+        BINOMIAL => kernels_gamma::binomial::ln_pmf(
+            words::number(words, 0),
+            words::number(words, 4),
+            words::float(words, 8),
+        ),
         EXP => kernels::exp::exp(x),
         LOG10 => kernels_tens::log10::log10(x),
         POW10 => kernels_tens::log10::pow10(x),
@@ -94,89 +92,91 @@ fn kernel(name: u64, x: f64) -> f64 {
     }
 }
 
+fn sign(text: &mut Text, at: usize, z: i64) -> usize {
+    if z < 0 {
+        write::mark(text, at, b'-')
+    } else {
+        at
+    }
+}
+
 // A NaN has no key.
 fn key(text: &mut Text, at: usize, x: f64) -> usize {
     if x != x {
-        return lay(text, at, b"nan");
+        return write::word(text, at, 0xf, bits(x));
     }
     let z = floats::key::key(x);
-    if z < 0 {
-        let minus = lay(text, at, b"-");
-        return lay_whole(text, minus, write::size(z));
-    }
-    lay_whole(text, at, write::size(z))
+    let to_size = if z < 0 {
+        write::mark(text, at, b'-')
+    } else {
+        at
+    };
+    write::word(text, to_size, 8, write::size(z))
 }
 
 // The answer to a kind whose words have a list.
-fn listed(name: u64, registers: &mut Words, words: &Words, text: &mut Text, at: usize) -> usize {
+fn of_lists(
+    name: u64,
+    words: &mut Words,
+    us: &[u32],
+    fs: &[f64],
+    text: &mut Text,
+    at: usize,
+) -> usize {
+    match name {
+        DIPLOID => animal_cases::diploid(words, fs, text, at),
+        MOSAIC => animal_cases::mosaic(words, us, text, at),
+        SAMPLE => trio_cases::sample(words, us, fs, text, at),
+        OPEN => write::word(text, at, 4, trio_cases::open(words, us, fs)),
+        _ => trio_cases::called(words, us, fs, text, at),
+    }
+}
+
+fn listed(name: u64, words: &mut Words, text: &mut Text, at: usize) -> usize {
     let mut counts = [0u32; 2048];
     let mut floats = [0.0f64; 2048];
     let n = words::many(words, words::COUNTS);
     let m = words::many(words, words::FLOATS);
     words::counts(words, words::COUNTS + 1, n, &mut counts);
     words::floats(words, words::FLOATS + 1, m, &mut floats);
-    let us = &counts[..n];
-    let fs = &floats[..m];
-    match name {
-        DIPLOID => animal_cases::diploid(words, fs, text, at),
-        MOSAIC => animal_cases::mosaic(words, us, text, at),
-        SAMPLE => trio_cases::sample(words, us, fs, text, at),
-        OPEN => {
-            let step = open_part(words[4], us, fs);
-            lay_whole(text, at, trio_cases::stepped(registers, words, step))
-        }
-        _ => trio_cases::closed(text, at, call(words[0], us, fs)),
-    }
+    of_lists(name, words, &counts[..n], &floats[..m], text, at)
+}
+
+// A part is copied from its line, or from a register.
+fn copied(words: &mut Words, from: usize, text: &mut Text, at: usize) -> usize
+    requires { ⌜ from ≤ 4512 ⌝ }
+{
+    registers::set(words, registers::part_at(words, from));
+    text_writing::laying::lay(text, at, b"ok")
 }
 
 // The answer to a kind that works with registers.
-fn stepped(name: u64, registers: &mut Words, words: &Words, text: &mut Text, at: usize) -> usize {
+fn stepped(name: u64, words: &mut Words, text: &mut Text, at: usize) -> usize {
     match name {
-        PART => {
-            registers::set(registers, words, registers::part_at(words, 4));
-            lay(text, at, b"ok")
-        }
-        COPY => {
-            let part = registers::get(registers, words, 4);
-            registers::set(registers, words, part);
-            lay(text, at, b"ok")
-        }
-        ROW => {
-            let step = work_row(registers::get(registers, words, 0), words[4]);
-            lay_whole(text, at, trio_cases::stepped(registers, words, step))
-        }
-        MERGE => {
-            let first = registers::get(registers, words, 0);
-            let step = merge(first, registers::get(registers, words, 4));
-            lay_whole(text, at, trio_cases::stepped(registers, words, step))
-        }
-        CLOSE => trio_cases::closing(registers, words, text, at),
-        _ => registers::show(registers, words, text, at),
+        PART => copied(words, 4, text, at),
+        COPY => copied(words, registers::start(words, 4), text, at),
+        ROW | MERGE => write::word(text, at, 4, trio_cases::step(words, name == ROW)),
+        CLOSE => trio_cases::closing(words, text, at),
+        _ => registers::show(words, text, at),
     }
 }
 
 // The answer to the words of a line that can be read.
-fn answered(name: u64, registers: &mut Words, words: &Words, text: &mut Text, at: usize) -> usize {
+fn answered(name: u64, words: &mut Words, text: &mut Text, at: usize) -> usize {
     match name {
-        BINOMIAL => {
-            let k = words::number(words, 0);
-            let n = words::number(words, 4);
-            write::word(text, at, 0xf, bits(ln_pmf(k, n, words::float(words, 8))))
-        }
         KEY => key(text, at, words::float(words, 0)),
         MENDEL => trio_cases::mendel(words, text, at),
-        DIPLOID | MOSAIC | SAMPLE | OPEN | CALL => listed(name, registers, words, text, at),
-        PART | COPY | ROW | MERGE | CLOSE | SHOW => stepped(name, registers, words, text, at),
-        _ => write::word(text, at, 0xf, bits(kernel(name, words::float(words, 0)))),
+        DIPLOID | MOSAIC | SAMPLE | OPEN | CALL => listed(name, words, text, at),
+        PART | COPY | ROW | MERGE | CLOSE | SHOW => stepped(name, words, text, at),
+        _ => write::word(text, at, 0xf, bits(kernel(name, words))),
     }
 }
 
 // The answer to a line, without its newline.
-pub fn answer(line: &[u8], registers: &mut Words, text: &mut Text, at: usize) -> usize {
-    let mut words: Words = [0; 4161];
-    let name = packed(field(line, 0, SPACE));
-    if read(line, next_field(line, 0, SPACE), digits(name), &mut words) {
-        return answered(name, registers, &words, text, at);
+pub fn answer(line: &[u8], words: &mut Words, text: &mut Text, at: usize) -> usize {
+    let name = text_reading::names::packed(text_reading::fields::field(line, 0, SPACE));
+    if read(line, next_field(line, 0, SPACE), digits(name), words) {
+        return answered(name, words, text, at);
     }
-    lay(text, at, b"?")
+    write::mark(text, at, b'?')
 }

@@ -9,64 +9,77 @@ mod write;
 
 use libc::STDIN_FILENO;
 use libc::STDOUT_FILENO;
-use text_lines::gathering::fits;
 use text_lines::gathering::gather;
-use text_lines::gathering::is_unended;
 use text_lines::waiting::Waiting;
-use text_lines::waiting::is_due;
-use text_lines::waiting::may_go;
 use text_lines::waiting::written;
 use text_writing::laying::first_bytes;
-use text_writing::laying::lay;
 use words::Words;
 use write::Text;
 
-// What is kept between two pieces: how many bytes of an unended line have come, and the answers that wait.
-struct Held {
+// What is kept between two pieces: how many bytes of an unended line have come, and whether every write so far went well.
+struct Carried {
     count: usize,
-    waiting: Waiting,
+    well: bool,
 }
 
 // Writes what waits.
 fn flush(text: &Text, waiting: Waiting) -> Waiting {
-    if may_go(text, waiting) {
+    if text_lines::waiting::may_go(text, waiting) {
         return written(io::write_all(STDOUT_FILENO, first_bytes(text, waiting.count)));
     }
     written(false)
 }
 
-// Answers a line that has ended.
-fn answered(line: &[u8], held: Held, registers: &mut Words, text: &mut Text) -> Waiting {
-    let waiting = held.waiting;
-    let mut end = waiting.count;
-    if fits(line, held.count) {
-        end = kinds::answer(first_bytes(line, held.count), registers, text, end);
-    } else {
-        end = lay(text, end, b"?");
+// The answer to a line that has ended.
+fn answer(line: &[u8], count: usize, words: &mut Words, text: &mut Text, at: usize) -> usize {
+    if text_lines::gathering::fits(line, count) {
+        return kinds::answer(first_bytes(line, count), words, text, at);
     }
+    write::mark(text, at, b'?')
+}
+
+// Answers a line that has ended, behind the answers that wait.
+fn answered(
+    line: &[u8],
+    count: usize,
+    words: &mut Words,
+    text: &mut Text,
+    waiting: Waiting,
+) -> Waiting {
+    let end = answer(line, count, words, text, waiting.count);
     let after = Waiting {
-        count: lay(text, end, b"\n"),
+        count: write::mark(text, end, b'\n'),
         well: waiting.well,
     };
-    if is_due(text, after) {
+    if text_lines::waiting::is_due(text, after) {
         return flush(text, after);
     }
     after
 }
 
 // Takes the next piece of the input, and writes the answers to the lines that end in it.
-fn feed(piece: &[u8], line: &mut [u8], registers: &mut Words, text: &mut Text, held: Held) -> Held {
-    let mut waiting = held.waiting;
-    let mut gathered = gather(line, held.count, piece, 0);
+fn feed(
+    piece: &[u8],
+    line: &mut [u8],
+    words: &mut Words,
+    text: &mut Text,
+    carried: Carried,
+) -> Carried {
+    let mut waiting = written(carried.well);
+    let mut gathered = gather(line, carried.count, piece, 0);
     while gathered.next <= piece.len() {
-        let count = gathered.count;
-        waiting = answered(line, Held { count, waiting }, registers, text);
+        waiting = answered(line, gathered.count, words, text, waiting);
         gathered = gather(line, 0, piece, gathered.next);
     }
-    Held {
+    waiting = flush(text, waiting);
+    Carried {
         count: gathered.count,
-        waiting: flush(text, waiting),
+        well: waiting.well,
     }
+}
+
+fn take(input: &mut [u8]) -> usize {
+    io::count(libc::read(STDIN_FILENO, input), input)
 }
 
 // Nothing says that the input ends, so the reads are counted down, from a number that no run uses up. The answers to all lines that a read
@@ -75,20 +88,26 @@ fn main() {
     let mut input = io::large_buffer();
     let mut line = io::buffer();
     let mut text = io::large_buffer();
-    let mut registers: Words = [0; 4161];
-    let mut waiting = written(true);
-    let mut held = Held { count: 0, waiting };
+    let mut words: Words = [0; 4551];
+    let mut carried = Carried {
+        count: 0,
+        well: true,
+    };
     let mut turns = u64::MAX;
     let mut more = true;
     while turns > 0 && more {
-        let n = io::count(libc::read(STDIN_FILENO, &mut input), &input);
-        held = feed(&input[..n], &mut line, &mut registers, &mut text, held);
-        waiting = held.waiting;
-        more = n > 0 && waiting.well;
+        let n = take(&mut input);
+        carried = feed(
+            first_bytes(&input, n),
+            &mut line,
+            &mut words,
+            &mut text,
+            carried,
+        );
+        more = n > 0 && carried.well;
         turns -= 1;
     }
-    if is_unended(held.count) {
-        waiting = answered(&line, held, &mut registers, &mut text);
-        flush(&text, waiting);
+    if text_lines::gathering::is_unended(carried.count) {
+        feed(b"\n", &mut line, &mut words, &mut text, carried);
     }
 }

@@ -89,7 +89,7 @@ fn read_word(line: &[u8], at: usize, digit: u64, words: &mut Words, to: usize) -
     let Whole::Is(x) = value(digit, field(line, at, SPACE)) else {
         return NOWHERE;
     };
-    if to < 4161 {
+    if to < words::REGISTERS {
         words[to] = x;
     }
     next_field(line, at, SPACE)
@@ -130,8 +130,8 @@ fn read_digit(line: &[u8], at: usize, digit: u64, words: &mut Words, to: usize) 
     }
 }
 
-// Reads the words of a line from a place on by eight digits, 0 for no word, those of a digit from four times its place on; whether each could be
-// read and nothing follows the last.
+// Reads the words of a line from a place on by eight digits, 0 for no word, those of a digit from four times its place on; whether each
+// could be read and nothing follows the last.
 pub fn read(line: &[u8], start: usize, digits: u64, words: &mut Words) -> bool {
     let mut at = start;
     let mut left = digits;

@@ -5,11 +5,9 @@ use crate::words::Words;
 use crate::write;
 use crate::write::Text;
 use floats::bits::bits;
-use text_writing::laying::lay;
 use trio_closings::animal::sample_score;
 use trio_closings::closing::Closed;
-use trio_closings::closing::close;
-use trio_family::ground::ground_number;
+use trio_desks::call::call;
 use trio_family::pair::Pair;
 use trio_family::sample::Sample;
 use trio_mendel::mendel::distinct_pairs;
@@ -24,38 +22,49 @@ fn pair(words: &Words, low: usize, high: usize) -> Pair {
     }
 }
 
-// A pair with its higher number in front is no genotype, and is not read.
+// A pair with its higher number in front is no genotype.
+fn is_genotype(p: Pair) -> bool {
+    p.low <= p.high
+}
+
+// What is no genotype is not read.
 pub fn mendel(words: &Words, text: &mut Text, at: usize) -> usize {
     let child = pair(words, 0, 4);
     let father = pair(words, 8, 12);
     let mother = pair(words, 16, 20);
-    if child.high < child.low || father.high < father.low || mother.high < mother.low {
-        return lay(text, at, b"?");
+    if is_genotype(child) && is_genotype(father) && is_genotype(mother) {
+        let to_distinct = write::word(text, at, 0xf, bits(mendelian_prior(child, father, mother)));
+        return write::then(text, to_distinct, 8, distinct_pairs(father, mother));
     }
-    let to_distinct = write::word(text, at, 0xf, bits(mendelian_prior(child, father, mother)));
-    write::then(text, to_distinct, 8, distinct_pairs(father, mother))
+    write::mark(text, at, b'?')
+}
+
+fn animal(n: u64) -> Sample {
+    match n {
+        0 => Sample::Child,
+        1 => Sample::Father,
+        _ => Sample::Mother,
+    }
+}
+
+fn score(words: &Words, step: Stepped) -> u64 {
+    let n = words::whole(words, 12);
+    let scored = sample_score(step.part, animal(n), pair(words, 16, 20));
+    bits(scored.score)
 }
 
 // The score of an animal of a part. What opening would refuse is not read.
 pub fn sample(words: &Words, us: &[u32], fs: &[f64], text: &mut Text, at: usize) -> usize {
-    let opened = open_part(words[0], us, fs);
+    let opened = open_part(words::whole(words, 0), us, fs);
     let refusal = opened.refusal;
     if refusals::number(refusal) != 0 {
-        return lay(text, at, b"?");
+        return write::mark(text, at, b'?');
     }
-    let part = opened.part;
-    let n = words[12];
-    let animal = match n {
-        0 => Sample::Child,
-        1 => Sample::Father,
-        _ => Sample::Mother,
-    };
-    let scored = sample_score(part, animal, pair(words, 16, 20));
-    write::word(text, at, 0xf, bits(scored.score))
+    write::word(text, at, 0xf, score(words, opened))
 }
 
 // What closing answers, but for the part.
-pub fn closed(text: &mut Text, at: usize, c: Closed) -> usize {
+fn closed(text: &mut Text, at: usize, c: Closed) -> usize {
     let refusal = c.refusal;
     let triple = c.triple;
     let ground = c.ground;
@@ -82,7 +91,7 @@ pub fn closed(text: &mut Text, at: usize, c: Closed) -> usize {
             mother.low,
             mother.high,
             bits(c.score),
-            ground_number(ground) as u64,
+            trio_family::ground::ground_number(ground) as u64,
             has_runner,
             runner.position,
             bits(runner.score),
@@ -91,16 +100,32 @@ pub fn closed(text: &mut Text, at: usize, c: Closed) -> usize {
 }
 
 // What came back from a step goes into the first register; the number of the refusal.
-pub fn stepped(registers: &mut Words, words: &Words, step: Stepped) -> u64 {
+fn stepped(words: &mut Words, step: Stepped) -> u64 {
     let refusal = step.refusal;
-    let part = step.part;
-    registers::set(registers, words, part);
+    registers::set(words, step.part);
     refusals::number(refusal) as u64
 }
 
-pub fn closing(registers: &mut Words, words: &Words, text: &mut Text, at: usize) -> usize {
-    let c = close(registers::get(registers, words, 0));
-    let part = c.part;
-    registers::set(registers, words, part);
+pub fn open(words: &mut Words, us: &[u32], fs: &[f64]) -> u64 {
+    let step = open_part(words::whole(words, 4), us, fs);
+    stepped(words, step)
+}
+
+// A row of the first register's part is worked, or the second one's is merged into it.
+pub fn step(words: &mut Words, is_row: bool) -> u64 {
+    let part = registers::get(words, 0);
+    if is_row {
+        return stepped(words, trio::rows::work_row(part, words::whole(words, 4)));
+    }
+    stepped(words, trio::merging::merge(part, registers::get(words, 4)))
+}
+
+pub fn called(words: &Words, us: &[u32], fs: &[f64], text: &mut Text, at: usize) -> usize {
+    closed(text, at, call(words::whole(words, 0), us, fs))
+}
+
+pub fn closing(words: &mut Words, text: &mut Text, at: usize) -> usize {
+    let c = trio_closings::closing::close(registers::get(words, 0));
+    registers::set(words, c.part);
     closed(text, at, c)
 }

@@ -1,20 +1,23 @@
-// The words of a line as numbers: a whole number is itself, a float its bits.
+// The words of a line as numbers, a whole number as itself, a float as its bits; and behind them the registers.
 ghost use Prim.Native.Nat.{_≤_};
 ghost use lib.ListN.{length};
 
 // No line has so many words: the shortest is ` 0`.
 pub const MOST: usize = 2048;
 
-// Where the length of the list of counts stands, and of that of floats, 0 where a line has none; its members follow it.
+// Where the length of the list of counts stands, and of that of floats, for a kind that has one; its members follow it.
 pub const COUNTS: usize = 63;
 
 pub const FLOATS: usize = 2112;
 
-pub type Words = [u64; 4161];
+// Where the words of a line end and the registers start.
+pub const REGISTERS: usize = 4161;
+
+pub type Words = [u64; 4551];
 
 // The word at a place; 0 where there is no such place.
 pub fn whole(words: &Words, at: usize) -> u64 {
-    if at < 4161 { words[at] } else { 0 }
+    if at < 4551 { words[at] } else { 0 }
 }
 
 // A word that was read as a u32.
@@ -51,7 +54,7 @@ pub fn float(words: &Words, at: usize) -> f64 {
 
 // The n words from a place on, into the first n places.
 pub fn counts(words: &Words, at: usize, n: usize, counts: &mut [u32])
-    requires { ⌜ (at ≤ 4096) × (n ≤ length (now counts)) ⌝ }
+    requires { ⌜ (at ≤ 4551) × (n ≤ length (now counts)) ⌝ }
 {
     let mut i = 0;
     while i < n {
@@ -61,7 +64,7 @@ pub fn counts(words: &Words, at: usize, n: usize, counts: &mut [u32])
 }
 
 pub fn floats(words: &Words, at: usize, n: usize, floats: &mut [f64])
-    requires { ⌜ (at ≤ 4096) × (n ≤ length (now floats)) ⌝ }
+    requires { ⌜ (at ≤ 4551) × (n ≤ length (now floats)) ⌝ }
 {
     let mut i = 0;
     while i < n {

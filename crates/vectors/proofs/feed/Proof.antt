@@ -11,10 +11,10 @@ use Rattle.vectors.proofs.feed.Statement.{statement}
 use Rattle.vectors.proofs.feed.Tie as tie
 
 abbrev Inv-loop : tie.InvT-loop
-Inv-loop piece line₀ registers₀ text₀ waiting₀ gathered₀ line registers text waiting gathered = length line ≡ length line₀
+Inv-loop piece line₀ words₀ text₀ waiting₀ gathered₀ line words text waiting gathered = length line ≡ length line₀
 
 abbrev μ-loop : tie.MeasureT-loop
-μ-loop piece line₀ registers₀ text₀ waiting₀ gathered₀ line registers text waiting gathered = length piece + 1 - gathered .next
+μ-loop piece line₀ words₀ text₀ waiting₀ gathered₀ line words text waiting gathered = length piece + 1 - gathered .next
 
 loop-less : tie.Need-loop-less Inv-loop μ-loop
 unfolding gathered
@@ -31,6 +31,7 @@ feed-spec =
     (tie.spec
     Inv-loop
     μ-loop
+    (λ c κs. search needs)
     (λ c κs. search needs)
     (λ c. search needs)
     (λ c κs. search needs)

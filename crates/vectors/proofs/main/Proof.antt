@@ -6,10 +6,10 @@ use Rattle.vectors.proofs.main.Statement.{statement}
 use Rattle.vectors.proofs.main.Tie as tie
 
 abbrev Inv-loop : tie.InvT-loop
-Inv-loop input₀ line₀ text₀ registers₀ held₀ turns₀ more₀ input line text registers held turns more = (65536 ≡ length input) × (4096 ≡ length line)
+Inv-loop input₀ line₀ text₀ words₀ carried₀ turns₀ more₀ t9 input line text words carried turns more = (65536 ≡ length input) × (4096 ≡ length line)
 
 abbrev μ-loop : tie.MeasureT-loop
-μ-loop input₀ line₀ text₀ registers₀ held₀ turns₀ more₀ input line text registers held turns more = turns
+μ-loop input₀ line₀ text₀ words₀ carried₀ turns₀ more₀ t9 input line text words carried turns more = turns
 
 pub main-spec : {M : Type 1} → statement M
 main-spec =
@@ -20,22 +20,19 @@ main-spec =
     (λ c κs. search needs)
     (λ c κs. search needs)
     (λ c κs. search needs)
-    (λ c κs. search needs)
     (λ c. search needs)
     (λ c. search needs)
     (λ c κs. search needs)
     (λ c. search needs)
     (λ c κs. search needs)
     (λ c. search needs)
-    (λ c. search needs)
-    (λ c. search needs)
     (λ c κs. search needs)
     (λ c. search needs)
     (λ c. search needs)
     (λ c. search needs)
     (λ c κs. search needs)
     (λ c. search needs)
-    (λ c κs. search needs)
+    (λ c. search needs)
     (λ c κs. search needs)
     (λ c. search needs)
     (λ c. search needs))

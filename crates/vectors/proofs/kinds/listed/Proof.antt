@@ -5,12 +5,6 @@ use borrow.Author.Needs.{needs}
 use Rattle.vectors.proofs.kinds.listed.Statement.{statement}
 use Rattle.vectors.proofs.kinds.listed.Tie as tie
 
-slice-aggregate-us : tie.Need-slice-aggregate-us
-slice-aggregate-us c = sym (length-take-le _ _ (search needs))
-
-slice-aggregate-fs : tie.Need-slice-aggregate-fs
-slice-aggregate-fs c = sym (length-take-le _ _ (search needs))
-
 pub listed-spec : {M : Type 1} → statement M
 listed-spec =
     tie.close
@@ -24,21 +18,8 @@ listed-spec =
     (λ c. search needs)
     (λ c κs. search needs)
     (λ c. search needs)
-    slice-aggregate-us
+    (λ c. sym (length-take-le _ _ (search needs)))
     (λ c. search needs)
-    slice-aggregate-fs
+    (λ c. sym (length-take-le _ _ (search needs)))
     (λ c κs. search needs)
-    (λ c κs. search needs)
-    (λ c κs. search needs)
-    (λ c. search needs)
-    (λ c κs. search needs)
-    (λ c κs. search needs)
-    (λ c κs. search needs)
-    (λ c. search needs)
-    (λ c κs. search needs)
-    (λ c κs. search needs)
-    (λ c. search needs)
-    (λ c. search needs)
-    (λ c. search needs)
-    (λ c. search needs)
     (λ c. search needs))

@@ -5,10 +5,10 @@ use Rattle.vectors.proofs.registers.show.Statement.{statement}
 use Rattle.vectors.proofs.registers.show.Tie as tie
 
 abbrev Inv-loop : tie.InvT-loop
-Inv-loop registers words text₀ at from end₀ i₀ text end i = i ≤ 39
+Inv-loop words text₀ at from end₀ i₀ text end i = i ≤ 39
 
 abbrev μ-loop : tie.MeasureT-loop
-μ-loop registers words text₀ at from end₀ i₀ text end i = 39 - i
+μ-loop words text₀ at from end₀ i₀ text end i = 39 - i
 
 pub show-spec : {M : Type 1} → statement M
 show-spec =
@@ -16,9 +16,6 @@ show-spec =
     (tie.spec
     Inv-loop
     μ-loop
-    (λ c κs. search needs)
-    (λ c. search needs)
-    (λ c. search needs)
     (λ c κs. search needs)
     (λ c. search needs)
     (λ c κs. search needs)
