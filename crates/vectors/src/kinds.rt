@@ -92,14 +92,6 @@ fn kernel(name: u64, words: &Words) -> f64 {
     }
 }
 
-fn sign(text: &mut Text, at: usize, z: i64) -> usize {
-    if z < 0 {
-        write::mark(text, at, b'-')
-    } else {
-        at
-    }
-}
-
 // A NaN has no key.
 fn key(text: &mut Text, at: usize, x: f64) -> usize {
     if x != x {

@@ -7,7 +7,7 @@ pub type Text = [u8; 65536];
 // The first of twelve digits.
 const TOP: u64 = 0x1000_0000_0000;
 
-// One byte.
+// A byte that parts or marks words.
 pub fn mark(text: &mut Text, at: usize, b: u8) -> usize {
     lay(text, at, &[b])
 }
