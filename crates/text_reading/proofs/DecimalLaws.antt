@@ -26,7 +26,7 @@ use Rattle.text_reading.specs.Fields.{upTo, behind, fieldEnd}
 use Rattle.text_reading.specs.Wholes.{isDigit, allDigits, number, wholeNumberOf}
 use Rattle.text_reading.specs.Decimals.{point, plainDecimal, pointDecimal, decimalOf}
 use Rattle.text_reading.proofs.FieldLaws.{up-to-taken, end-there}
-use Rattle.text_reading.proofs.WholeLaws.{number-shift, number-append, number-lt, whole-number-read, whole-unread}
+use Rattle.text_reading.proofs.WholeLaws.{number-shift, number-append, number-lt, whole-number-read, whole-unreadable}
 
 cross : (M N a b D E : ℕ) → M * 1 ≡ a * D → N * 1 ≡ b * E → M * E * b ≡ a * (N * D)
 cross M N a b D E h k =
@@ -90,9 +90,9 @@ module _ (w : List ℕ) where
   unfolding plainDecimal
   plain-long h = rw (lt-leb (length w) 15 h, and-false (allDigits w))
 
-  pub plain-unread : length w ≤ 15 → wholeNumberOf w ≡ whole.Unreadable → Unreadable ≡ plainDecimal w
+  pub plain-unreadable : length w ≤ 15 → wholeNumberOf w ≡ whole.Unreadable → Unreadable ≡ plainDecimal w
   unfolding plainDecimal
-  plain-unread h e = rw (whole-unread w h e)
+  plain-unreadable h e = rw (whole-unreadable w h e)
 
   pub plain-small : (n : ℕ) → length w ≤ 15 → wholeNumberOf w ≡ whole.Is n → n ≤ 2 ^ 53
   plain-small n h e =
@@ -120,11 +120,11 @@ module _ (w p : List ℕ) where
 
   pub point-left : length w + length p ≤ 15 → wholeNumberOf w ≡ whole.Unreadable → Unreadable ≡ pointDecimal w p
   unfolding pointDecimal
-  point-left h e = rw (whole-unread w (omega arith) e)
+  point-left h e = rw (whole-unreadable w (omega arith) e)
 
   pub point-right : length w + length p ≤ 15 → wholeNumberOf p ≡ whole.Unreadable → Unreadable ≡ pointDecimal w p
   unfolding pointDecimal
-  point-right h e = rw (whole-unread p (omega arith) e, and-false (allDigits w))
+  point-right h e = rw (whole-unreadable p (omega arith) e, and-false (allDigits w))
 
   pub divided : (n m : ℕ) → length w + length p ≤ 15 → wholeNumberOf w ≡ whole.Is n → wholeNumberOf p ≡ whole.Is m → Divided w p n m
   unfolding pointDecimal

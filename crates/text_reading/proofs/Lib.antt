@@ -3,3 +3,4 @@ pub mod DecimalLaws
 pub mod NameLaws
 pub mod WholeLaws
 pub mod FieldLaws
+pub mod HexadecimalLaws

@@ -5,7 +5,7 @@ use mathlib.Core.List.{List, [], _∷_, _++_}
 use Prim.Native.Nat.{ℕ, suc, _+_, _-_, _*_, _^_, _≤_, _<_}
 use native.Mathlib.Nat.{le-trans, lt-of-lt-of-le, zero-lt-suc, zero-add, add-mul, mul-assoc, mul-le-mul-right, pow-succ', pow-le-pow-right}
 use native.Mathlib.Omega.{arith}
-use borrow.Author.Tests.{ltb-true, ltb-false, leb-true, leb-false, lt-ltb, le-ltb}
+use borrow.Author.Tests.{ltb-true, ltb-false, leb-true, leb-false, le-leb, lt-leb, lt-ltb, le-ltb}
 use lib.Dec.{T, leb, ltb, leb→le, lit≤}
 use lib.Ieee.Fits.{and-l, and-r}
 use lib.ListN.{length, getD, drop, drop-of-length-le}
@@ -13,7 +13,7 @@ use Rattle.lists.proofs.PlaceLaws.{drop-next}
 use Rattle.lists.specs.Every.{every}
 use Rattle.lists.proofs.EveryLaws.{every-more, every-end}
 use Rattle.text_reading.specs.declared.wholes.Whole.the-variants.{Is, Unreadable}
-use Rattle.text_reading.specs.Wholes.{isDigit, allDigits, numberFrom, number, wholeNumberOf, digitOf, grownBy}
+use Rattle.text_reading.specs.Wholes.{isDigit, allDigits, numberFrom, number, wholeNumberOf, wholeUpTo, digitOf, grownBy}
 
 never : {n : ℕ} → Unreadable ≡ Is n → ⊥
 never h = let z : _≡_ {A = ℕ} 0 1 = cc in omega arith
@@ -152,9 +152,44 @@ whole-number-read l n h e = go (allDigits l) (sym (short-whole l h) ∙ e)
     go true e = (refl, cc)
     go false e = absurd (never e)
 
-pub whole-unread : (l : List ℕ) → length l ≤ 15 → wholeNumberOf l ≡ Unreadable → allDigits l ≡ false
-whole-unread l h e = go (allDigits l) (sym (short-whole l h) ∙ e)
+pub whole-unreadable : (l : List ℕ) → length l ≤ 15 → wholeNumberOf l ≡ Unreadable → allDigits l ≡ false
+whole-unreadable l h e = go (allDigits l) (sym (short-whole l h) ∙ e)
   where
     go : (t : Bool) → cond t (Is (number l)) Unreadable ≡ Unreadable → t ≡ false
     go true e = absurd (never (sym e))
     go false e = refl
+
+-- ---- numbers up to a limit
+
+-- what is read, by whether all bytes are digits and whether their number fits a u64
+read-as : (l : List ℕ) (t u : Bool) → allDigits l ≡ t → ltb (number l) (2 ^ 64) ≡ u → wholeNumberOf l ≡ cond (t && u) (Is (number l)) Unreadable
+unfolding wholeNumberOf
+read-as l t u d f = rw (d, f)
+
+module _ (l : List ℕ) (m : ℕ) where
+  -- no digits, or a number that fits no u64 and so is above every one
+  pub up-to-unreadable : m < 2 ^ 64 → wholeNumberOf l ≡ Unreadable → Unreadable ≡ wholeUpTo m l
+  unfolding wholeUpTo
+  up-to-unreadable h e = go (allDigits l) (ltb (number l) (2 ^ 64)) refl refl
+    where
+      go : (t u : Bool) → allDigits l ≡ t → ltb (number l) (2 ^ 64) ≡ u → Unreadable ≡ cond (allDigits l && leb (number l) m) (Is (number l)) Unreadable
+      go true true d f = absurd (never (sym e ∙ read-as l true true d f))
+      go true false d f = rw (d, lt-leb (number l) m (lt-of-lt-of-le h (ltb-false (number l) (2 ^ 64) f)))
+      go false u d f = rw d
+
+  -- a number that was read is the number of the digits
+  up-to-read : (n : ℕ) → wholeNumberOf l ≡ Is n → (allDigits l ≡ true) × (n ≡ number l)
+  up-to-read n e = go (allDigits l) (ltb (number l) (2 ^ 64)) refl refl
+    where
+      go : (t u : Bool) → allDigits l ≡ t → ltb (number l) (2 ^ 64) ≡ u → (allDigits l ≡ true) × (n ≡ number l)
+      go true true d f = let same : Is n ≡ Is (number l) = sym e ∙ read-as l true true d f in (d, cc)
+      go true false d f = absurd (never (sym (read-as l true false d f) ∙ e))
+      go false u d f = absurd (never (sym (read-as l false u d f) ∙ e))
+
+  pub up-to-above : (n : ℕ) → wholeNumberOf l ≡ Is n → m < n → Unreadable ≡ wholeUpTo m l
+  unfolding wholeUpTo
+  up-to-above n e h = let r = up-to-read n e in rw (r .0, lt-leb (number l) m (rw (r .1) at h))
+
+  pub up-to-within : (n : ℕ) → wholeNumberOf l ≡ Is n → n ≤ m → Is n ≡ wholeUpTo m l
+  unfolding wholeUpTo
+  up-to-within n e h = let r = up-to-read n e in rw (r .0, le-leb (number l) m (rw (r .1) at h), r .1)

@@ -28,6 +28,10 @@ number l = numberFrom 0 l
 unfoldable pub wholeNumberOf : List ℕ → Whole
 wholeNumberOf l = cond (allDigits l && ltb (number l) (2 ^ 64)) (Is (number l)) Unreadable
 
+-- A2: digits whose number is at most m
+unfoldable pub wholeUpTo : ℕ → List ℕ → Whole
+wholeUpTo m l = cond (allDigits l && leb (number l) m) (Is (number l)) Unreadable
+
 -- ---- for the code
 
 -- A2: the value of a byte, 10 where it is no digit; and a number with one digit more. Each step reads on or ends as

@@ -1,7 +1,7 @@
 // Whole numbers in decimal (docs/RULES.md, A2).
 ghost use mathlib.Core.Path.{_≡_};
 ghost use Prim.Native.Nat.{_<_};
-ghost use Rattle.text_reading.specs.Wholes.{digitOf, grownBy, wholeNumberOf};
+ghost use Rattle.text_reading.specs.Wholes.{digitOf, grownBy, wholeNumberOf, wholeUpTo};
 
 pub enum Whole {
     Is(u64),
@@ -53,6 +53,19 @@ pub fn read_whole(field: &[u8]) -> Whole
         };
         n = m;
         i += 1;
+    }
+    Whole::Is(n)
+}
+
+// A whole number that is at most `most`.
+pub fn read_up_to(field: &[u8], most: u64) -> Whole
+    ensures { λ r. ⌜ r ≡ wholeUpTo most (now (field .entry)) ⌝ }
+{
+    let Whole::Is(n) = read_whole(field) else {
+        return Whole::Unreadable;
+    };
+    if n > most {
+        return Whole::Unreadable;
     }
     Whole::Is(n)
 }

@@ -1,18 +1,20 @@
 -- Texts laid into a buffer, and numbers as text. Assumes nothing.
 use mathlib.Core.Path.{_≡_, refl, sym, ap, _∙_}
-use mathlib.Core.Bool.{Bool, true, false, cond}
+use mathlib.Core.Bool.{Bool, true, false, cond, true≢false}
 use mathlib.Core.List.{List, [], _∷_, _++_, append-assoc}
-use Prim.Native.Nat.{ℕ, zero, suc, _+_, _-_, _*_, _/_, _%_, _^_, _≤_, _<_, min}
+use Prim.Native.Nat.{ℕ, zero, suc, _+_, _-_, _*_, _/_, _%_, _^_, _≤_, _<_, min, zero-le}
 use native.Mathlib.Nat.{add-assoc, le-trans, le-of-eq, lt-of-le-of-lt, not-suc-le-zero, le-of-suc-le-suc, zero-lt-suc, lt-irrefl}
 use native.Mathlib.Nat.{one-le-pow, pow-suc, pow-le-pow-right, mod-eq-of-lt, mod-lt}
 use native.Mathlib.Numerals.{add-one}
 use native.Mathlib.Omega.{arith}
 use borrow.Author.Tests.{le-leb, lt-leb, lt-ltb, le-ltb, ltb-true, ltb-false, leb-true, leb-false}
 use lib.Dec.{leb, ltb, lit≤}
+use lib.IntN.{ℤ, pos, negsuc, natAbs}
+use lib.Signed.{ltZ}
 use lib.ListN.{length, take, drop, length-append}
 use lib.Seq.{paste, paste-zero, length-paste, take-paste, drop-paste, drop-drop, take-all, take-append-add, take-append-le}
 use Rattle.io.specs.Digits.{glyph, digits, Fewest}
-use Rattle.text_writing.specs.Laying.{laidEnd, laid, glyphOf, textOf, wholeText}
+use Rattle.text_writing.specs.Laying.{laidEnd, laid, glyphOf, textOf, wholeText, signedText}
 
 module _ (l : List ℕ) (at : ℕ) (s : List ℕ) where
   -- no room at all
@@ -170,3 +172,15 @@ short k n h w = go (ltb 20 k) refl
 pub whole-text : (k n : ℕ) → n < 2 ^ 64 → Fewest 10 1 n k → digits 10 k n ≡ wholeText n
 unfolding wholeText
 whole-text k n h w = text-is 20 k n (short k n h (w .2)) w
+
+-- ---- numbers with a sign
+
+pub signed-below : (z : ℤ) → ltZ z (pos 0) ≡ true → (45 ∷ []) ++ wholeText (natAbs z) ≡ signedText z
+unfolding signedText
+signed-below (pos n) h = absurd (true≢false (sym h ∙ le-ltb n 0 zero-le))
+signed-below (negsuc k) h = refl
+
+pub signed-not-below : (z : ℤ) → ltZ z (pos 0) ≡ false → wholeText (natAbs z) ≡ signedText z
+unfolding signedText
+signed-not-below (pos n) h = refl
+signed-not-below (negsuc k) h = absurd (true≢false h)

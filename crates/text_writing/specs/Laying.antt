@@ -3,6 +3,7 @@ use Prim.Native.Nat.{ℕ, zero, suc, _+_, _-_, _/_, _%_, min}
 use mathlib.Core.Bool.{cond}
 use mathlib.Core.List.{List, [], _∷_, _++_}
 use lib.Dec.{ltb, leb}
+use lib.IntN.{ℤ, pos, negsuc}
 use lib.ListN.{length}
 use lib.Seq.{paste}
 
@@ -26,3 +27,8 @@ textOf (suc k) n = cond (ltb n 10) (glyphOf n ∷ []) (textOf k (n / 10) ++ (gly
 -- A5: of a u64: 20 digits hold it
 unfoldable pub wholeText : ℕ → List ℕ
 wholeText n = textOf 20 n
+
+-- A5: of an i64: a minus and its size where it is below zero
+unfoldable pub signedText : ℤ → List ℕ
+signedText (pos n) = wholeText n
+signedText (negsuc n) = 45 ∷ wholeText (suc n)

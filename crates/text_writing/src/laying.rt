@@ -1,9 +1,10 @@
 // Bytes laid into a lent buffer, one text behind the other (docs/RULES.md, A5).
 ghost use mathlib.Core.Path.{_≡_};
 ghost use Prim.Native.Nat.{_+_, _≤_};
+ghost use lib.IntN.{natAbs};
 ghost use lib.ListN.{length, take};
 ghost use lib.Seq.{paste};
-ghost use Rattle.text_writing.specs.Laying.{laidEnd, laid, wholeText};
+ghost use Rattle.text_writing.specs.Laying.{laidEnd, laid, wholeText, signedText};
 
 // The first n bytes of s, at a place of the text.
 fn copy(text: &mut [u8], at: usize, s: &[u8], n: usize)
@@ -42,6 +43,29 @@ pub fn lay_whole(text: &mut [u8], at: usize, n: u64) -> usize
     let mut digits = [0u8; 20];
     let k = io::decimal(n, &mut digits);
     lay(text, at, &digits[..k])
+}
+
+// The number without its sign.
+fn size(z: i64) -> u64
+    ensures { λ r. ⌜ r ≡ natAbs z ⌝ }
+{
+    if z < 0 {
+        (0 - (z + 1)) as u64 + 1
+    } else {
+        z as u64
+    }
+}
+
+// Lays a number in decimal, with a minus where it is below zero.
+pub fn lay_signed(text: &mut [u8], at: usize, z: i64) -> usize
+    ensures { λ r. ⌜ (r ≡ laidEnd (length (now (text .entry))) at (length (signedText z)))
+        × (now (text .exit) ≡ laid (now (text .entry)) at (signedText z)) ⌝ }
+{
+    if z < 0 {
+        let to_size = lay(text, at, b"-");
+        return lay_whole(text, to_size, size(z));
+    }
+    lay_whole(text, at, size(z))
 }
 
 // The first `count` bytes of a text, all of it where it has fewer.

@@ -1,3 +1,4 @@
-// Text out: bytes and whole numbers in a buffer, figures with two decimals.
+// Text out: bytes and whole and hexadecimal numbers in a buffer, figures with two decimals.
 pub mod figures;
+pub mod hexadecimals;
 pub mod laying;

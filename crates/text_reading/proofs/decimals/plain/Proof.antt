@@ -4,7 +4,7 @@ use mathlib.Core.Path.{sym, _∙_}
 use lib.Ieee.{inFloat}
 use lib.Dec.{le→leb}
 use borrow.Author.Needs.{needs}
-use Rattle.text_reading.proofs.DecimalLaws.{plain-long, plain-unread, plain-small, plain-read}
+use Rattle.text_reading.proofs.DecimalLaws.{plain-long, plain-unreadable, plain-small, plain-read}
 use Rattle.text_reading.proofs.decimals.plain.Statement.{statement}
 use Rattle.text_reading.proofs.decimals.plain.Tie as tie
 
@@ -21,7 +21,7 @@ enum-told : tie.Need-enum-told
 enum-told c = search needs
 
 returns-2 : tie.Need-returns-2
-returns-2 c = plain-unread (c .before .before .before .before .before .args .whole .now) (search needs) (sym (c .before .before .read-whole .ensures) ∙ c .enum-told .given .1)
+returns-2 c = plain-unreadable (c .before .before .before .before .before .args .whole .now) (search needs) (sym (c .before .before .read-whole .ensures) ∙ c .enum-told .given .1)
 
 int-to-float-t6 : tie.Need-int-to-float-t6
 unfolding inFloat
