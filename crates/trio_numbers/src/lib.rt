@@ -1,0 +1,2 @@
+// A part as plain numbers, and back.
+pub mod numbers;

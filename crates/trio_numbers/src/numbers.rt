@@ -1,0 +1,161 @@
+// A part as a row of numbers, and back (docs/VECTORS.md, `part`).
+ghost use mathlib.Core.Path.{_≡_};
+ghost use mathlib.Core.List.{_++_, map};
+ghost use Prim.Native.Nat.{_+_, _≤_};
+ghost use lib.Ieee.{binary64, toBits};
+ghost use lib.ListN.{length, getD, drop, replicate};
+ghost use lib.Seq.{sets};
+ghost use Rattle.trio_numbers.specs.Numbers.{firstNumbers, partNumbers, partPut};
+ghost use Rattle.trio_numbers.specs.Numbers.{asCount, numbersCounts, numbersWeights, numbersEntry, numbersPart};
+use floats::bits::bits;
+use floats::bits::of_bits;
+use trio_entries::entry::Entry;
+use trio_entries::held::Held;
+use trio_parts::part::Part;
+
+// The seven numbers before the counts, and zeros.
+fn first_numbers(p: Part) -> [u64; 39]
+    ensures { λ r. ⌜ r ≡ firstNumbers p ++ replicate 32 0 ⌝ }
+{
+    let held = p.held;
+    let first = held.first;
+    let second = held.second;
+    let mut numbers = [0u64; 39];
+    numbers[0] = p.clusters;
+    numbers[1] = p.marks;
+    numbers[2] = held.count;
+    numbers[3] = first.position;
+    numbers[4] = second.position;
+    numbers[5] = bits(first.score);
+    numbers[6] = bits(second.score);
+    numbers
+}
+
+fn put_counts(numbers: &mut [u64; 39], counts: [u32; 24])
+    ensures { λ _. ⌜ now (numbers .exit) ≡ sets (now (numbers .entry)) 7 counts ⌝ }
+{
+    let mut i: usize = 0;
+    while i < 24 {
+        numbers[7 + i] = counts[i] as u64;
+        i += 1;
+    }
+}
+
+fn put_weights(numbers: &mut [u64; 39], weights: [f64; 8])
+    ensures { λ _. ⌜ now (numbers .exit) ≡ sets (now (numbers .entry)) 31 (map (toBits binary64) weights) ⌝ }
+{
+    let mut i: usize = 0;
+    while i < 8 {
+        numbers[31 + i] = bits(weights[i]);
+        i += 1;
+    }
+}
+
+// The numbers of a part.
+pub fn numbers_of(p: Part) -> [u64; 39]
+    ensures { λ r. ⌜ r ≡ partNumbers p ⌝ }
+{
+    let counts = p.counts;
+    let weights = p.weights;
+    let mut numbers = first_numbers(p);
+    put_counts(&mut numbers, counts);
+    put_weights(&mut numbers, weights);
+    numbers
+}
+
+fn put_numbers(numbers: &mut [u64], at: usize, row: [u64; 39])
+    requires { ⌜ at + 39 ≤ length (now numbers) ⌝ }
+    ensures { λ _. ⌜ now (numbers .exit) ≡ sets (now (numbers .entry)) at row ⌝ }
+{
+    let mut i: usize = 0;
+    while i < 39 {
+        numbers[at + i] = row[i];
+        i += 1;
+    }
+}
+
+// Puts the numbers of a part at the places from `at` on; where there is not room for all of them nothing changes.
+pub fn put_part(numbers: &mut [u64], at: usize, p: Part)
+    ensures { λ _. ⌜ now (numbers .exit) ≡ partPut (now (numbers .entry)) at p ⌝ }
+{
+    if numbers.len() < 39 {
+        return;
+    }
+    if numbers.len() - 39 < at {
+        return;
+    }
+    put_numbers(numbers, at, numbers_of(p));
+}
+
+fn as_count(n: u64) -> u32
+    ensures { λ r. ⌜ r ≡ asCount n ⌝ }
+{
+    if n > u32::MAX as u64 {
+        return u32::MAX;
+    }
+    n as u32
+}
+
+// The number i places behind `at`, 0 where there is none.
+fn number_at(numbers: &[u64], at: usize, i: usize) -> u64
+    ensures { λ r. ⌜ r ≡ getD (drop at (now (numbers .entry))) i 0 ⌝ }
+{
+    if numbers.len() <= at {
+        return 0;
+    }
+    if numbers.len() - at <= i {
+        return 0;
+    }
+    numbers[at + i]
+}
+
+fn counts_at(numbers: &[u64], at: usize) -> [u32; 24]
+    ensures { λ r. ⌜ r ≡ numbersCounts (drop at (now (numbers .entry))) ⌝ }
+{
+    let mut counts = [0u32; 24];
+    let mut i: usize = 0;
+    while i < 24 {
+        counts[i] = as_count(number_at(numbers, at, 7 + i));
+        i += 1;
+    }
+    counts
+}
+
+fn weights_at(numbers: &[u64], at: usize) -> [f64; 8]
+    ensures { λ r. ⌜ r ≡ numbersWeights (drop at (now (numbers .entry))) ⌝ }
+{
+    let mut weights = [0.0f64; 8];
+    let mut i: usize = 0;
+    while i < 8 {
+        weights[i] = of_bits(number_at(numbers, at, 31 + i));
+        i += 1;
+    }
+    weights
+}
+
+fn entry_at(numbers: &[u64], at: usize, position: usize, score: usize) -> Entry
+    ensures { λ r. ⌜ r ≡ numbersEntry (drop at (now (numbers .entry))) position score ⌝ }
+{
+    Entry {
+        position: number_at(numbers, at, position),
+        score: of_bits(number_at(numbers, at, score)),
+    }
+}
+
+// The part of the 39 numbers from a place on; a number that is not there counts as 0.
+pub fn part_at(numbers: &[u64], at: usize) -> Part
+    ensures { λ r. ⌜ r ≡ numbersPart (drop at (now (numbers .entry))) ⌝ }
+{
+    let held = Held {
+        count: number_at(numbers, at, 2),
+        first: entry_at(numbers, at, 3, 5),
+        second: entry_at(numbers, at, 4, 6),
+    };
+    Part {
+        clusters: number_at(numbers, at, 0),
+        counts: counts_at(numbers, at),
+        weights: weights_at(numbers, at),
+        marks: number_at(numbers, at, 1),
+        held,
+    }
+}
