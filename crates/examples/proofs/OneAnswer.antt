@@ -7,6 +7,7 @@ use Rattle.floats.proofs.key.key.Reads as key
 use Rattle.floats.proofs.key.at_most.Reads as at-most
 use Rattle.floats.proofs.key.below.Reads as below
 use Rattle.floats.proofs.bits.bits.Reads as bits
+use Rattle.floats.proofs.bits.of_bits.Reads as of-bits
 use Rattle.kernels.proofs.ln.ln.Reads as ln
 use Rattle.kernels.proofs.exp.exp.Reads as exp
 use Rattle.kernels_tens.proofs.log10.log10.Reads as log10
@@ -46,6 +47,9 @@ use Rattle.trio_samples.proofs.samples.compute_log_likelihood.Reads as compute-
 use Rattle.trio_parts.proofs.part.Part.empty.Reads as part-empty
 use Rattle.trio_parts.proofs.shape.right_part.Reads as right-part
 use Rattle.trio_parts.proofs.input.same_input.Reads as same-input
+use Rattle.trio_numbers.proofs.numbers.numbers_of.Reads as numbers-of
+use Rattle.trio_numbers.proofs.numbers.part_at.Reads as part-at
+use Rattle.trio_numbers.proofs.numbers.put_part.Reads as put-part
 use Rattle.trio_closings.proofs.animal.sample_score.Reads as sample-score
 use Rattle.trio_opening.proofs.opening.open_part.Reads as open-part
 use Rattle.trio.proofs.rows.row_count.Reads as row-count
@@ -88,12 +92,17 @@ use Rattle.text_reading.proofs.fields.field.Reads as field
 use Rattle.text_reading.proofs.fields.next_field.Reads as next-field
 use Rattle.text_reading.proofs.names.packed.Reads as packed
 use Rattle.text_reading.proofs.wholes.read_whole.Reads as read-whole
+use Rattle.text_reading.proofs.wholes.read_up_to.Reads as read-up-to
 use Rattle.text_reading.proofs.decimals.read_decimal.Reads as read-decimal
+use Rattle.text_reading.proofs.hexadecimals.read_hexadecimal.Reads as read-hexadecimal
 use Rattle.text_writing.proofs.figures.hundredths.Reads as hundredths
 use Rattle.text_writing.proofs.figures.lay_figure.Reads as lay-figure
 use Rattle.text_writing.proofs.laying.first_bytes.Reads as first-bytes
 use Rattle.text_writing.proofs.laying.lay.Reads as lay
 use Rattle.text_writing.proofs.laying.lay_whole.Reads as lay-whole
+use Rattle.text_writing.proofs.laying.lay_signed.Reads as lay-signed
+use Rattle.text_writing.proofs.hexadecimals.lay_hexadecimal.Reads as lay-hexadecimal
+use Rattle.text_writing.proofs.hexadecimals.lay_bits.Reads as lay-bits
 use Rattle.text_lines.proofs.gathering.gather.Reads as gather
 use Rattle.text_lines.proofs.gathering.fits.Reads as fits
 use Rattle.text_lines.proofs.gathering.is_unended.Reads as is-unended
@@ -130,6 +139,9 @@ below-once κ a v w e f = only
 
 pub bits-once : OneAnswer bits.Post
 bits-once κ a v w e f = only
+
+pub of-bits-once : OneAnswer of-bits.Post
+of-bits-once κ a v w e f = only
 
 -- ---- kernels
 
@@ -296,6 +308,16 @@ refused-closing-once κ a v w e f = only
 pub close-once : OneAnswer close.Post
 close-once κ a v w e f = only
 
+pub numbers-of-once : OneAnswer numbers-of.Post
+numbers-of-once κ a v w e f = only
+
+pub part-at-once : OneAnswer part-at.Post
+part-at-once κ a v w e f = only
+
+-- the numbers, its first parameter
+pub put-part-ends : (κ : _) (a : _) (v w : _) (e f : _) → put-part.Post κ a v e → put-part.Post κ a w f → e .0 .now ≡ f .0 .now
+put-part-ends κ a v w e f = only
+
 -- ---- trio: the whole call
 
 pub call-once : OneAnswer call.Post
@@ -447,8 +469,14 @@ packed-once κ a v w e f = only
 pub read-whole-once : OneAnswer read-whole.Post
 read-whole-once κ a v w e f = only
 
+pub read-up-to-once : OneAnswer read-up-to.Post
+read-up-to-once κ a v w e f = only
+
 pub read-decimal-once : OneAnswer read-decimal.Post
 read-decimal-once κ a v w e f = only
+
+pub read-hexadecimal-once : OneAnswer read-hexadecimal.Post
+read-hexadecimal-once κ a v w e f = only
 
 pub hundredths-once : OneAnswer hundredths.Post
 hundredths-once κ a v w e f = only
@@ -465,6 +493,24 @@ lay-whole-once κ a v w e f p q = only (p .0) (q .0)
 
 pub lay-whole-ends : (κ : _) (a : _) (v w : _) (e f : _) → lay-whole.Post κ a v e → lay-whole.Post κ a w f → e .0 .now ≡ f .0 .now
 lay-whole-ends κ a v w e f p q = only (p .1) (q .1)
+
+pub lay-signed-once : OneAnswer lay-signed.Post
+lay-signed-once κ a v w e f p q = only (p .0) (q .0)
+
+pub lay-signed-ends : (κ : _) (a : _) (v w : _) (e f : _) → lay-signed.Post κ a v e → lay-signed.Post κ a w f → e .0 .now ≡ f .0 .now
+lay-signed-ends κ a v w e f p q = only (p .1) (q .1)
+
+pub lay-hexadecimal-once : OneAnswer lay-hexadecimal.Post
+lay-hexadecimal-once κ a v w e f p q = only (p .0) (q .0)
+
+pub lay-hexadecimal-ends : (κ : _) (a : _) (v w : _) (e f : _) → lay-hexadecimal.Post κ a v e → lay-hexadecimal.Post κ a w f → e .0 .now ≡ f .0 .now
+lay-hexadecimal-ends κ a v w e f p q = only (p .1) (q .1)
+
+pub lay-bits-once : OneAnswer lay-bits.Post
+lay-bits-once κ a v w e f p q = only (p .0) (q .0)
+
+pub lay-bits-ends : (κ : _) (a : _) (v w : _) (e f : _) → lay-bits.Post κ a v e → lay-bits.Post κ a w f → e .0 .now ≡ f .0 .now
+lay-bits-ends κ a v w e f p q = only (p .1) (q .1)
 
 pub lay-figure-once : OneAnswer lay-figure.Post
 lay-figure-once κ a v w e f p q = only (p .0) (q .0)

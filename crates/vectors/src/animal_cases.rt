@@ -3,6 +3,7 @@ ghost use Prim.Native.Nat.{_≤_};
 use crate::words;
 use crate::words::Words;
 use crate::write;
+use crate::write::Answer;
 use crate::write::Text;
 use diploid::genotype::GenotypeResult;
 use diploid::genotype::genotype;
@@ -40,29 +41,34 @@ fn model(words: &Words) -> Model {
     }
 }
 
-fn diploid_answer(text: &mut Text, at: usize, answer: GenotypeResult) -> usize {
+fn diploid_answer(answer: GenotypeResult) -> Answer {
     let refusal = answer.refusal;
     let state = answer.state;
-    let to_state = write::word(text, at, 4, refusals::number(refusal) as u64);
-    let to_gq = write::then(text, to_state, 8, state_number(state) as u64);
-    let to_sq = write::then(text, to_gq, 0xf, bits(answer.gq));
-    write::then(text, to_sq, 0xf, bits(answer.sq))
+    write::short(
+        0x48ff_0000_0000,
+        refusals::number(refusal) as u64,
+        state_number(state) as u64,
+        bits(answer.gq),
+        bits(answer.sq),
+    )
 }
 
-pub fn diploid(words: &Words, table: &[f64], text: &mut Text, at: usize) -> usize {
-    let reference = words::number(words, 20);
-    let alt1 = words::number(words, 24);
-    let alt2 = words::number(words, 28);
-    let answer = genotype(model(words), table, reference, alt1, alt2);
-    diploid_answer(text, at, answer)
+pub fn diploid(words: &Words, table: &[f64]) -> Answer {
+    diploid_answer(genotype(
+        model(words),
+        table,
+        words::number(words, 20),
+        words::number(words, 24),
+        words::number(words, 28),
+    ))
 }
 
 // The first n of these, as a list.
 fn alleles(text: &mut Text, at: usize, n: usize, xs: [usize; 8]) -> usize {
-    let mut end = write::then(text, at, 8, n as u64);
+    let mut end = write::word(text, at, 8, n as u64);
     let mut i = 0;
     while i < 8 {
-        end = write::then_if(text, end, i < n, 8, xs[i] as u64);
+        end = write::word_if(text, end, i < n, 8, xs[i] as u64);
         i += 1;
     }
     end
@@ -70,10 +76,10 @@ fn alleles(text: &mut Text, at: usize, n: usize, xs: [usize; 8]) -> usize {
 
 // The same of probabilities.
 fn probabilities(text: &mut Text, at: usize, n: usize, xs: [f64; 36]) -> usize {
-    let mut end = write::then(text, at, 8, n as u64);
+    let mut end = write::word(text, at, 8, n as u64);
     let mut i = 0;
     while i < 36 {
-        end = write::then_if(text, end, i < n, 0xf, bits(xs[i]));
+        end = write::word_if(text, end, i < n, 0xf, bits(xs[i]));
         i += 1;
     }
     end
@@ -93,13 +99,13 @@ fn how_many(flags: [bool; 8]) -> u64 {
 
 // An allele with its VAF, if it is somatic.
 fn share(text: &mut Text, at: usize, somatic: bool, allele: usize, vaf: f64) -> usize {
-    let to_vaf = write::then_if(text, at, somatic, 8, allele as u64);
-    write::then_if(text, to_vaf, somatic, 0xf, bits(vaf))
+    let to_vaf = write::word_if(text, at, somatic, 8, allele as u64);
+    write::word_if(text, to_vaf, somatic, 0xf, bits(vaf))
 }
 
 // The somatic alleles.
 fn shares(text: &mut Text, at: usize, somatic: [bool; 8], vafs: [f64; 8]) -> usize {
-    let mut end = write::then(text, at, 8, how_many(somatic));
+    let mut end = write::word(text, at, 8, how_many(somatic));
     let mut i = 0;
     while i < 8 {
         end = share(text, end, somatic[i], i, vafs[i]);
@@ -134,13 +140,16 @@ fn evidence(text: &mut Text, at: usize, answer: MosaicResult) -> usize {
     let observed = answer.observed;
     let chances = answer.probabilities;
     let to_posterior = alleles(text, at, answer.seen, observed);
-    let to_quality = write::then(text, to_posterior, 0xf, bits(answer.posterior));
-    let to_chances = write::then(text, to_quality, 0xf, bits(answer.quality));
+    let to_quality = write::word(text, to_posterior, 0xf, bits(answer.posterior));
+    let to_chances = write::word(text, to_quality, 0xf, bits(answer.quality));
     probabilities(text, to_chances, answer.hypotheses, chances)
 }
 
-pub fn mosaic(words: &Words, counts: &[u32], text: &mut Text, at: usize) -> usize {
-    let answer = mosaic::genotype::genotype(params(words), counts);
+pub fn mosaic(words: &Words, text: &mut Text, at: usize) -> usize {
+    let mut counts = [0u32; 2048];
+    let n = words::many(words, words::COUNTS);
+    words::counts(words, words::COUNTS + 1, n, &mut counts);
+    let answer = mosaic::genotype::genotype(params(words), &counts[..n]);
     let to_observed = call(text, at, answer);
     evidence(text, to_observed, answer)
 }

@@ -1,7 +1,6 @@
 // The kinds of cases: the first word of a line names its kind.
-// A new kind is a name, the digits of its words, and a branch of `answered`, or of `of_lists` if it has a list, whose function writes
-// the answer from the words that were read. A word more in an answer is a line more in that function.
-ghost use Prim.Native.Nat.{_≤_};
+// A new kind is a name, the digits of its words, and a branch of `numbers`, or of `of_lists` if it has a list, whose function makes the
+// answer of the words that were read. A word more in an answer is a digit and a number more in that function.
 use crate::animal_cases;
 use crate::read::SPACE;
 use crate::read::read;
@@ -10,9 +9,14 @@ use crate::trio_cases;
 use crate::words;
 use crate::words::Words;
 use crate::write;
+use crate::write::Answer;
 use crate::write::Text;
 use floats::bits::bits;
+use text_reading::fields::field;
 use text_reading::fields::next_field;
+use text_reading::names::packed;
+use text_writing::laying::lay_signed;
+use trio_numbers::numbers::part_at;
 
 // The names, as `packed` has them: their bytes in ASCII.
 const LN: u64 = 0x6c6e;
@@ -56,7 +60,8 @@ const CLOSE: u64 = 0x636c6f7365;
 const SHOW: u64 = 0x73686f77;
 
 // The words of a question, a hexadecimal digit for each: 4 and 8 a whole number of so many bytes, f a float, 9 a register, c a cluster, 2 a
-// mode or a sample; 3 three floats, d a part; a a list of u32 and b one of floats, of which a kind has at most one each, a first.
+// mode or a sample; 3 three floats, d a part; a a list of u32 and b one of floats, of which a kind has at most one each, a first. Every kind
+// has a word: 0 is no kind.
 fn digits(name: u64) -> u64 {
     match name {
         LN | EXP | LOG10 | POW10 | LGAMMA | STIRLING | KEY => 0xf000_0000,
@@ -71,7 +76,7 @@ fn digits(name: u64) -> u64 {
         COPY | MERGE => 0x9900_0000,
         ROW => 0x9400_0000,
         CLOSE | SHOW => 0x9000_0000,
-        _ => 0x1000_0000,
+        _ => 0,
     }
 }
 
@@ -97,59 +102,47 @@ fn key(text: &mut Text, at: usize, x: f64) -> usize {
     if x != x {
         return write::word(text, at, 0xf, bits(x));
     }
-    let z = floats::key::key(x);
-    let to_size = if z < 0 {
-        write::mark(text, at, b'-')
-    } else {
-        at
-    };
-    write::word(text, to_size, 8, write::size(z))
+    let end = lay_signed(text, at, floats::key::key(x));
+    write::mark(text, end, b' ')
 }
 
-// The answer to a kind whose words have a list.
-fn of_lists(
-    name: u64,
-    words: &mut Words,
-    us: &[u32],
-    fs: &[f64],
-    text: &mut Text,
-    at: usize,
-) -> usize {
+// The answer to a kind whose words have both lists.
+fn of_lists(name: u64, words: &mut Words, us: &[u32], fs: &[f64]) -> Answer {
     match name {
-        DIPLOID => animal_cases::diploid(words, fs, text, at),
-        MOSAIC => animal_cases::mosaic(words, us, text, at),
-        SAMPLE => trio_cases::sample(words, us, fs, text, at),
-        OPEN => write::word(text, at, 4, trio_cases::open(words, us, fs)),
-        _ => trio_cases::called(words, us, fs, text, at),
+        DIPLOID => animal_cases::diploid(words, fs),
+        SAMPLE => trio_cases::sample(words, us, fs),
+        OPEN => trio_cases::open(words, us, fs),
+        _ => trio_cases::called(words, us, fs),
     }
 }
 
-fn listed(name: u64, words: &mut Words, text: &mut Text, at: usize) -> usize {
+fn listed(name: u64, words: &mut Words) -> Answer {
     let mut counts = [0u32; 2048];
     let mut floats = [0.0f64; 2048];
     let n = words::many(words, words::COUNTS);
     let m = words::many(words, words::FLOATS);
     words::counts(words, words::COUNTS + 1, n, &mut counts);
     words::floats(words, words::FLOATS + 1, m, &mut floats);
-    of_lists(name, words, &counts[..n], &floats[..m], text, at)
+    of_lists(name, words, &counts[..n], &floats[..m])
 }
 
 // A part is copied from its line, or from a register.
-fn copied(words: &mut Words, from: usize, text: &mut Text, at: usize) -> usize
-    requires { ⌜ from ≤ 4512 ⌝ }
-{
-    registers::set(words, registers::part_at(words, from));
-    text_writing::laying::lay(text, at, b"ok")
+fn copied(words: &mut Words, from: usize) -> Answer {
+    let part = part_at(words, from);
+    registers::set(words, part);
+    write::short(0x1000_0000_0000, 0, 0, 0, 0)
 }
 
-// The answer to a kind that works with registers.
-fn stepped(name: u64, words: &mut Words, text: &mut Text, at: usize) -> usize {
+fn numbers(name: u64, words: &mut Words) -> Answer {
     match name {
-        PART => copied(words, 4, text, at),
-        COPY => copied(words, registers::start(words, 4), text, at),
-        ROW | MERGE => write::word(text, at, 4, trio_cases::step(words, name == ROW)),
-        CLOSE => trio_cases::closing(words, text, at),
-        _ => registers::show(words, text, at),
+        MENDEL => trio_cases::mendel(words),
+        PART => copied(words, 4),
+        COPY => copied(words, registers::start(words, 4)),
+        ROW => trio_cases::row(words),
+        MERGE => trio_cases::merged(words),
+        CLOSE => trio_cases::closing(words),
+        DIPLOID | SAMPLE | OPEN | CALL => listed(name, words),
+        _ => write::float(kernel(name, words)),
     }
 }
 
@@ -157,18 +150,18 @@ fn stepped(name: u64, words: &mut Words, text: &mut Text, at: usize) -> usize {
 fn answered(name: u64, words: &mut Words, text: &mut Text, at: usize) -> usize {
     match name {
         KEY => key(text, at, words::float(words, 0)),
-        MENDEL => trio_cases::mendel(words, text, at),
-        DIPLOID | MOSAIC | SAMPLE | OPEN | CALL => listed(name, words, text, at),
-        PART | COPY | ROW | MERGE | CLOSE | SHOW => stepped(name, words, text, at),
-        _ => write::word(text, at, 0xf, bits(kernel(name, words))),
+        MOSAIC => animal_cases::mosaic(words, text, at),
+        SHOW => registers::show(words, text, at),
+        _ => write::answer(text, at, numbers(name, words)),
     }
 }
 
 // The answer to a line, without its newline.
 pub fn answer(line: &[u8], words: &mut Words, text: &mut Text, at: usize) -> usize {
-    let name = text_reading::names::packed(text_reading::fields::field(line, 0, SPACE));
-    if read(line, next_field(line, 0, SPACE), digits(name), words) {
+    let name = packed(field(line, 0, SPACE));
+    let digits = digits(name);
+    if digits != 0 && read(line, next_field(line, 0, SPACE), digits, words) {
         return answered(name, words, text, at);
     }
-    write::mark(text, at, b'?')
+    write::answer(text, at, write::unreadable())
 }

@@ -35,7 +35,7 @@ fn answer(line: &[u8], count: usize, words: &mut Words, text: &mut Text, at: usi
     if text_lines::gathering::fits(line, count) {
         return kinds::answer(first_bytes(line, count), words, text, at);
     }
-    write::mark(text, at, b'?')
+    write::answer(text, at, write::unreadable())
 }
 
 // Answers a line that has ended, behind the answers that wait.
@@ -48,7 +48,7 @@ fn answered(
 ) -> Waiting {
     let end = answer(line, count, words, text, waiting.count);
     let after = Waiting {
-        count: write::mark(text, end, b'\n'),
+        count: write::ended(text, end),
         well: waiting.well,
     };
     if text_lines::waiting::is_due(text, after) {

@@ -1,12 +1,13 @@
 // A line's words by the digits of its kind.
-ghost use Prim.Native.Nat.{_≤_};
+ghost use Prim.Native.Nat.{_+_, _≤_};
 use crate::words;
 use crate::words::Words;
 use text_reading::fields::field;
 use text_reading::fields::next_field;
+use text_reading::hexadecimals::read_hexadecimal;
 use text_reading::names::packed;
 use text_reading::wholes::Whole;
-use text_reading::wholes::read_whole;
+use text_reading::wholes::read_up_to;
 
 // What parts two words.
 pub const SPACE: u8 = b' ';
@@ -21,55 +22,32 @@ const NAN: u64 = 0x6e616e;
 // read either: a line is read to its last word, and asked once.
 const NOWHERE: usize = usize::MAX;
 
-// The value of a lowercase hexadecimal digit; 16 for any other byte.
-fn hex_digit(b: u8) -> u64 {
-    match b {
-        b'0'..=b'9' => (b - b'0') as u64,
-        b'a'..=b'f' => (b - b'a') as u64 + 10,
-        _ => 16,
-    }
-}
-
 // The bits of a float: `nan`, or sixteen hexadecimal digits.
 fn float(word: &[u8]) -> Whole {
     if packed(word) == NAN {
         return Whole::Is(0x7FF8_0000_0000_0000);
     }
-    let mut n: u64 = 0;
-    let mut read = word.len() == 16;
-    let mut i = 0;
-    while i < word.len() {
-        let d = hex_digit(word[i]);
-        read = read && d < 16;
-        n = (n << 4) | d;
-        i += 1;
-    }
-    if !read {
-        return Whole::Unreadable;
-    }
-    Whole::Is(n)
+    read_hexadecimal(word)
 }
 
-// What a word is by its digit. No word is a 1, which unknown kinds have.
-fn value(digit: u64, word: &[u8]) -> Whole {
-    if digit == 0xf {
-        return float(word);
-    }
-    let most = match digit {
+// The highest whole number of a digit.
+fn highest(digit: u64) -> u64 {
+    match digit {
         8 => u64::MAX,
         4 => u32::MAX as u64,
         LENGTH => words::MOST as u64,
         9 => 9,
         0xc => 7,
         _ => 2,
-    };
-    let Whole::Is(n) = read_whole(word) else {
-        return Whole::Unreadable;
-    };
-    if digit == 1 || n > most {
-        return Whole::Unreadable;
     }
-    Whole::Is(n)
+}
+
+// What a word is by its digit.
+fn value(digit: u64, word: &[u8]) -> Whole {
+    if digit == 0xf {
+        return float(word);
+    }
+    read_up_to(word, highest(digit))
 }
 
 // The digit of a word of several: those of a part differ.
@@ -77,27 +55,30 @@ pub fn digit_at(digit: u64, i: usize) -> u64 {
     if digit != 0xd {
         return digit;
     }
+    if i > 30 {
+        return 0xf;
+    }
     match i {
         1 => 8,
-        5 | 6 | 31..=38 => 0xf,
+        5 | 6 => 0xf,
         _ => 4,
     }
 }
 
 // Sets a word, and answers where the next one starts in the line.
-fn read_word(line: &[u8], at: usize, digit: u64, words: &mut Words, to: usize) -> usize {
+fn read_word(line: &[u8], at: usize, digit: u64, words: &mut Words, to: usize) -> usize
+    requires { ⌜ to ≤ 4160 ⌝ }
+{
     let Whole::Is(x) = value(digit, field(line, at, SPACE)) else {
         return NOWHERE;
     };
-    if to < words::REGISTERS {
-        words[to] = x;
-    }
+    words[to] = x;
     next_field(line, at, SPACE)
 }
 
 // n words.
 fn read_words(line: &[u8], at: usize, digit: u64, words: &mut Words, to: usize, n: usize) -> usize
-    requires { ⌜ (to ≤ 4096) × (n ≤ 2048) ⌝ }
+    requires { ⌜ to + n ≤ 4161 ⌝ }
 {
     let mut next = at;
     let mut i = 0;

@@ -1,12 +1,16 @@
 // The cases of a trio: the Mendelian term, an animal's score, the whole call, and the steps, which work with registers.
+ghost use Prim.Native.Nat.{_≤_};
 use crate::registers;
 use crate::words;
 use crate::words::Words;
 use crate::write;
-use crate::write::Text;
+use crate::write::Answer;
 use floats::bits::bits;
+use trio::merging::merge;
+use trio::rows::work_row;
 use trio_closings::animal::sample_score;
 use trio_closings::closing::Closed;
+use trio_closings::closing::close;
 use trio_desks::call::call;
 use trio_family::pair::Pair;
 use trio_family::sample::Sample;
@@ -23,20 +27,24 @@ fn pair(words: &Words, low: usize, high: usize) -> Pair {
 }
 
 // A pair with its higher number in front is no genotype.
-fn is_genotype(p: Pair) -> bool {
-    p.low <= p.high
+fn is_genotype(words: &Words, low: usize, high: usize) -> bool {
+    words::whole(words, low) <= words::whole(words, high)
+}
+
+fn prior(words: &Words) -> u64 {
+    bits(mendelian_prior(pair(words, 0, 4), pair(words, 8, 12), pair(words, 16, 20)))
+}
+
+fn distinct(words: &Words) -> u64 {
+    distinct_pairs(pair(words, 8, 12), pair(words, 16, 20))
 }
 
 // What is no genotype is not read.
-pub fn mendel(words: &Words, text: &mut Text, at: usize) -> usize {
-    let child = pair(words, 0, 4);
-    let father = pair(words, 8, 12);
-    let mother = pair(words, 16, 20);
-    if is_genotype(child) && is_genotype(father) && is_genotype(mother) {
-        let to_distinct = write::word(text, at, 0xf, bits(mendelian_prior(child, father, mother)));
-        return write::then(text, to_distinct, 8, distinct_pairs(father, mother));
+pub fn mendel(words: &Words) -> Answer {
+    if is_genotype(words, 0, 4) && is_genotype(words, 8, 12) && is_genotype(words, 16, 20) {
+        return write::short(0xf800_0000_0000, prior(words), distinct(words), 0, 0);
     }
-    write::mark(text, at, b'?')
+    write::unreadable()
 }
 
 fn animal(n: u64) -> Sample {
@@ -47,85 +55,80 @@ fn animal(n: u64) -> Sample {
     }
 }
 
-fn score(words: &Words, step: Stepped) -> u64 {
-    let n = words::whole(words, 12);
-    let scored = sample_score(step.part, animal(n), pair(words, 16, 20));
-    bits(scored.score)
-}
-
-// The score of an animal of a part. What opening would refuse is not read.
-pub fn sample(words: &Words, us: &[u32], fs: &[f64], text: &mut Text, at: usize) -> usize {
-    let opened = open_part(words::whole(words, 0), us, fs);
+// What opening would refuse is not read.
+fn score(words: &Words, opened: Stepped) -> Answer {
     let refusal = opened.refusal;
     if refusals::number(refusal) != 0 {
-        return write::mark(text, at, b'?');
+        return write::unreadable();
     }
-    write::word(text, at, 0xf, score(words, opened))
+    let n = words::whole(words, 12);
+    let scored = sample_score(opened.part, animal(n), pair(words, 16, 20));
+    write::float(scored.score)
 }
 
-// What closing answers, but for the part.
-fn closed(text: &mut Text, at: usize, c: Closed) -> usize {
+// The score of an animal of a part.
+pub fn sample(words: &Words, us: &[u32], fs: &[f64]) -> Answer {
+    score(words, open_part(words::whole(words, 0), us, fs))
+}
+
+fn flag(b: bool) -> u64
+    ensures { λ r. ⌜ r ≤ 1 ⌝ }
+{
+    if b { 1 } else { 0 }
+}
+
+// What closing answers, but for the part. A runner-up is shown where there is one.
+fn closed(c: Closed) -> Answer {
     let refusal = c.refusal;
-    let triple = c.triple;
     let ground = c.ground;
-    let runner = c.runner;
-    let child = triple.child;
-    let father = triple.father;
-    let mother = triple.mother;
-    let mut digits = 0x8888_888f_8800;
-    let mut has_runner = 0;
-    if c.has_runner {
-        digits = 0x8888_888f_888f;
-        has_runner = 1;
-    }
-    write::words(
-        text,
-        at,
-        digits,
-        [
-            refusals::number(refusal) as u64,
-            child.low,
-            child.high,
-            father.low,
-            father.high,
-            mother.low,
-            mother.high,
-            bits(c.score),
-            trio_family::ground::ground_number(ground) as u64,
-            has_runner,
-            runner.position,
-            bits(runner.score),
-        ],
-    )
+    let has_runner = flag(c.has_runner);
+    [
+        0x8888_888f_8800 + 0x8f * has_runner,
+        refusals::number(refusal) as u64,
+        c.triple.child.low,
+        c.triple.child.high,
+        c.triple.father.low,
+        c.triple.father.high,
+        c.triple.mother.low,
+        c.triple.mother.high,
+        bits(c.score),
+        trio_family::ground::ground_number(ground) as u64,
+        has_runner,
+        c.runner.position,
+        bits(c.runner.score),
+    ]
 }
 
-// What came back from a step goes into the first register; the number of the refusal.
-fn stepped(words: &mut Words, step: Stepped) -> u64 {
+// What came back from a step goes into the first register.
+fn stepped(words: &mut Words, step: Stepped) -> Answer {
     let refusal = step.refusal;
     registers::set(words, step.part);
-    refusals::number(refusal) as u64
+    write::refusal(refusal)
 }
 
-pub fn open(words: &mut Words, us: &[u32], fs: &[f64]) -> u64 {
-    let step = open_part(words::whole(words, 4), us, fs);
+pub fn open(words: &mut Words, us: &[u32], fs: &[f64]) -> Answer {
+    let n = words::whole(words, 4);
+    stepped(words, open_part(n, us, fs))
+}
+
+// A row of the first register's part is worked.
+pub fn row(words: &mut Words) -> Answer {
+    let step = work_row(registers::part(words, 0), words::whole(words, 4));
     stepped(words, step)
 }
 
-// A row of the first register's part is worked, or the second one's is merged into it.
-pub fn step(words: &mut Words, is_row: bool) -> u64 {
-    let part = registers::get(words, 0);
-    if is_row {
-        return stepped(words, trio::rows::work_row(part, words::whole(words, 4)));
-    }
-    stepped(words, trio::merging::merge(part, registers::get(words, 4)))
+// The second register's part is merged into the first one's.
+pub fn merged(words: &mut Words) -> Answer {
+    let step = merge(registers::part(words, 0), registers::part(words, 4));
+    stepped(words, step)
 }
 
-pub fn called(words: &Words, us: &[u32], fs: &[f64], text: &mut Text, at: usize) -> usize {
-    closed(text, at, call(words::whole(words, 0), us, fs))
+pub fn called(words: &Words, us: &[u32], fs: &[f64]) -> Answer {
+    closed(call(words::whole(words, 0), us, fs))
 }
 
-pub fn closing(words: &mut Words, text: &mut Text, at: usize) -> usize {
-    let c = trio_closings::closing::close(registers::get(words, 0));
+pub fn closing(words: &mut Words) -> Answer {
+    let c = close(registers::part(words, 0));
     registers::set(words, c.part);
-    closed(text, at, c)
+    closed(c)
 }

@@ -1,6 +1,7 @@
 // The words of a line as numbers, a whole number as itself, a float as its bits; and behind them the registers.
 ghost use Prim.Native.Nat.{_≤_};
 ghost use lib.ListN.{length};
+use floats::bits::of_bits;
 
 // No line has so many words: the shortest is ` 0`.
 pub const MOST: usize = 2048;
@@ -38,14 +39,6 @@ pub fn many(words: &Words, at: usize) -> usize
         return 2048;
     }
     n as usize
-}
-
-// The float of these bits; every NaN's bits give one NaN, and are never made a float.
-pub fn of_bits(bits: u64) -> f64 {
-    if bits % 0x8000_0000_0000_0000 > 0x7FF0_0000_0000_0000 {
-        return 0.0 / 0.0;
-    }
-    f64::from_bits(bits)
 }
 
 pub fn float(words: &Words, at: usize) -> f64 {

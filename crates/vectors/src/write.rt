@@ -1,71 +1,79 @@
-// Answers as text: the words of an answer are laid one behind the other, with a space between two.
+// Answers as text: words, and a space behind each. The newline of an answer takes the place of its last space.
+use floats::bits::bits;
+use refusals::Refusal;
+use text_writing::hexadecimals::lay_bits;
 use text_writing::laying::lay;
 use text_writing::laying::lay_whole;
 
 pub type Text = [u8; 65536];
 
+// An answer as numbers: twelve digits, 0 for no word, and the words. A digit says of a word what it says of one in a question, and 1 that
+// it is `ok`, 2 that it is `?`.
+pub type Answer = [u64; 13];
+
 // The first of twelve digits.
 const TOP: u64 = 0x1000_0000_0000;
 
-// A byte that parts or marks words.
+// A byte that parts or ends words.
 pub fn mark(text: &mut Text, at: usize, b: u8) -> usize {
     lay(text, at, &[b])
 }
 
-fn float(text: &mut Text, at: usize, x: u64) -> usize {
-    if x % 0x8000_0000_0000_0000 > 0x7FF0_0000_0000_0000 {
-        return lay(text, at, b"nan");
+// The text of a word by its digit: of a float x are the bits.
+fn bare(text: &mut Text, at: usize, digit: u64, x: u64) -> usize {
+    match digit {
+        0xf => lay_bits(text, at, x),
+        1 => lay(text, at, b"ok"),
+        2 => mark(text, at, b'?'),
+        _ => lay_whole(text, at, x),
     }
-    let mut digits = [0u8; 16];
-    let k = io::hex(x, 16, &mut digits);
-    lay(text, at, &digits[..k])
 }
 
-// A word by its digit, as a question has it: f a float, of which x are the bits, and any other a whole number.
+// A word, and the space behind it.
 pub fn word(text: &mut Text, at: usize, digit: u64, x: u64) -> usize {
-    if digit == 0xf {
-        return float(text, at, x);
-    }
-    lay_whole(text, at, x)
-}
-
-// The next word of an answer.
-pub fn then(text: &mut Text, at: usize, digit: u64, x: u64) -> usize {
-    let next = mark(text, at, b' ');
-    word(text, next, digit, x)
+    let end = bare(text, at, digit, x);
+    mark(text, end, b' ')
 }
 
 // The same of a word that an answer has or not.
-pub fn then_if(text: &mut Text, at: usize, has: bool, digit: u64, x: u64) -> usize {
-    if has { then(text, at, digit, x) } else { at }
+pub fn word_if(text: &mut Text, at: usize, has: bool, digit: u64, x: u64) -> usize {
+    if has { word(text, at, digit, x) } else { at }
 }
 
-// The i-th word of an answer, if it has a digit.
-pub fn nth(text: &mut Text, at: usize, i: usize, digit: u64, x: u64) -> usize {
-    if i == 0 {
-        return word(text, at, digit, x);
-    }
-    then_if(text, at, digit != 0, digit, x)
-}
-
-// The words of an answer by twelve digits, 0 for no word.
-pub fn words(text: &mut Text, at: usize, digits: u64, xs: [u64; 12]) -> usize {
+pub fn answer(text: &mut Text, at: usize, answer: Answer) -> usize {
     let mut end = at;
-    let mut left = digits;
-    let mut i = 0;
-    while i < 12 {
-        end = nth(text, end, i, left / TOP, xs[i]);
+    let mut left = answer[0];
+    let mut i = 1;
+    while i < 13 {
+        end = word_if(text, end, left >= TOP, left / TOP, answer[i]);
         left = left % TOP * 16;
         i += 1;
     }
     end
 }
 
-// The number without its sign.
-pub fn size(z: i64) -> u64 {
-    if z < 0 {
-        (0 - (z + 1)) as u64 + 1
-    } else {
-        z as u64
+// The newline of an answer that ends at a place.
+pub fn ended(text: &mut Text, end: usize) -> usize {
+    if end == 0 {
+        return mark(text, end, b'\n');
     }
+    mark(text, end - 1, b'\n')
+}
+
+// An answer of at most four words.
+pub fn short(digits: u64, x: u64, y: u64, z: u64, w: u64) -> Answer {
+    [digits, x, y, z, w, 0, 0, 0, 0, 0, 0, 0, 0]
+}
+
+// The answer to a line that cannot be read.
+pub fn unreadable() -> Answer {
+    short(0x2000_0000_0000, 0, 0, 0, 0)
+}
+
+pub fn float(x: f64) -> Answer {
+    short(0xf000_0000_0000, bits(x), 0, 0, 0)
+}
+
+pub fn refusal(refusal: Refusal) -> Answer {
+    short(0x4000_0000_0000, refusals::number(refusal) as u64, 0, 0, 0)
 }
