@@ -503,7 +503,8 @@ lay-signed-ends κ a v w e f p q = only (p .1) (q .1)
 pub lay-hexadecimal-once : OneAnswer lay-hexadecimal.Post
 lay-hexadecimal-once κ a v w e f p q = only (p .0) (q .0)
 
-pub lay-hexadecimal-ends : (κ : _) (a : _) (v w : _) (e f : _) → lay-hexadecimal.Post κ a v e → lay-hexadecimal.Post κ a w f → e .0 .now ≡ f .0 .now
+pub lay-hexadecimal-ends : (κ : _) (a : _) (v w : _) (e f : _)
+    → lay-hexadecimal.Post κ a v e → lay-hexadecimal.Post κ a w f → e .0 .now ≡ f .0 .now
 lay-hexadecimal-ends κ a v w e f p q = only (p .1) (q .1)
 
 pub lay-bits-once : OneAnswer lay-bits.Post

@@ -73,7 +73,8 @@ pub record HexRead (l : List ℕ) (n i : ℕ) : Type 0 where
   pub same : hexFrom n (drop i l) ≡ hexFrom 0 l
   pub fits : n < 16 ^ i
 
-module _ (l : List ℕ) (n i d : ℕ) (sixteen : length l ≡ 16) (r : HexRead l n i) (inside : i < length l) (value : d ≡ hexDigitOf (getD l i 0)) where
+module _ (l : List ℕ) (n i d : ℕ) (sixteen : length l ≡ 16) (r : HexRead l n i) (inside : i < length l)
+    (value : d ≡ hexDigitOf (getD l i 0)) where
   next : d ≤ 15 → n * 16 + d < 16 ^ suc i
   next few = let most : suc n * 16 ≤ 16 ^ i * 16 = mul-le-mul-right 16 (r .fits) in rw (pow-suc 16 i) (omega arith)
 

@@ -162,7 +162,8 @@ whole-unreadable l h e = go (allDigits l) (sym (short-whole l h) ∙ e)
 -- ---- numbers up to a limit
 
 -- what is read, by whether all bytes are digits and whether their number fits a u64
-read-as : (l : List ℕ) (t u : Bool) → allDigits l ≡ t → ltb (number l) (2 ^ 64) ≡ u → wholeNumberOf l ≡ cond (t && u) (Is (number l)) Unreadable
+read-as : (l : List ℕ) (t u : Bool) → allDigits l ≡ t → ltb (number l) (2 ^ 64) ≡ u
+    → wholeNumberOf l ≡ cond (t && u) (Is (number l)) Unreadable
 unfolding wholeNumberOf
 read-as l t u d f = rw (d, f)
 
@@ -172,7 +173,8 @@ module _ (l : List ℕ) (m : ℕ) where
   unfolding wholeUpTo
   up-to-unreadable h e = go (allDigits l) (ltb (number l) (2 ^ 64)) refl refl
     where
-      go : (t u : Bool) → allDigits l ≡ t → ltb (number l) (2 ^ 64) ≡ u → Unreadable ≡ cond (allDigits l && leb (number l) m) (Is (number l)) Unreadable
+      go : (t u : Bool) → allDigits l ≡ t → ltb (number l) (2 ^ 64) ≡ u
+          → Unreadable ≡ cond (allDigits l && leb (number l) m) (Is (number l)) Unreadable
       go true true d f = absurd (never (sym e ∙ read-as l true true d f))
       go true false d f = rw (d, lt-leb (number l) m (lt-of-lt-of-le h (ltb-false (number l) (2 ^ 64) f)))
       go false u d f = rw d

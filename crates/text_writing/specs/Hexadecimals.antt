@@ -9,6 +9,6 @@ use Rattle.io.specs.Digits.{digits}
 unfoldable pub hexadecimalText : ℕ → List ℕ
 hexadecimalText n = digits 16 16 n
 
--- A8: the bits of a float: `nan` where all bits of the exponent are set and one below them is, whatever the sign; else sixteen digits
+-- A8: the bits of a float: `nan` where all bits of the exponent are set and at least one below them is, whatever the sign; else sixteen digits
 unfoldable pub bitsText : ℕ → List ℕ
 bitsText b = cond (ltb (2047 * 2 ^ 52) (b % 2 ^ 63)) (110 ∷ 97 ∷ 110 ∷ []) (hexadecimalText b)

@@ -13,7 +13,7 @@ use lib.Seq.{take-at, drop-at, drop-cons, sets-eq, length-take-le}
 use Rattle.lists.specs.Lists.{numbers}
 use Rattle.limits.specs.Limits.{allFit}
 use Rattle.trio_parts.specs.declared.part.Part.{Part}
-use Rattle.trio_numbers.specs.Numbers.{partNumbers, partPut, asCount, numbersCounts, numbersWeights, numbersPart, Plain}
+use Rattle.trio_numbers.specs.Numbers.{partNumbers, partPut, asCount, numbersCounts, numbersWeights, numbersPart, TypedPart}
 use Rattle.trio_numbers.proofs.NumbersLaws.{numbers-39, put-all}
 
 counts-back : (l : List ℕ) → ((i : ℕ) → getD l i 0 < 2 ^ 32) → map asCount l ≡ l
@@ -36,7 +36,7 @@ read-of f l at (suc n) h =
     rw (drop-cons l at 0 (omega arith)) (ap (λ (r : List _). f (getD l at 0) ∷ r) (read-of f l (suc at) n (omega arith)))
 
 -- whatever comes behind the numbers of a part
-module _ (p : Part) (is : Plain p) (rest : List ℕ) where
+module _ (p : Part) (is : TypedPart p) (rest : List ℕ) where
   long : 39 ≤ length (partNumbers p ++ rest)
   long = omega (arith, length-append (partNumbers p) rest, numbers-39 p (is .counts-24) (is .weights-8))
 
@@ -69,10 +69,10 @@ module _ (p : Part) (is : Plain p) (rest : List ℕ) where
         ofBits-toBits binary64 (p .held .second .score) (is .second-f64),
       )
 
-pub read-back : (p : Part) → Plain p → numbersPart (partNumbers p) ≡ p
+pub read-back : (p : Part) → TypedPart p → numbersPart (partNumbers p) ≡ p
 read-back p is = ap numbersPart (sym (append-nil (partNumbers p))) ∙ part-same p is []
 
-pub put-back : (l : List ℕ) (at : ℕ) (p : Part) → Plain p → at + 39 ≤ length l → numbersPart (drop at (partPut l at p)) ≡ p
+pub put-back : (l : List ℕ) (at : ℕ) (p : Part) → TypedPart p → at + 39 ≤ length l → numbersPart (drop at (partPut l at p)) ≡ p
 put-back l at p is h =
     let row = partNumbers p in
     let n : length row ≡ 39 = numbers-39 p (is .counts-24) (is .weights-8) in

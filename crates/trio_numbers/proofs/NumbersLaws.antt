@@ -34,10 +34,10 @@ stored-over l v e =
 
 -- one list behind another
 stored-behind : {A : Type 0} (l : List A) (i : ℕ) (v w : List A) → sets l i (v ++ w) ≡ sets (sets l i v) (i + length v) w
-stored-behind l i [] w = ap (λ (k : ℕ). sets l k w) (plain i)
+stored-behind l i [] w = ap (λ (k : ℕ). sets l k w) (add-nothing i)
   where
-    plain : (i : ℕ) → i ≡ i + 0
-    plain i = omega arith
+    add-nothing : (i : ℕ) → i ≡ i + 0
+    add-nothing i = omega arith
 stored-behind l i (x ∷ v) w =
     stored-behind (set l i x) (suc i) v w
     ∙ ap (λ (k : ℕ). sets (sets (set l i x) (suc i) v) k w) (moved i (length v))

@@ -40,11 +40,11 @@ partPut l at p = cond (leb (at + 39) (length l)) (sets l at (partNumbers p)) l
 abbrev pub asCount : ℕ → ℕ
 asCount n = min n 4294967295
 
--- the 24 numbers behind the first seven
+-- the 24 numbers behind the first seven, at the places 7, 8, .., 30
 unfoldable pub numbersCounts : List ℕ → List ℕ
 numbersCounts l = map (λ i. asCount (getD l i 0)) (numbers 7 24)
 
--- the floats of the 8 numbers behind those; a NaN's bits give a NaN
+-- the floats of the 8 numbers behind those, at the places 31 to 38; a NaN's bits give a NaN
 unfoldable pub numbersWeights : List ℕ → List Float
 numbersWeights l = map (λ i. ofBits binary64 (getD l i 0)) (numbers 31 8)
 
@@ -66,7 +66,7 @@ numbersPart l =
 -- ---- for the laws
 
 -- a part as its type has it: 24 counts that are u32s, 8 weights and two scores that are f64s
-pub record Plain (p : Part) : Type 0 where
+pub record TypedPart (p : Part) : Type 0 where
   pub counts-24 : length (p .counts) ≡ 24
   pub counts-u32 : (i : ℕ) → getD (p .counts) i 0 < 2 ^ 32
   pub weights-8 : length (p .weights) ≡ 8

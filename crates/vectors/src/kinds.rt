@@ -1,6 +1,7 @@
 // The kinds of cases: the first word of a line names its kind.
-// A new kind is a name, the digits of its words, and a branch of `numbers`, or of `of_lists` if it has a list, whose function makes the
-// answer of the words that were read. A word more in an answer is a digit and a number more in that function.
+// A new kind is a name, the digits of its words, and a branch of `as_numbers`, whose function gives the answer to the words that were read;
+// one with a list stands there beside `open` and has its branch in `of_lists`. One that answers more than twelve words writes them itself,
+// in a branch of `answered`. A word more in an answer is a digit and a number more; `close` and `call` have all twelve.
 use crate::animal_cases;
 use crate::read::SPACE;
 use crate::read::read;
@@ -60,8 +61,7 @@ const CLOSE: u64 = 0x636c6f7365;
 const SHOW: u64 = 0x73686f77;
 
 // The words of a question, a hexadecimal digit for each: 4 and 8 a whole number of so many bytes, f a float, 9 a register, c a cluster, 2 a
-// mode or a sample; 3 three floats, d a part; a a list of u32 and b one of floats, of which a kind has at most one each, a first. Every kind
-// has a word: 0 is no kind.
+// mode or a sample; 3 three floats, d a part; a a list of u32 and b one of floats, at most one each, a first. 0 is no kind.
 fn digits(name: u64) -> u64 {
     match name {
         LN | EXP | LOG10 | POW10 | LGAMMA | STIRLING | KEY => 0xf000_0000,
@@ -106,7 +106,7 @@ fn key(text: &mut Text, at: usize, x: f64) -> usize {
     write::mark(text, end, b' ')
 }
 
-// The answer to a kind whose words have both lists.
+// The answer to a kind with a list of floats; `diploid`, which has no counts, does not look at them.
 fn of_lists(name: u64, words: &mut Words, us: &[u32], fs: &[f64]) -> Answer {
     match name {
         DIPLOID => animal_cases::diploid(words, fs),
@@ -133,7 +133,7 @@ fn copied(words: &mut Words, from: usize) -> Answer {
     write::short(0x1000_0000_0000, 0, 0, 0, 0)
 }
 
-fn numbers(name: u64, words: &mut Words) -> Answer {
+fn as_numbers(name: u64, words: &mut Words) -> Answer {
     match name {
         MENDEL => trio_cases::mendel(words),
         PART => copied(words, 4),
@@ -152,16 +152,16 @@ fn answered(name: u64, words: &mut Words, text: &mut Text, at: usize) -> usize {
         KEY => key(text, at, words::float(words, 0)),
         MOSAIC => animal_cases::mosaic(words, text, at),
         SHOW => registers::show(words, text, at),
-        _ => write::answer(text, at, numbers(name, words)),
+        _ => write::lay_answer(text, at, as_numbers(name, words)),
     }
 }
 
-// The answer to a line, without its newline.
+// The answer to a line, with a space behind it where the newline is to stand.
 pub fn answer(line: &[u8], words: &mut Words, text: &mut Text, at: usize) -> usize {
     let name = packed(field(line, 0, SPACE));
     let digits = digits(name);
     if digits != 0 && read(line, next_field(line, 0, SPACE), digits, words) {
         return answered(name, words, text, at);
     }
-    write::answer(text, at, write::unreadable())
+    write::lay_answer(text, at, write::unreadable())
 }

@@ -35,7 +35,7 @@ fn answer(line: &[u8], count: usize, words: &mut Words, text: &mut Text, at: usi
     if text_lines::gathering::fits(line, count) {
         return kinds::answer(first_bytes(line, count), words, text, at);
     }
-    write::answer(text, at, write::unreadable())
+    write::lay_answer(text, at, write::unreadable())
 }
 
 // Answers a line that has ended, behind the answers that wait.

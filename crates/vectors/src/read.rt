@@ -12,30 +12,24 @@ use text_reading::wholes::read_up_to;
 // What parts two words.
 pub const SPACE: u8 = b' ';
 
-// The digit of the length of a list.
-const LENGTH: u64 = 0xe;
-
-// The word `nan`, packed.
-const NAN: u64 = 0x6e616e;
-
 // The place of a reader that met a word it could not read. It lies behind every line, so all that is read from there is empty and cannot be
 // read either: a line is read to its last word, and asked once.
 const NOWHERE: usize = usize::MAX;
 
-// The bits of a float: `nan`, or sixteen hexadecimal digits.
+// The bits of a float: `nan`, which is 6e616e in ASCII, or sixteen hexadecimal digits.
 fn float(word: &[u8]) -> Whole {
-    if packed(word) == NAN {
+    if packed(word) == 0x6e616e {
         return Whole::Is(0x7FF8_0000_0000_0000);
     }
     read_hexadecimal(word)
 }
 
-// The highest whole number of a digit.
+// The highest whole number of a digit; e is the length of a list.
 fn highest(digit: u64) -> u64 {
     match digit {
         8 => u64::MAX,
         4 => u32::MAX as u64,
-        LENGTH => words::MOST as u64,
+        0xe => words::MOST as u64,
         9 => 9,
         0xc => 7,
         _ => 2,
@@ -93,7 +87,7 @@ fn read_words(line: &[u8], at: usize, digit: u64, words: &mut Words, to: usize, 
 fn read_list(line: &[u8], at: usize, digit: u64, words: &mut Words, list: usize) -> usize
     requires { ⌜ list ≤ 2112 ⌝ }
 {
-    let first = read_word(line, at, LENGTH, words, list);
+    let first = read_word(line, at, 0xe, words, list);
     let n = words::many(words, list);
     read_words(line, first, digit, words, list + 1, n)
 }

@@ -35,14 +35,11 @@ fn prior(words: &Words) -> u64 {
     bits(mendelian_prior(pair(words, 0, 4), pair(words, 8, 12), pair(words, 16, 20)))
 }
 
-fn distinct(words: &Words) -> u64 {
-    distinct_pairs(pair(words, 8, 12), pair(words, 16, 20))
-}
-
 // What is no genotype is not read.
 pub fn mendel(words: &Words) -> Answer {
     if is_genotype(words, 0, 4) && is_genotype(words, 8, 12) && is_genotype(words, 16, 20) {
-        return write::short(0xf800_0000_0000, prior(words), distinct(words), 0, 0);
+        let distinct = distinct_pairs(pair(words, 8, 12), pair(words, 16, 20));
+        return write::short(0xf800_0000_0000, prior(words), distinct, 0, 0);
     }
     write::unreadable()
 }
@@ -61,8 +58,8 @@ fn score(words: &Words, opened: Stepped) -> Answer {
     if refusals::number(refusal) != 0 {
         return write::unreadable();
     }
-    let n = words::whole(words, 12);
-    let scored = sample_score(opened.part, animal(n), pair(words, 16, 20));
+    let sample = animal(words::whole(words, 12));
+    let scored = sample_score(opened.part, sample, pair(words, 16, 20));
     write::float(scored.score)
 }
 

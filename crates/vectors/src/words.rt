@@ -30,7 +30,7 @@ pub fn number(words: &Words, at: usize) -> u32 {
     n as u32
 }
 
-// The length of a list.
+// A word as the length of a list or the number of a register.
 pub fn many(words: &Words, at: usize) -> usize
     ensures { λ r. ⌜ r ≤ 2048 ⌝ }
 {

@@ -7,8 +7,8 @@ use text_writing::laying::lay_whole;
 
 pub type Text = [u8; 65536];
 
-// An answer as numbers: twelve digits, 0 for no word, and the words. A digit says of a word what it says of one in a question, and 1 that
-// it is `ok`, 2 that it is `?`.
+// An answer as numbers: twelve digits, and a word for each. f is the bits of a float, 1 the word `ok`, 2 a `?`, any other a whole number,
+// and 0 no word.
 pub type Answer = [u64; 13];
 
 // The first of twelve digits.
@@ -24,7 +24,7 @@ fn bare(text: &mut Text, at: usize, digit: u64, x: u64) -> usize {
     match digit {
         0xf => lay_bits(text, at, x),
         1 => lay(text, at, b"ok"),
-        2 => mark(text, at, b'?'),
+        2 => lay(text, at, b"?"),
         _ => lay_whole(text, at, x),
     }
 }
@@ -40,7 +40,7 @@ pub fn word_if(text: &mut Text, at: usize, has: bool, digit: u64, x: u64) -> usi
     if has { word(text, at, digit, x) } else { at }
 }
 
-pub fn answer(text: &mut Text, at: usize, answer: Answer) -> usize {
+pub fn lay_answer(text: &mut Text, at: usize, answer: Answer) -> usize {
     let mut end = at;
     let mut left = answer[0];
     let mut i = 1;
@@ -52,7 +52,7 @@ pub fn answer(text: &mut Text, at: usize, answer: Answer) -> usize {
     end
 }
 
-// The newline of an answer that ends at a place.
+// The newline of an answer that ends at a place. Every answer has a word, and so a space before its end.
 pub fn ended(text: &mut Text, end: usize) -> usize {
     if end == 0 {
         return mark(text, end, b'\n');
@@ -65,7 +65,6 @@ pub fn short(digits: u64, x: u64, y: u64, z: u64, w: u64) -> Answer {
     [digits, x, y, z, w, 0, 0, 0, 0, 0, 0, 0, 0]
 }
 
-// The answer to a line that cannot be read.
 pub fn unreadable() -> Answer {
     short(0x2000_0000_0000, 0, 0, 0, 0)
 }

@@ -21,7 +21,9 @@ enum-told : tie.Need-enum-told
 enum-told c = search needs
 
 returns-2 : tie.Need-returns-2
-returns-2 c = plain-unreadable (c .before .before .before .before .before .args .whole .now) (search needs) (sym (c .before .before .read-whole .ensures) ∙ c .enum-told .given .1)
+returns-2 c =
+    let read = c .before .before in
+    plain-unreadable (read .before .before .before .args .whole .now) (search needs) (sym (read .read-whole .ensures) ∙ c .enum-told .given .1)
 
 int-to-float-t6 : tie.Need-int-to-float-t6
 unfolding inFloat

@@ -29,16 +29,20 @@ hex-digit-requires c κs = search needs
 
 returns-2 : tie.Need-returns-2 Inv-loop μ-loop
 returns-2 c =
-    let s = c .before .before .before .before .loop in
-    hex-no (c .before .before .before .before .before .before .before .args .field .now) (s .n) (s .i) (c .before .hex-digit .result)
-    (search needs) (s .inv) (search needs) (c .before .hex-digit .ensures) (c .if2 .taken)
+    let read = c .before in
+    let turn = read .before .before .before in
+    let s = turn .loop in
+    hex-no (turn .before .before .before .args .field .now) (s .n) (s .i) (read .hex-digit .result) (search needs) (s .inv) (search needs)
+    (read .hex-digit .ensures) (c .if2 .taken)
 
 -- the digit that was met is below sixteen
 fitting : (c : tie.Else2 Inv-loop μ-loop) → c .before .before .before .before .loop .n * 16 + c .before .hex-digit .result < 2 ^ 64
 fitting c =
-    let s = c .before .before .before .before .loop in
-    hex-fits (c .before .before .before .before .before .before .before .args .field .now) (s .n) (s .i) (c .before .hex-digit .result)
-    (search needs) (s .inv) (search needs) (c .before .hex-digit .ensures) (search needs)
+    let read = c .before in
+    let turn = read .before .before .before in
+    let s = turn .loop in
+    hex-fits (turn .before .before .before .args .field .now) (s .n) (s .i) (read .hex-digit .result) (search needs) (s .inv) (search needs)
+    (read .hex-digit .ensures) (search needs)
 
 mul-n : tie.Need-mul-n Inv-loop μ-loop
 mul-n c = record { fits = omega (arith, fitting c) }
@@ -54,9 +58,11 @@ loop-less c = search needs
 
 loop-again : tie.Need-loop-again Inv-loop μ-loop
 loop-again c =
-    let s = c .before .before .before .before .loop in
-    hex-on (c .before .before .before .before .before .before .before .args .field .now) (s .n) (s .i) (c .before .hex-digit .result)
-    (search needs) (s .inv) (search needs) (c .before .hex-digit .ensures) (search needs)
+    let read = c .before in
+    let turn = read .before .before .before in
+    let s = turn .loop in
+    hex-on (turn .before .before .before .args .field .now) (s .n) (s .i) (read .hex-digit .result) (search needs) (s .inv) (search needs)
+    (read .hex-digit .ensures) (search needs)
 
 returns-3 : tie.Need-returns-3 Inv-loop μ-loop
 returns-3 c =

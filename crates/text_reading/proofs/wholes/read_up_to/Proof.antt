@@ -1,4 +1,4 @@
--- `text_reading::wholes::read_up_to` meets its contract: what is read as a number is it, and the rest is above every limit. Assumes nothing.
+-- `text_reading::wholes::read_up_to` meets its contract: a number that cannot be read is above every limit. Assumes nothing.
 use mathlib.Core.Path.{sym, _∙_}
 use borrow.Author.Needs.{needs}
 use Rattle.text_reading.proofs.WholeLaws.{up-to-unreadable, up-to-above, up-to-within}
@@ -18,7 +18,8 @@ returns : tie.Need-returns
 returns c =
     let read = c .before .before in
     let start = read .before .before in
-    up-to-unreadable (start .args .field .now) (start .args .most) (start .fits .most .fits) (sym (read .read-whole .ensures) ∙ c .enum-told .given .1)
+    up-to-unreadable (start .args .field .now) (start .args .most) (start .fits .most .fits)
+    (sym (read .read-whole .ensures) ∙ c .enum-told .given .1)
 
 returns-2 : tie.Need-returns-2
 returns-2 c =

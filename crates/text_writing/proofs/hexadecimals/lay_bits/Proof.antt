@@ -14,7 +14,10 @@ same-length : tie.Need-same-length
 same-length c = search needs
 
 returns : tie.Need-returns
-returns c = rw (bits-nan (c .before .before .before .before .before .before .before .args .bits) (search needs)) (c .before .before .lay .ensures)
+returns c =
+    let laid-so = c .before .before in
+    let start = laid-so .before .before .before .before .before in
+    rw (bits-nan (start .args .bits) (search needs)) (laid-so .lay .ensures)
 
 lay-hexadecimal-requires : tie.Need-lay-hexadecimal-requires
 lay-hexadecimal-requires c κs = search needs
@@ -23,7 +26,10 @@ same-length-2 : tie.Need-same-length-2
 same-length-2 c = search needs
 
 returns-2 : tie.Need-returns-2
-returns-2 c = rw (bits-number (c .before .before .before .before .before .before .args .bits) (search needs)) (c .before .before .lay-hexadecimal .ensures)
+returns-2 c =
+    let laid-so = c .before .before in
+    let start = laid-so .before .before .before .before in
+    rw (bits-number (start .args .bits) (search needs)) (laid-so .lay-hexadecimal .ensures)
 
 pub lay-bits-spec : {M : Type 1} → statement M
 lay-bits-spec =

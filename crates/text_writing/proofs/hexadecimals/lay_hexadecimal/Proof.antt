@@ -1,4 +1,4 @@
--- `text_writing::hexadecimals::lay_hexadecimal` meets its contract: the digits that `io::hex` writes are the text of the number. Assumes nothing.
+-- `text_writing::hexadecimals::lay_hexadecimal` meets its contract: `io::hex` writes the text of the number. Assumes nothing.
 use Prim.Native.Nat.{ℕ}
 use mathlib.Core.List.{List}
 use mathlib.Core.Path.{ap, _∙_}
@@ -26,12 +26,14 @@ same-length c = search needs
 
 returns : tie.Need-returns
 returns c =
-    let a = c .before .before .before .before .before .before .before .before .args in
-    let d = c .before .before .before .before .before .hex .ensures in
-    let text = d .1 .1 ∙ hexadecimal-text (c .before .before .before .before .before .hex .result) (a .n)
-    (c .before .before .before .before .before .before .before .before .fits .n .fits) (d .1 .0) in
     let laid-so = c .before .before .lay .ensures in
-    (laid-so .0 ∙ ap (λ (l : List ℕ). laidEnd (length (a .text .now)) (a .at) (length l)) text, laid-so .1 ∙ ap (laid (a .text .now) (a .at)) text)
+    let spelt = c .before .before .before .before .before in
+    let start = spelt .before .before .before in
+    let a = start .args in
+    let text = spelt .hex .ensures .1 .1 ∙ hexadecimal-text (spelt .hex .result) (a .n) (start .fits .n .fits) (spelt .hex .ensures .1 .0) in (
+      laid-so .0 ∙ ap (λ (l : List ℕ). laidEnd (length (a .text .now)) (a .at) (length l)) text,
+      laid-so .1 ∙ ap (laid (a .text .now) (a .at)) text,
+    )
 
 pub lay-hexadecimal-spec : {M : Type 1} → statement M
 lay-hexadecimal-spec =

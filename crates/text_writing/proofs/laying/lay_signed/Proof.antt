@@ -40,11 +40,14 @@ returns c =
     let a = start .args in
     let minus : Laid (a .text .now) (a .at) (45 ∷ []) (marked .lay .result) (marked .lay .last .0) =
     record { ends = marked .lay .ensures .0; gives = marked .lay .ensures .1 } in
-    let all = behind-it (wholeText (sized .size .result)) minus (c .before .before .lay-whole .ensures .0) (c .before .before .lay-whole .ensures .1) in
+    let whole = c .before .before .lay-whole .ensures in
+    let all = behind-it (wholeText (sized .size .result)) minus (whole .0) (whole .1) in
     let text =
     ap (λ (n : ℕ). 45 ∷ wholeText n) (sized .size .ensures ∙ ap natAbs (same start))
-    ∙ signed-below (a .z) (rw (same start) at (below .if1 .taken)) in
-    (all .ends ∙ ap (λ (t : List ℕ). laidEnd (length (a .text .now)) (a .at) (length t)) text, all .gives ∙ ap (laid (a .text .now) (a .at)) text)
+    ∙ signed-below (a .z) (rw (same start) at (below .if1 .taken)) in (
+      all .ends ∙ ap (λ (t : List ℕ). laidEnd (length (a .text .now)) (a .at) (length t)) text,
+      all .gives ∙ ap (laid (a .text .now) (a .at)) text,
+    )
 
 size-requires-2 : tie.Need-size-requires-2
 size-requires-2 c κs = search needs
@@ -64,8 +67,10 @@ returns-2 c =
     let text =
     ap wholeText (sized .size2 .ensures ∙ ap natAbs (same start))
     ∙ signed-not-below (a .z) (rw (same start) at (not-below .if1 .left)) in
-    let l = c .before .before .lay-whole2 .ensures in
-    (l .0 ∙ ap (λ (t : List ℕ). laidEnd (length (a .text .now)) (a .at) (length t)) text, l .1 ∙ ap (laid (a .text .now) (a .at)) text)
+    let l = c .before .before .lay-whole2 .ensures in (
+      l .0 ∙ ap (λ (t : List ℕ). laidEnd (length (a .text .now)) (a .at) (length t)) text,
+      l .1 ∙ ap (laid (a .text .now) (a .at)) text,
+    )
 
 pub lay-signed-spec : {M : Type 1} → statement M
 lay-signed-spec =

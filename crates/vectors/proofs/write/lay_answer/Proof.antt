@@ -1,8 +1,8 @@
--- `vectors::write::answer` is safe and ends: its place rises with each turn. Assumes nothing.
+-- `vectors::write::lay_answer` is safe and ends: its place rises with each turn. Assumes nothing.
 use Prim.Native.Nat.{_≤_, _-_}
 use borrow.Author.Needs.{needs}
-use Rattle.vectors.proofs.write.answer.Statement.{statement}
-use Rattle.vectors.proofs.write.answer.Tie as tie
+use Rattle.vectors.proofs.write.lay_answer.Statement.{statement}
+use Rattle.vectors.proofs.write.lay_answer.Tie as tie
 
 abbrev Inv-loop : tie.InvT-loop
 Inv-loop text₀ at answer end₀ left₀ i₀ text end left i = i ≤ 13
@@ -10,8 +10,8 @@ Inv-loop text₀ at answer end₀ left₀ i₀ text end left i = i ≤ 13
 abbrev μ-loop : tie.MeasureT-loop
 μ-loop text₀ at answer end₀ left₀ i₀ text end left i = 13 - i
 
-pub answer-spec : {M : Type 1} → statement M
-answer-spec =
+pub lay-answer-spec : {M : Type 1} → statement M
+lay-answer-spec =
     tie.close
     (tie.spec
     Inv-loop
