@@ -1,147 +1,13 @@
--- The hundredths of a float by its value, whatever fraction gives it, and by its bits; and that they are the nearest. Assumes nothing.
-use mathlib.Core.Path.{_≡_, refl, sym, ap, _∙_}
+-- The text of a figure: its sign, its whole part, its two digits. Assumes nothing.
+use mathlib.Core.Path.{_≡_, refl, _∙_}
 use mathlib.Core.Bool.{Bool, true, false, cond}
-use Prim.Native.Nat.{ℕ, zero, suc, _+_, _-_, _*_, _/_, _%_, _^_, _≤_, _<_}
-use native.Mathlib.Nat.{le-trans, not-suc-le-zero, lt-of-lt-of-le, lt-of-le-of-lt, le-of-eq, mul-one, one-mul, mul-assoc, mul-left-comm}
-use native.Mathlib.Nat.{mul-right-comm, mul-le-mul, mul-le-mul-left, mul-le-mul-right, le-of-mul-le-mul-right, pow-succ'}
-use native.Mathlib.Nat.{mul-lt-mul-of-pos-right, lt-of-mul-lt-mul-right, div-add-mod', mod-lt, mod-eq-of-lt, div-eq-of-lt}
+use Prim.Native.Nat.{ℕ, _/_, _%_, _≤_}
 use native.Mathlib.Omega.{arith}
-use borrow.Author.Tests.{lt-ltb, le-ltb, ltb-true, ltb-false, ne-eqb, eqb-true, eqb-false}
-use lib.Dec.{T, ltb, leb, eqb, lit<}
 use mathlib.Core.List.{[], _∷_, _++_, append-assoc}
 use lib.ListN.{take}
-use lib.Pow.{pow-add, pow-pos, pow-mono}
-use lib.Ieee.{Float, nan, inf, fin, binary64, up, down, odd, ofFields, ofBits, toBits, fits}
-use lib.Ieee.Fits.{down-pos}
-use lib.Ieee.Bits.{ofBits-toBits}
-use lib.Ieee.Exact.{HasValue, odd-sign}
-use lib.Ieee.Nearest.{div-same}
-use Rattle.text_writing.specs.declared.figures.Figure.the-variants.{Is, TooLarge}
+use Rattle.floats_nearest.specs.declared.nearest.Nearest.the-variants.{Is}
 use Rattle.text_writing.specs.Laying.{glyphOf, wholeText}
-use Rattle.text_writing.specs.Figures.{nearestHundredths, figureAt, figureOf, figureText, Nearest}
-
--- ---- by any fraction of the same value
-
-same-hundredths : (a c b d : ℕ) → 0 < c → 0 < d → a * d ≡ b * c → nearestHundredths a c ≡ nearestHundredths b d
-same-hundredths a c b d C D h = div-same (200 * a + c) (2 * c) (200 * b + d) (2 * d) (twice c C) (twice d D) (omega (arith, scaled))
-  where
-    twice : (n : ℕ) → 0 < n → 0 < 2 * n
-    twice n h = omega arith
-
-    scaled : 200 * a * d ≡ 200 * b * c
-    scaled = mul-assoc 200 a d ∙ ap (λ (n : ℕ). 200 * n) h ∙ sym (mul-assoc 200 b c)
-
-same-size : (a c b d : ℕ) → 0 < c → 0 < d → a * d ≡ b * c → ltb a (2 ^ 53 * c) ≡ ltb b (2 ^ 53 * d)
-same-size a c b d C D h = go (ltb a (2 ^ 53 * c)) refl
-  where
-    turned : 2 ^ 53 * c * d ≡ 2 ^ 53 * d * c
-    turned = mul-right-comm (2 ^ 53) c d
-
-    go : (t : Bool) → ltb a (2 ^ 53 * c) ≡ t → t ≡ ltb b (2 ^ 53 * d)
-    go true e =
-        sym (lt-ltb b (2 ^ 53 * d) (lt-of-mul-lt-mul-right c
-        (lt-of-le-of-lt (le-of-eq (sym h)) (lt-of-lt-of-le (mul-lt-mul-of-pos-right (ltb-true a (2 ^ 53 * c) e) D) (le-of-eq turned)))))
-    go false e =
-        sym (le-ltb b (2 ^ 53 * d) (le-of-mul-le-mul-right
-        (le-trans (le-of-eq (sym turned)) (le-trans (mul-le-mul-right d (ltb-false a (2 ^ 53 * c) e)) (le-of-eq h))) C))
-
-same-figure : (s : Bool) (a c b d : ℕ) → 0 < c → 0 < d → a * d ≡ b * c → figureAt s a c ≡ figureAt s b d
-same-figure s a c b d C D h = rw (same-size a c b d C D h, same-hundredths a c b d C D h)
-
-by-value : (x : Float) (s : Bool) (a c : ℕ) → 0 < c → HasValue x s a c → figureOf x ≡ figureAt s a c
-unfolding figureOf
-by-value nan s a c C v = absurd v
-by-value (inf t) s a c C v = absurd v
-by-value (fin t m e) s a c C v = ap (λ (u : Bool). figureAt u (m * up e) (down e)) (v .0) ∙ same-figure s (m * up e) (down e) a c (down-pos e) C (v .1)
-
--- ---- q·2^k / 2^n
-
--- below 2^53, where q is and k is at most n
-low-figure : (s : Bool) (q k j n : ℕ) → k + j ≡ n → q < 2 ^ 53 → figureAt s (q * 2 ^ k) (2 ^ n) ≡ Is s (nearestHundredths q (2 ^ j))
-low-figure s q k j n e h =
-    same-figure s (q * 2 ^ k) (2 ^ n) q (2 ^ j) (pow-pos n) (pow-pos j)
-    (mul-assoc q (2 ^ k) (2 ^ j) ∙ ap (λ (z : ℕ). q * z) (sym (pow-add 2 k j) ∙ ap (λ (z : ℕ). 2 ^ z) e))
-    ∙ ap (λ (t : Bool). cond t (Is s (nearestHundredths q (2 ^ j))) TooLarge)
-    (lt-ltb q (2 ^ 53 * 2 ^ j) (lt-of-lt-of-le h (le-trans (le-of-eq (sym (mul-one (2 ^ 53)))) (mul-le-mul-left (2 ^ 53) (pow-pos j)))))
-
--- not below it, where k is above n and q has 53 digits
-high-figure : (s : Bool) (q k n : ℕ) → n < k → 2 ^ 52 ≤ q → figureAt s (q * 2 ^ k) (2 ^ n) ≡ TooLarge
-high-figure s q k n h l =
-    ap (λ (t : Bool). cond t (Is s (nearestHundredths (q * 2 ^ k) (2 ^ n))) TooLarge)
-    (le-ltb (q * 2 ^ k) (2 ^ 53 * 2 ^ n)
-    (le-trans (le-of-eq (halved (2 ^ 52) (2 ^ n) ∙ ap (λ (z : ℕ). 2 ^ 52 * z) (sym (pow-succ' 2 n)))) (mul-le-mul l (pow-mono h))))
-  where
-    halved : (a b : ℕ) → 2 * a * b ≡ a * (2 * b)
-    halved a b = simp (mul-assoc, mul-left-comm)
-
--- ---- by the fields of the bits
-
--- no leading digit: t units of 2^−1074
-no-field : (s : Bool) (t : ℕ) → t < 2 ^ 53 → figureOf (ofFields binary64 s 0 t) ≡ Is s (nearestHundredths t (2 ^ 1074))
-unfolding ofFields
-no-field s t h = by-value (odd 53 s t 0 1074) s (t * 2 ^ 0) (2 ^ 1074) (pow-pos 1074) (odd-sign 53 s t 0 1074) ∙ low-figure s t 0 1074 1074 refl h
-
--- a field k + 1: 2^52 + t units of 2^(k − 1074)
-some-field : (s : Bool) (k t : ℕ) → (suc k ≡ 2047 → ⊥) → figureOf (ofFields binary64 s (suc k) t) ≡ figureAt s ((2 ^ 52 + t) * 2 ^ k) (2 ^ 1074)
-unfolding ofFields
-some-field s k t h =
-    rw (ne-eqb (suc k) 2047 h) (by-value (odd 53 s (2 ^ 52 + t) k 1074) s ((2 ^ 52 + t) * 2 ^ k) (2 ^ 1074) (pow-pos 1074)
-    (odd-sign 53 s (2 ^ 52 + t) k 1074))
-
--- the field of the infinities and of NaN
-full-field : (s : Bool) (t : ℕ) → figureOf (ofFields binary64 s 2047 t) ≡ TooLarge
-unfolding ofFields figureOf
-full-field s t = go (eqb t 0)
-  where
-    go : (z : Bool) → figureOf (cond z (inf s) nan) ≡ TooLarge
-    go true = refl
-    go false = refl
-
--- ---- by the bits
-
-module _ (x : Float) (f : T (fits binary64 x)) (b : ℕ) (e : b ≡ toBits binary64 x) where
-  abbrev sign : Bool
-  sign = leb (2 ^ 63) b
-
-  by-fields : (k : ℕ) → b / 2 ^ 52 % 2 ^ 11 ≡ k → figureOf x ≡ figureOf (ofFields binary64 sign k (b % 2 ^ 52))
-  unfolding ofBits
-  by-fields k p = ap figureOf (sym (ofBits-toBits binary64 x f) ∙ ap (λ (n : ℕ). ofBits binary64 n) (sym e)) ∙ rw (field b ∙ p)
-    where
-      field : (b : ℕ) → b % 2 ^ 63 / 2 ^ 52 ≡ b / 2 ^ 52 % 2 ^ 11
-      field b = omega arith
-
-  pub figure-none : b / 2 ^ 52 % 2 ^ 11 ≡ 0 → figureOf x ≡ Is sign (nearestHundredths (b % 2 ^ 52) (2 ^ 1074))
-  figure-none h = by-fields 0 h ∙ no-field sign (b % 2 ^ 52) (omega arith)
-
-  pub figure-low : (k : ℕ) → b / 2 ^ 52 % 2 ^ 11 ≡ k → (k ≡ 0 → ⊥) → k ≤ 1075 → figureOf x ≡ Is sign (nearestHundredths (2 ^ 52 + b % 2 ^ 52) (2 ^ (1075 - k)))
-  figure-low zero h n l = absurd (n refl)
-  figure-low (suc k) h n l =
-      by-fields (suc k) h ∙ some-field sign k (b % 2 ^ 52) (λ z. omega arith)
-      ∙ low-figure sign (2 ^ 52 + b % 2 ^ 52) k (1075 - suc k) 1074 (omega arith) (omega arith)
-
-  pub figure-high : (k : ℕ) → b / 2 ^ 52 % 2 ^ 11 ≡ k → 1075 < k → figureOf x ≡ TooLarge
-  figure-high zero h l = absurd (not-suc-le-zero l)
-  figure-high (suc k) h l = go (eqb (suc k) 2047) refl
-    where
-      go : (z : Bool) → eqb (suc k) 2047 ≡ z → figureOf x ≡ TooLarge
-      go true z = by-fields 2047 (h ∙ eqb-true (suc k) 2047 z) ∙ full-field sign (b % 2 ^ 52)
-      go false z =
-          by-fields (suc k) h ∙ some-field sign k (b % 2 ^ 52) (eqb-false (suc k) 2047 z)
-          ∙ high-figure sign (2 ^ 52 + b % 2 ^ 52) k 1074 (omega arith) (omega arith)
-
--- ---- the steps of the code
-
-pub shifted-one : (k : ℕ) → k ≤ 61 → 1 * 2 ^ k % 2 ^ 64 ≡ 2 ^ k
-shifted-one k h = ap (λ (n : ℕ). n % 2 ^ 64) (one-mul (2 ^ k)) ∙ mod-eq-of-lt (lt-of-le-of-lt (pow-mono h) (lit< tt))
-
-pub half-small : (k : ℕ) → k ≤ 61 → 2 ^ k ≤ 2 ^ 61
-half-small k h = pow-mono h
-
--- from 2^−62 on nothing is left of 53 digits
-pub nothing-left : (d k : ℕ) → d < 2 ^ 53 → 61 < k → 0 ≡ nearestHundredths d (2 ^ k)
-nothing-left d k h l = let large : 2 ^ 62 ≤ 2 ^ k = pow-mono l in sym (div-eq-of-lt (omega arith))
-
--- ---- as text
+use Rattle.text_writing.specs.Figures.{figureText}
 
 pub sign-short : (s : Bool) (k : ℕ) → k ≡ cond s 1 0 → k ≤ 1
 sign-short true k e = omega arith
@@ -155,11 +21,3 @@ pub figure-text : (s : Bool) (h k c d : ℕ) → k ≡ cond s 1 0 → c ≡ glyp
     → take k (45 ∷ []) ++ wholeText (h / 100) ++ (46 ∷ c ∷ d ∷ []) ≡ figureText (Is s h)
 unfolding figureText
 figure-text s h k c d e f g = append-assoc (take k (45 ∷ [])) (wholeText (h / 100)) (46 ∷ c ∷ d ∷ []) ∙ rw (e, f, g, sign-text s)
-
--- ---- the definition gives the nearest
-
-pub nearest-hundredths : (a c : ℕ) → 0 < c → Nearest a c (nearestHundredths a c)
-nearest-hundredths a c C =
-    let whole = div-add-mod' (200 * a + c) (2 * c) in
-    let rest : (200 * a + c) % (2 * c) < 2 * c = mod-lt (200 * a + c) (omega arith) in
-    record { not-above = omega arith; not-below = omega arith }

@@ -7,14 +7,14 @@ use lib.ListN.{length, take}
 use borrow.Author.Needs.{needs}
 use Rattle.text_writing.proofs.LayingLaws.{Laid, behind-it}
 use Rattle.text_writing.proofs.FigureLaws.{sign-short, figure-text}
-use Rattle.text_writing.specs.declared.figures.Figure.the-variants.{TooLarge}
+use Rattle.floats_nearest.specs.declared.nearest.Nearest.the-variants.{TooLarge}
 use Rattle.text_writing.specs.Figures.{figureOf, figureText}
 use Rattle.text_writing.specs.Laying.{laidEnd, laid, wholeText}
 use Rattle.text_writing.proofs.figures.lay_figure.Statement.{statement}
 use Rattle.text_writing.proofs.figures.lay_figure.Tie as tie
 
-hundredths-requires : tie.Need-hundredths-requires
-hundredths-requires c κs = search needs
+nearest-multiple-requires : tie.Need-nearest-multiple-requires
+nearest-multiple-requires c κs = search needs
 
 enum-known-negative : tie.Need-enum-known-negative
 enum-known-negative c = search needs
@@ -34,8 +34,11 @@ same-length c = search needs
 returns : tie.Need-returns
 unfolding figureText
 returns c =
-    let large : figureOf (c .before .before .before .before .before .before .before .before .before .args .x) ≡ TooLarge = sym (c .before .before .before .before .before .before .before .hundredths .ensures) ∙ c .before .before .before .before .before .enum-told .given .1 in
-    let l = c .before .before .lay .ensures in
+    let laid-star = c .before .before in
+    let told = laid-star .before .before .before in
+    let rounded = told .before .before in
+    let large : figureOf (rounded .before .before .args .x) ≡ TooLarge = sym (rounded .nearest-multiple .ensures) ∙ told .enum-told .given .1 in
+    let l = laid-star .lay .ensures in
     rw large (l .0, l .1)
 
 sign-length-requires : tie.Need-sign-length-requires
@@ -73,29 +76,33 @@ same-length-2 c = search needs
 
 returns-2 : tie.Need-returns-2
 returns-2 c =
-    let a = c .before .before .before .before .before .before .before .before .before .before .before .before .before .before .before .before .before .before .before .before .before .before .args in
-    let f = c .before .before .before .before .before .before .before .before .before .before .before .before .before .before .before .before .before .before .negative .given in
-    let first : Laid (a .text .now) (a .at)
-    (take (c .before .before .before .before .before .before .before .before .before .before .before .before .before .before .before .before .sign-length .result) (45 ∷ [])) (c .before .before .before .before .before .before .before .before .before .before .before .before .before .lay2 .result) (c .before .before .before .before .before .before .before .before .before .before .before .before .before .lay2 .last .0) =
-    record {
-      ends = c .before .before .before .before .before .before .before .before .before .before .before .before .before .lay2 .ensures .0;
-      gives = c .before .before .before .before .before .before .before .before .before .before .before .before .before .lay2 .ensures .1;
-    } in
-    let second = behind-it (wholeText (f .0 .1 .0 / 100)) first
-    (c .before .before .before .before .before .before .before .before .before .lay-whole .ensures .0)
-    (c .before .before .before .before .before .before .before .before .before .lay-whole .ensures .1) in
-    let all = behind-it (46 ∷ c .before .before .before .before .before .before .last-digit .result ∷ c .before .before .before .before .before .last-digit2 .result ∷ []) second (c .before .before .lay3 .ensures .0) (c .before .before .lay3 .ensures .1) in
+    let laid-decimals = c .before .before in
+    let units = laid-decimals .before .before .before in
+    let tens = units .before in
+    let laid-whole = tens .before .before .before in
+    let laid-sign = laid-whole .before .before .before .before in
+    let sign = laid-sign .before .before .before in
+    let told = sign .before .before in
+    let rounded = told .before .before in
+    let a = rounded .before .before .args in
+    let f = told .negative .given in
+    let k = sign .sign-length .result in
+    let t = tens .last-digit .result in
+    let u = units .last-digit2 .result in
+    let first : Laid (a .text .now) (a .at) (take k (45 ∷ [])) (laid-sign .lay2 .result) (laid-sign .lay2 .last .0) =
+    record { ends = laid-sign .lay2 .ensures .0; gives = laid-sign .lay2 .ensures .1 } in
+    let second = behind-it (wholeText (f .0 .1 .0 / 100)) first (laid-whole .lay-whole .ensures .0) (laid-whole .lay-whole .ensures .1) in
+    let all = behind-it (46 ∷ t ∷ u ∷ []) second (laid-decimals .lay3 .ensures .0) (laid-decimals .lay3 .ensures .1) in
     let text =
-    figure-text (f .0 .0) (f .0 .1 .0)
-    (c .before .before .before .before .before .before .before .before .before .before .before .before .before .before .before .before .sign-length .result) (c .before .before .before .before .before .before .last-digit .result) (c .before .before .before .before .before .last-digit2 .result) (c .before .before .before .before .before .before .before .before .before .before .before .before .before .before .before .before .sign-length .ensures) (c .before .before .before .before .before .before .last-digit .ensures) (c .before .before .before .before .before .last-digit2 .ensures)
-    ∙ ap figureText (sym (f .1) ∙ c .before .before .before .before .before .before .before .before .before .before .before .before .before .before .before .before .before .before .before .before .hundredths .ensures) in
+    figure-text (f .0 .0) (f .0 .1 .0) k t u (sign .sign-length .ensures) (tens .last-digit .ensures) (units .last-digit2 .ensures)
+    ∙ ap figureText (sym (f .1) ∙ rounded .nearest-multiple .ensures) in
     (all .ends ∙ ap (λ (t : List ℕ). laidEnd (length (a .text .now)) (a .at) (length t)) text, all .gives ∙ ap (laid (a .text .now) (a .at)) text)
 
 pub lay-figure-spec : {M : Type 1} → statement M
 lay-figure-spec =
     tie.close
     (tie.spec
-    hundredths-requires
+    nearest-multiple-requires
     enum-known-negative
     enum-told
     slice-aggregate-lay
