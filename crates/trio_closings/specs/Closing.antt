@@ -1,5 +1,5 @@
--- Closing a part, at every input: the call with its ground, or a refusal; the part is handed back with either. Definitions only
--- (RULES.md, O1, O2, T9, T10).
+-- Closing a part, at every input: the call with its ground and its quality, or a refusal; the part is handed back with either.
+-- Definitions only (RULES.md, O1, O2, T9, T10, T11).
 use Prim.Native.Nat.{ℕ}
 use mathlib.Core.Bool.{Bool, false, cond, decide, _&&_, _||_}
 use mathlib.Core.List.{List}
@@ -19,6 +19,7 @@ use Rattle.trio_family.specs.Genotypes.{pair}
 use Rattle.trio_parts.specs.declared.part.Part.{Part}
 use Rattle.trio_parts.specs.Part.{rowCount}
 use Rattle.trio_parts.specs.Right.{rightPart}
+use Rattle.trio_quality.specs.Quality.{trioQuality}
 use Rattle.trio_samples.specs.Samples.{columnTotal}
 use Rattle.trio_triples.specs.Genotypes.{tripleOf}
 use Rattle.trio_closings.specs.declared.closing.Closed.{Closed}
@@ -40,7 +41,7 @@ tied h = hasRunner h && decide (ℤ-discrete (keyOf (h .first .score)) (keyOf (h
 unfoldable pub groundOf : ℕ → List ℕ → Held → Ground
 groundOf n counts h = cond (unread n counts) Unread (cond (tied h) Tied Won)
 
--- T9: the best triple with its score, and the runner-up, or that there is none
+-- T9: the best triple with its score, and the runner-up, or that there is none; T11: its quality, by both scores
 unfoldable pub closedAs : Part → Closed
 closedAs p =
     let h = p .held in
@@ -50,11 +51,12 @@ closedAs p =
       triple = tripleOf (p .clusters) (h .first .position);
       score = h .first .score;
       ground = groundOf (p .clusters) (p .counts) h;
+      quality = trioQuality (unread (p .clusters) (p .counts)) (hasRunner h) (h .first .score) (h .second .score);
       «has_runner» = hasRunner h;
       runner = h .second;
     }
 
--- O2: zeros, no ground, no runner-up, and the part
+-- O2: zeros, no ground, a quality of 0, no runner-up, and the part
 unfoldable pub refusedClosing : Refusal → Part → Closed
 refusedClosing r p =
     record {
@@ -63,6 +65,7 @@ refusedClosing r p =
       triple = record { child = pair 0 0; father = pair 0 0; mother = pair 0 0 };
       score = nat 0;
       ground = NoGround;
+      quality = 0;
       «has_runner» = false;
       runner = noEntry;
     }

@@ -1,6 +1,8 @@
-// Closing a part: the call, its score, the runner-up and the ground (docs/RULES.md, T9, T10).
+// Closing a part: the call, its score, the runner-up, the ground and the quality (docs/RULES.md, T9, T10, T11).
 ghost use mathlib.Core.Path.{_≡_};
-ghost use Rattle.trio_closings.specs.Closing.{groundOf, unread, refusedClosing, closedAs, closeStep};
+ghost use mathlib.Core.Bool.{cond};
+ghost use Rattle.trio_family.specs.declared.ground.Ground.the-variants.{Won, Tied, Unread};
+ghost use Rattle.trio_closings.specs.Closing.{unread, tied, refusedClosing, closedAs, closeStep};
 use floats::key::key;
 use refusals::Refusal;
 use trio_entries::entry::Entry;
@@ -12,17 +14,20 @@ use trio_family::pair::Triple;
 use trio_family::sample::Sample;
 use trio_parts::part::Part;
 use trio_parts::shape::right_part;
+use trio_quality::quality::trio_quality;
 use trio_samples::samples::column_total;
 use trio_search::marks::all_marked;
 use trio_triples::genotypes::triple_of;
 
-// The call with its score, its ground and the runner-up, if there is one; or a refusal with zeros. The part is handed back in every case.
+// The call with its score, its ground, its quality and the runner-up, if there is one; or a refusal with zeros. The part is handed back in
+// every case.
 pub struct Closed {
     pub refusal: Refusal,
     pub part: Part,
     pub triple: Triple,
     pub score: f64,
     pub ground: Ground,
+    pub quality: u32,
     pub has_runner: bool,
     pub runner: Entry,
 }
@@ -40,10 +45,11 @@ fn is_unread(n: u64, counts: [u32; 24]) -> bool
     column_total(n, counts, Sample::Mother) == 0
 }
 
-fn ground_of(n: u64, counts: [u32; 24], h: Held) -> Ground
-    ensures { λ r. ⌜ r ≡ groundOf n counts h ⌝ }
+// The ground of what is held, by whether some animal has no reads.
+fn ground_of(missing: bool, h: Held) -> Ground
+    ensures { λ r. ⌜ r ≡ cond missing Unread (cond (tied h) Tied Won) ⌝ }
 {
-    if is_unread(n, counts) {
+    if missing {
         return Ground::Unread;
     }
     if h.count < 2 {
@@ -70,6 +76,7 @@ pub fn refused_closing(refusal: Refusal, p: Part) -> Closed
         },
         score: 0.0,
         ground: Ground::NoGround,
+        quality: 0,
         has_runner: false,
         runner: Entry {
             position: 0,
@@ -87,13 +94,16 @@ fn closed_as(p: Part) -> Closed
     let held = p.held;
     let first = held.first;
     let runner = held.second;
+    let missing = is_unread(n, counts);
+    let has_runner = 2 <= held.count;
     Closed {
         refusal: Refusal::Done,
         part: p,
         triple: triple_of(n, first.position),
         score: first.score,
-        ground: ground_of(n, counts, held),
-        has_runner: 2 <= held.count,
+        ground: ground_of(missing, held),
+        quality: trio_quality(missing, has_runner, first.score, runner.score),
+        has_runner,
         runner,
     }
 }
