@@ -28,6 +28,7 @@ use Rattle.trio_parts.proofs.RightLaws.{right-input}
 use Rattle.trio_opening.specs.Opening.{openStep}
 use Rattle.trio.specs.Steps.{scoreIn}
 use Rattle.trio_closings.specs.Closing.{unread, groundOf, closedAs}
+use Rattle.trio_quality.specs.Quality.{trioQuality}
 use Rattle.trio_desks.specs.Call.{onePassCall, calledBy, callOf}
 use Rattle.trio_desks.specs.UnreadCall.{lastTriple, LastUnread}
 use Rattle.trio_desks.proofs.Flat.{flat-pass}
@@ -71,7 +72,7 @@ module _ (start : Part) (many : 2 ≤ start .clusters) (few : start .clusters �
   held-is = flat-pass (scoreIn start) (inf true) least (genotypeCount n * rowWidth n) positions
 
   pub last-unread : LastUnread n (onePassCall start)
-  unfolding closedAs groundOf
+  unfolding closedAs groundOf trioQuality
   last-unread =
       record {
         is-done = refl;
@@ -79,6 +80,7 @@ module _ (start : Part) (many : 2 ≤ start .clusters) (few : start .clusters �
         triple-is = ap (λ (l : List Entry). tripleOf n (heldOf l .first .position)) held-is ∙ last-triple n (omega arith) few;
         score-is = ap (λ (l : List Entry). heldOf l .first .score) held-is ∙ least (genotypeCount n * rowWidth n - 1);
         ground-is = rw none-read;
+        quality-is = rw none-read;
       }
 
 -- ---- over every input that an opening accepts
