@@ -1,7 +1,10 @@
-// The whole call of a trio for callers in other languages: a cluster number and slices in, numbers out (docs/RULES.md, T9, T10).
+// The whole call of a trio, and a quality by itself, for callers in other languages: a cluster number and slices, or two scores, in;
+// numbers out (docs/RULES.md, T9, T10, T11).
 // It answers every argument; what the foreign caller answers for is in docs/TRUST.md.
 ghost use mathlib.Core.Path.{_≡_};
-ghost use mathlib.Core.Bool.{cond};
+ghost use mathlib.Core.Bool.{cond, not};
+ghost use lib.Dec.{eqb};
+ghost use Rattle.trio_quality.specs.Quality.{trioQuality};
 ghost use Rattle.trio_desks.specs.Call.{callOf};
 ghost use Rattle.trio_c.specs.Trio.{IsCall};
 use trio_family::ground;
@@ -14,7 +17,8 @@ fn flag(b: bool) -> u32
 }
 
 // Each cluster has three counts, of child, father and mother. The refusal's number is returned. Written through references: the pairs of
-// child, father and mother, the score, the ground's number, 1 if there is a runner-up and else 0, its position and its score.
+// child, father and mother, the score, the ground's number, 1 if there is a runner-up and else 0, its position and its score, and the
+// quality.
 #[no_mangle]
 pub extern "C" fn admulfas_trio(
     clusters: u64,
@@ -26,9 +30,11 @@ pub extern "C" fn admulfas_trio(
     runner: &mut u32,
     position: &mut u64,
     second: &mut f64,
+    quality: &mut u32,
 ) -> u32
     ensures { λ r. ⌜ IsCall (callOf «clusters» (now (counts .entry)) (now (weights .entry)))
-        r (now (pairs .exit)) (now (score .exit)) (now (ground .exit)) (now (runner .exit)) (now (position .exit)) (now (second .exit)) ⌝ }
+        r (now (pairs .exit)) (now (score .exit)) (now (ground .exit)) (now (runner .exit)) (now (position .exit)) (now (second .exit))
+        (now (quality .exit)) ⌝ }
 {
     let answer = trio_desks::call::call(clusters, counts, weights);
     let refusal = answer.refusal;
@@ -51,5 +57,15 @@ pub extern "C" fn admulfas_trio(
     let next = answer.runner;
     *position = next.position;
     *second = next.score;
+    *quality = answer.quality;
     refusals::number(refusal)
+}
+
+// The quality of a call with this score beside a runner-up with that one. 0 says that no animal is unread, and that there is no runner-up;
+// any other number that one is, and that there is.
+#[no_mangle]
+pub extern "C" fn admulfas_trio_quality(unread: u32, runner: u32, best: f64, next: f64) -> u32
+    ensures { λ r. ⌜ r ≡ trioQuality (not (eqb unread 0)) (not (eqb runner 0)) best next ⌝ }
+{
+    trio_quality::quality::trio_quality(unread != 0, runner != 0, best, next)
 }

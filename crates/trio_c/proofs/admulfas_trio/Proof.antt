@@ -23,7 +23,7 @@ returns : tie.Need-returns
 returns c =
     rw
     (sym (called c .call .ensures))
-    (c .number .ensures, refl, refl, c .before .before .before .ground-number .ensures, c .before .before .flag .ensures, refl, refl)
+    (c .number .ensures, refl, refl, c .before .before .before .ground-number .ensures, c .before .before .flag .ensures, refl, refl, refl)
 
 pub admulfas-trio-spec : {M : Type 1} → statement M
 admulfas-trio-spec =
