@@ -13,6 +13,7 @@ use text_reading::fields::field;
 use text_reading::fields::next_field;
 use text_reading::wholes::Whole;
 use text_writing::laying::lay;
+use text_writing::laying::lay_whole;
 use trio_closings::closing::Closed;
 use trio_desks::call::call;
 use trio_family::ground::Ground;
@@ -28,14 +29,21 @@ fn ground(g: Ground) -> [u8; 8] {
     }
 }
 
-// The call of n clusters, its ground and its runner-up.
+// What a call is worth: its ground and its quality.
+fn worth(text: &mut [u8], at: usize, g: Ground, quality: u32) -> usize {
+    let word = ground(g);
+    let to_tab = lay(text, at, field(&word, 0, 0));
+    let to_quality = lay(text, to_tab, b"\t");
+    lay_whole(text, to_quality, quality as u64)
+}
+
+// The call of n clusters, its ground, its quality and its runner-up.
 fn called(text: &mut [u8], at: usize, n: u64, c: Closed) -> usize {
     let triple = c.triple;
     let runner = c.runner;
     let g = c.ground;
-    let word = ground(g);
     let to_ground = answers::triple(text, at, triple);
-    let to_runner = lay(text, to_ground, field(&word, 0, 0));
+    let to_runner = worth(text, to_ground, g, c.quality);
     if c.has_runner {
         return answers::triple(text, to_runner, triple_of(n, runner.position));
     }

@@ -45,7 +45,7 @@ fn diploid_answer(answer: GenotypeResult) -> Answer {
     let refusal = answer.refusal;
     let state = answer.state;
     write::short(
-        0x48ff_0000_0000,
+        0x48ff_0000_0000_0000,
         refusals::number(refusal) as u64,
         state_number(state) as u64,
         bits(answer.gq),

@@ -1,7 +1,7 @@
 // The kinds of cases: the first word of a line names its kind.
 // A new kind is a name, the digits of its words, and a branch of `as_numbers`, whose function gives the answer to the words that were read;
-// one with a list stands there beside `open` and has its branch in `of_lists`. One that answers more than twelve words writes them itself,
-// in a branch of `answered`. A word more in an answer is a digit and a number more; `close` and `call` have all twelve.
+// one with a list stands there beside `open` and has its branch in `of_lists`. One that answers more than thirteen words writes them
+// itself, in a branch of `answered`. A word more in an answer is a digit and a number more; `close` and `call` have all thirteen.
 use crate::animal_cases;
 use crate::read::SPACE;
 use crate::read::read;
@@ -44,6 +44,8 @@ const SAMPLE: u64 = 0x73616d706c65;
 
 const CALL: u64 = 0x63616c6c;
 
+const QUALITY: u64 = 0x7175616c697479;
+
 const MOSAIC: u64 = 0x6d6f73616963;
 
 const OPEN: u64 = 0x6f70656e;
@@ -61,7 +63,7 @@ const CLOSE: u64 = 0x636c6f7365;
 const SHOW: u64 = 0x73686f77;
 
 // The words of a question, a hexadecimal digit for each: 4 and 8 a whole number of so many bytes, f a float, 9 a register, c a cluster, 2 a
-// mode or a sample; 3 three floats, d a part; a a list of u32 and b one of floats, at most one each, a first. 0 is no kind.
+// mode or a sample, 1 a flag; 3 three floats, d a part; a a list of u32 and b one of floats, at most one each, a first. 0 is no kind.
 fn digits(name: u64) -> u64 {
     match name {
         LN | EXP | LOG10 | POW10 | LGAMMA | STIRLING | KEY => 0xf000_0000,
@@ -70,6 +72,7 @@ fn digits(name: u64) -> u64 {
         MENDEL => 0xcccc_cc00,
         SAMPLE => 0x4ab2_4400,
         CALL => 0x4ab0_0000,
+        QUALITY => 0x11ff_0000,
         MOSAIC => 0x34a0_0000,
         OPEN => 0x94ab_0000,
         PART => 0x9d00_0000,
@@ -130,7 +133,7 @@ fn listed(name: u64, words: &mut Words) -> Answer {
 fn copied(words: &mut Words, from: usize) -> Answer {
     let part = part_at(words, from);
     registers::set(words, part);
-    write::short(0x1000_0000_0000, 0, 0, 0, 0)
+    write::short(0x1000_0000_0000_0000, 0, 0, 0, 0)
 }
 
 fn as_numbers(name: u64, words: &mut Words) -> Answer {
@@ -141,6 +144,7 @@ fn as_numbers(name: u64, words: &mut Words) -> Answer {
         ROW => trio_cases::row(words),
         MERGE => trio_cases::merged(words),
         CLOSE => trio_cases::closing(words),
+        QUALITY => trio_cases::quality(words),
         DIPLOID | SAMPLE | OPEN | CALL => listed(name, words),
         _ => write::float(kernel(name, words)),
     }

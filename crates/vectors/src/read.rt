@@ -32,6 +32,7 @@ fn highest(digit: u64) -> u64 {
         0xe => words::MOST as u64,
         9 => 9,
         0xc => 7,
+        1 => 1,
         _ => 2,
     }
 }

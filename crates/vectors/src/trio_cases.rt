@@ -1,4 +1,4 @@
-// The cases of a trio: the Mendelian term, an animal's score, the whole call, and the steps, which work with registers.
+// The cases of a trio: the Mendelian term, an animal's score, a quality, the whole call, and the steps, which work with registers.
 ghost use Prim.Native.Nat.{_≤_};
 use crate::registers;
 use crate::words;
@@ -18,6 +18,7 @@ use trio_mendel::mendel::distinct_pairs;
 use trio_mendel::mendel::mendelian_prior;
 use trio_opening::opening::open_part;
 use trio_parts::part::Stepped;
+use trio_quality::quality::trio_quality;
 
 fn pair(words: &Words, low: usize, high: usize) -> Pair {
     Pair {
@@ -39,7 +40,7 @@ fn prior(words: &Words) -> u64 {
 pub fn mendel(words: &Words) -> Answer {
     if is_genotype(words, 0, 4) && is_genotype(words, 8, 12) && is_genotype(words, 16, 20) {
         let distinct = distinct_pairs(pair(words, 8, 12), pair(words, 16, 20));
-        return write::short(0xf800_0000_0000, prior(words), distinct, 0, 0);
+        return write::short(0xf800_0000_0000_0000, prior(words), distinct, 0, 0);
     }
     write::unreadable()
 }
@@ -74,13 +75,13 @@ fn flag(b: bool) -> u64
     if b { 1 } else { 0 }
 }
 
-// What closing answers, but for the part. A runner-up is shown where there is one.
+// What closing answers, but for the part. A runner-up is shown where there is one, and the quality behind it.
 fn closed(c: Closed) -> Answer {
     let refusal = c.refusal;
     let ground = c.ground;
     let has_runner = flag(c.has_runner);
     [
-        0x8888_888f_8800 + 0x8f * has_runner,
+        0x8888_888f_8800_8000 + 0x8f_0000 * has_runner,
         refusals::number(refusal) as u64,
         c.triple.child.low,
         c.triple.child.high,
@@ -93,7 +94,15 @@ fn closed(c: Closed) -> Answer {
         has_runner,
         c.runner.position,
         bits(c.runner.score),
+        c.quality as u64,
     ]
+}
+
+pub fn quality(words: &Words) -> Answer {
+    let unread = words::whole(words, 0) == 1;
+    let runner = words::whole(words, 4) == 1;
+    let quality = trio_quality(unread, runner, words::float(words, 8), words::float(words, 12));
+    write::whole(quality as u64)
 }
 
 // What came back from a step goes into the first register.

@@ -7,12 +7,12 @@ use text_writing::laying::lay_whole;
 
 pub type Text = [u8; 65536];
 
-// An answer as numbers: twelve digits, and a word for each. f is the bits of a float, 1 the word `ok`, 2 a `?`, any other a whole number,
-// and 0 no word.
-pub type Answer = [u64; 13];
+// An answer as numbers: sixteen digits, and a word for each of the first thirteen; the others are 0. f is the bits of a float, 1 the word
+// `ok`, 2 a `?`, any other a whole number, and 0 no word.
+pub type Answer = [u64; 14];
 
-// The first of twelve digits.
-const TOP: u64 = 0x1000_0000_0000;
+// The first of sixteen digits.
+const TOP: u64 = 0x1000_0000_0000_0000;
 
 // A byte that parts or ends words.
 pub fn mark(text: &mut Text, at: usize, b: u8) -> usize {
@@ -44,7 +44,7 @@ pub fn lay_answer(text: &mut Text, at: usize, answer: Answer) -> usize {
     let mut end = at;
     let mut left = answer[0];
     let mut i = 1;
-    while i < 13 {
+    while i < 14 {
         end = word_if(text, end, left >= TOP, left / TOP, answer[i]);
         left = left % TOP * 16;
         i += 1;
@@ -62,17 +62,21 @@ pub fn ended(text: &mut Text, end: usize) -> usize {
 
 // An answer of at most four words.
 pub fn short(digits: u64, x: u64, y: u64, z: u64, w: u64) -> Answer {
-    [digits, x, y, z, w, 0, 0, 0, 0, 0, 0, 0, 0]
+    [digits, x, y, z, w, 0, 0, 0, 0, 0, 0, 0, 0, 0]
 }
 
 pub fn unreadable() -> Answer {
-    short(0x2000_0000_0000, 0, 0, 0, 0)
+    short(0x2000_0000_0000_0000, 0, 0, 0, 0)
 }
 
 pub fn float(x: f64) -> Answer {
-    short(0xf000_0000_0000, bits(x), 0, 0, 0)
+    short(0xf000_0000_0000_0000, bits(x), 0, 0, 0)
+}
+
+pub fn whole(n: u64) -> Answer {
+    short(0x8000_0000_0000_0000, n, 0, 0, 0)
 }
 
 pub fn refusal(refusal: Refusal) -> Answer {
-    short(0x4000_0000_0000, refusals::number(refusal) as u64, 0, 0, 0)
+    whole(refusals::number(refusal) as u64)
 }
