@@ -34,7 +34,7 @@ unread-mother : (counts : List ℕ) (weights : List Float) → numberOf (openSte
 unfolding genotypeCount
 unread-mother counts weights accepted none =
     let l = unread-call 2 counts weights accepted (lit≤ tt) (unread-of 2 counts none) in
-    record { done = l .is-done; at = l .at; pairs = l .triple-is; ground-is = l .ground-is }
+    record { done = l .is-done; at = l .at; pairs = l .triple-is; ground-is = l .ground-is; quality-is = l .quality-is }
 
 -- X11
 no-alleles : (p : Params) → paramsAllowed p ≡ true → p .depth ≡ 0 → numberOf (mosaicOf p [] .refusal) ≡ 11

@@ -8,6 +8,7 @@ use Rattle.floats.proofs.key.at_most.Reads as at-most
 use Rattle.floats.proofs.key.below.Reads as below
 use Rattle.floats.proofs.bits.bits.Reads as bits
 use Rattle.floats.proofs.bits.of_bits.Reads as of-bits
+use Rattle.floats_nearest.proofs.nearest.nearest_multiple.Reads as nearest-multiple
 use Rattle.kernels.proofs.ln.ln.Reads as ln
 use Rattle.kernels.proofs.exp.exp.Reads as exp
 use Rattle.kernels_tens.proofs.log10.log10.Reads as log10
@@ -56,6 +57,7 @@ use Rattle.trio.proofs.rows.row_count.Reads as row-count
 use Rattle.trio.proofs.rows.work_row.Reads as work-row
 use Rattle.trio.proofs.merging.merge.Reads as merge
 use Rattle.trio_family.proofs.ground.ground_number.Reads as ground-number
+use Rattle.trio_quality.proofs.quality.trio_quality.Reads as trio-quality
 use Rattle.trio_closings.proofs.closing.refused_closing.Reads as refused-closing
 use Rattle.trio_closings.proofs.closing.close.Reads as close
 use Rattle.trio_desks.proofs.call.call.Reads as call
@@ -84,6 +86,7 @@ use Rattle.kernels_c.proofs.admulfas_key.Reads as c-key
 use Rattle.kernels_c.proofs.admulfas_stirling.Reads as c-stirling
 use Rattle.diploid_c.proofs.admulfas_diploid.Reads as c-diploid
 use Rattle.trio_c.proofs.admulfas_trio.Reads as c-trio
+use Rattle.trio_c.proofs.admulfas_trio_quality.Reads as c-trio-quality
 use Rattle.mosaic_c.proofs.admulfas_mosaic.Reads as c-mosaic
 use Rattle.trio_triples.proofs.genotypes.triple_of.Reads as triple-of
 use Rattle.trio_triples.proofs.score.score_at.Reads as score-at
@@ -95,7 +98,6 @@ use Rattle.text_reading.proofs.wholes.read_whole.Reads as read-whole
 use Rattle.text_reading.proofs.wholes.read_up_to.Reads as read-up-to
 use Rattle.text_reading.proofs.decimals.read_decimal.Reads as read-decimal
 use Rattle.text_reading.proofs.hexadecimals.read_hexadecimal.Reads as read-hexadecimal
-use Rattle.text_writing.proofs.figures.hundredths.Reads as hundredths
 use Rattle.text_writing.proofs.figures.lay_figure.Reads as lay-figure
 use Rattle.text_writing.proofs.laying.first_bytes.Reads as first-bytes
 use Rattle.text_writing.proofs.laying.lay.Reads as lay
@@ -142,6 +144,9 @@ bits-once κ a v w e f = only
 
 pub of-bits-once : OneAnswer of-bits.Post
 of-bits-once κ a v w e f = only
+
+pub nearest-multiple-once : OneAnswer nearest-multiple.Post
+nearest-multiple-once κ a v w e f = only
 
 -- ---- kernels
 
@@ -305,6 +310,9 @@ ground-number-once κ a v w e f = only
 pub refused-closing-once : OneAnswer refused-closing.Post
 refused-closing-once κ a v w e f = only
 
+pub trio-quality-once : OneAnswer trio-quality.Post
+trio-quality-once κ a v w e f = only
+
 pub close-once : OneAnswer close.Post
 close-once κ a v w e f = only
 
@@ -407,10 +415,10 @@ pub c-diploid-ends : (κ : _) (a : _) (v w : _) (e f : _) → c-diploid.Post κ 
 c-diploid-ends κ a v w e f p q = (only (p .1) (q .1), only (p .2) (q .2), only (p .3) (q .3))
 
 pub c-trio-once : OneAnswer c-trio.Post
-c-trio-once κ a v w e f p q = only (p .0) (q .0)
+c-trio-once κ a v w e f p q = only (p .refusal-is) (q .refusal-is)
 
--- and so is what it leaves behind its `&mut`, its fourth to ninth parameter: the pairs, the score, the ground, the flag, the position and
--- the score of the runner-up
+-- and so is what it leaves behind its `&mut`, its fourth to tenth parameter: the pairs, the score, the ground, the flag, the position and
+-- the score of the runner-up, the quality
 pub c-trio-ends : (κ : _) (a : _) (v w : _) (e f : _) → c-trio.Post κ a v e → c-trio.Post κ a w f
     → (e .1 .1 .1 .0 .now ≡ f .1 .1 .1 .0 .now)
     × (e .1 .1 .1 .1 .0 .now ≡ f .1 .1 .1 .1 .0 .now)
@@ -418,7 +426,19 @@ pub c-trio-ends : (κ : _) (a : _) (v w : _) (e f : _) → c-trio.Post κ a v e 
     × (e .1 .1 .1 .1 .1 .1 .0 .now ≡ f .1 .1 .1 .1 .1 .1 .0 .now)
     × (e .1 .1 .1 .1 .1 .1 .1 .0 .now ≡ f .1 .1 .1 .1 .1 .1 .1 .0 .now)
     × (e .1 .1 .1 .1 .1 .1 .1 .1 .0 .now ≡ f .1 .1 .1 .1 .1 .1 .1 .1 .0 .now)
-c-trio-ends κ a v w e f p q = (only (p .1) (q .1), only (p .2) (q .2), only (p .3) (q .3), only (p .4) (q .4), only (p .5) (q .5), only (p .6) (q .6))
+    × (e .1 .1 .1 .1 .1 .1 .1 .1 .1 .0 .now ≡ f .1 .1 .1 .1 .1 .1 .1 .1 .1 .0 .now)
+c-trio-ends κ a v w e f p q = (
+  only (p .pairs-are) (q .pairs-are),
+  only (p .score-is) (q .score-is),
+  only (p .ground-is) (q .ground-is),
+  only (p .runner-is) (q .runner-is),
+  only (p .position-is) (q .position-is),
+  only (p .second-is) (q .second-is),
+  only (p .quality-is) (q .quality-is),
+)
+
+pub c-trio-quality-once : OneAnswer c-trio-quality.Post
+c-trio-quality-once κ a v w e f = only
 
 pub c-mosaic-once : OneAnswer c-mosaic.Post
 c-mosaic-once κ a v w e f p q = only (p .refusal-is) (q .refusal-is)
@@ -477,9 +497,6 @@ read-decimal-once κ a v w e f = only
 
 pub read-hexadecimal-once : OneAnswer read-hexadecimal.Post
 read-hexadecimal-once κ a v w e f = only
-
-pub hundredths-once : OneAnswer hundredths.Post
-hundredths-once κ a v w e f = only
 
 pub lay-once : OneAnswer lay.Post
 lay-once κ a v w e f p q = only (p .0) (q .0)

@@ -28,12 +28,13 @@ use Rattle.diploid_qualities.specs.declared.scores.Scores.{Scores}
 use Rattle.diploid_models.specs.Models.{defaultModel}
 use Rattle.diploid.specs.Genotype.{winningState, blankDiploid, genotypeOf}
 
--- X2: the call of two clusters whose mother was not read: at the last position, every pair (1,1), and Unread
+-- X2: the call of two clusters whose mother was not read: at the last position, every pair (1,1), Unread, and a quality of 0
 pub record LastOfTwo (c : Closed) : Type 0 where
   pub done : c .refusal ≡ Done
   pub at : c .part .held .first .position ≡ 26
   pub pairs : c .triple ≡ record { child = pair 1 1; father = pair 1 1; mother = pair 1 1 }
   pub ground-is : c .ground ≡ Unread
+  pub quality-is : c .quality ≡ 0
 
 -- X1 to X11: the table
 pub record Examples : Type 0 where

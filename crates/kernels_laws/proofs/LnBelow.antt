@@ -63,7 +63,7 @@ square-clear (inf false) f = absurd f
 square-clear (fin true m e) f = round-clear (m * up e * (m * up e)) (down e * down e) f
 square-clear (fin false m e) f = round-clear (m * up e * (m * up e)) (down e * down e) f
 
-near-one-low : (m : Float) → Under 1 2 (quotientOf m) → T (le (quotientOf m) nought) → T (le (lnNearOne m) nought)
+pub near-one-low : (m : Float) → Under 1 2 (quotientOf m) → T (le (quotientOf m) nought) → T (le (lnNearOne m) nought)
 unfolding lnNearOne
 near-one-low m s h =
     let sm = quotientOf m in
@@ -95,7 +95,7 @@ unfolding ofInt round
 at-most-one m h = omega arith
 
 -- (m − 1)/(m + 1) of an m of at most 1
-quotient-low : (m : Float) → T (positive m) → Under 1 0 m → T (le (quotientOf m) nought)
+pub quotient-low : (m : Float) → T (positive m) → Under 1 0 m → T (le (quotientOf m) nought)
 quotient-low m p u =
     let one : Under 1 0 (nat 1) = within-under (within-whole (pos 1) 1 (lit≤ tt) (lit≤ tt)) in
     let low = cross→le m (nat 1) p one-positive (at-most-one m (u .small)) in
@@ -169,13 +169,13 @@ module _ (x : Float) (f : T (fits binary64 x)) (p : T (positive x)) where
   at-most : (z : ℕ) → num x ≤ z * den x → num m * up (exponent x) ≤ z * den m * down (exponent x)
   at-most z h = within-power (num m) (den m) (num x) (den x) z (up (exponent x)) (down (exponent x)) (den-pos x) (apart x p .same) h
 
-  half-under-one : Under 1 0 (m ⊗ ratio 1 2)
+  pub half-under-one : Under 1 0 (m ⊗ ratio 1 2)
   half-under-one = under-more (under-mul two half-under (lit< tt) (lit≤ tt)) 1 0 (lit≤ tt)
 
-  half-positive : T (positive (m ⊗ ratio 1 2))
+  pub half-positive : T (positive (m ⊗ ratio 1 2))
   half-positive = over-mul one half-over (lit< tt) (lit< tt) (lit≤ tt) (half-under-one .is-finite) .is-positive
 
-  from-turn : T (le turn m) → 5 * den m ≤ num m * 4
+  pub from-turn : T (le turn m) → 5 * den m ≤ num m * 4
   from-turn h =
       through 5 (num turn) (num m) 4 (den turn) (den m) (den-pos turn) (turn-over .large)
       (le→cross turn m (turn-over .is-positive) (one .is-positive) h)

@@ -1,9 +1,9 @@
 -- `lnOf` of an f64 above zero and of at most 2^−340 is −232.5 at most: `ln-far`. With x = 2^k·m, k is −340 at most, and −339 at most once
--- m is halved; hi is at least 22/32, and what is added to k·hi is at most 18/32 in size. That it is finite, `within-ln` says.
+-- m is halved (`parts-over`). That it is finite, `within-ln` says.
 -- Assumes nothing.
 use mathlib.Core.Path.{_≡_, refl, sym, ap, subst}
 use mathlib.Core.Bool.{Bool, true, false, cond}
-use Prim.Native.Nat.{ℕ, zero, suc, _*_, _^_, _≤_, _<_}
+use Prim.Native.Nat.{ℕ, zero, suc, _+_, _*_, _^_, _≤_, _<_}
 use native.Mathlib.Nat.{mul-pos, mul-le-mul-right, le-of-mul-le-mul-right}
 use native.Mathlib.Omega.{arith}
 use lib.IntN.{ℤ, pos, negsuc, natAbs, _+ℤ_}
@@ -25,26 +25,27 @@ use Rattle.kernels_laws.proofs.LnSigns.{apart, from-one, to-two}
 use Rattle.kernels_laws.proofs.LnBelow.{whole-negative, next-exponent}
 use Rattle.floats.proofs.Negatives.{over-beside}
 
--- ---- k·hi + (t + k·lo), for a k of at most −339
+-- ---- k·hi + (t + k·lo), for a k of −z at most: hi is at least 22/32, and what is added to k·hi at most 18/32 in size
 
-whole-over : (k : ℕ) → 339 ≤ k → Under (2 ^ 11) 0 (nat k) → Over 339 0 (nat k)
+whole-over : (z k : ℕ) → 0 < z → z ≤ k → k ≤ 2 ^ 11 → Under (2 ^ 11) 0 (nat k) → Over z 0 (nat k)
 unfolding ofInt
-whole-over k h w = round-over k 1 339 0 (lit< tt) (lit< tt) (lit< tt) (lit≤ tt) (omega arith) (w .is-finite)
+whole-over z k Z h l w = round-over k 1 z 0 (lit< tt) Z (omega arith) (lit≤ tt) (omega arith) (w .is-finite)
 
-parts-far : (j : ℕ) (m : Float) → 339 ≤ suc j → suc j ≤ 2 ^ 11 → Under 1 2 (quotientOf m) → Over 7440 5 (neg (lnParts (negsuc j) m))
+pub parts-over : (z n j : ℕ) (m : Float) → z ≤ suc j → suc j ≤ 2 ^ 11 → 18 + n ≤ z * 22 → 0 < n → Under 1 2 (quotientOf m)
+    → Over n 5 (neg (lnParts (negsuc j) m))
 unfolding lnParts
-parts-far j m h l s =
+parts-over z n j m h l room N s =
     let k = nat (suc j) in
     let w : Under (2 ^ 11) 0 k = within-under (within-whole (pos (suc j)) (2 ^ 11) l (lit≤ tt)) in
-    let many = whole-over (suc j) h w in
+    let many = whole-over z (suc j) (omega arith) h l w in
     let high = under-mul w hi-under (lit< tt) (lit≤ tt) in
-    let over : Over 7458 5 (k ⊗ hi) = over-mul many hi-over (lit< tt) (lit< tt) (lit≤ tt) (high .is-finite) in
+    let over : Over (z * 22) 5 (k ⊗ hi) = over-mul many hi-over (omega arith) (omega arith) (lit≤ tt) (high .is-finite) in
     let low : Under 1 5 (k ⊗ lo) = under-more (under-mul w lo-under (lit< tt) (lit≤ tt)) 1 5 (lit≤ tt) in
     let rest : Under 18 5 (lnNearOne m ⊕ neg (k ⊗ lo)) = under-add (near-one-under m s) (under-neg low) (lit< tt) (lit≤ tt) in
     let sum = under-add (under-neg (under-more high (2 ^ 16) 5 (lit≤ tt))) rest (lit< tt) (lit≤ tt) in
     let high-is = negative-times k hi (many .is-positive) (unfold ofBits in tt) in
     let low-is = negative-times k lo (many .is-positive) (unfold ofBits in tt) in
-    rw (whole-negative j, high-is, low-is) (over-beside over rest 7440 (lit≤ tt) (lit< tt) (lit< tt) (lit≤ tt) (sum .is-finite))
+    rw (whole-negative j, high-is, low-is) (over-beside over rest n room N (omega arith) (lit≤ tt) (sum .is-finite))
 
 -- ---- k is −340 at most
 
@@ -78,8 +79,9 @@ module _ (x : Float) (f : T (fits binary64 x)) (p : T (positive x)) where
           → Over 7440 5 (neg (cond t (lnParts (negsuc a +ℤ pos 1) (m ⊗ ratio 1 2)) (lnParts (negsuc a) m)))
       go true e zero l h = absurd (omega arith)
       go true e (suc a) l h =
-          rw (next-exponent a) (parts-far a (m ⊗ ratio 1 2) (omega arith) (omega arith) (halved-quotient m one two (subst T (sym e) tt)))
-      go false e a l h = parts-far a m (omega arith) (omega arith) (kept-quotient m one two e)
+          rw (next-exponent a) (parts-over 339 7440 a (m ⊗ ratio 1 2) (omega arith) (omega arith) (lit≤ tt) (lit< tt)
+          (halved-quotient m one two (subst T (sym e) tt)))
+      go false e a l h = parts-over 339 7440 a m (omega arith) (omega arith) (lit≤ tt) (lit< tt) (kept-quotient m one two e)
 
   -- x of at most 2^−340: its logarithm is −7440/32 at most
   pub ln-far : Under 1 340 x → Over 7440 5 (neg (lnOf x))

@@ -15,13 +15,13 @@ sixOf t = t .child .low ∷ t .child .high ∷ t .father .low ∷ t .father .hig
 
 -- T9, T10, T11, F7: an answer as numbers: the refusal's, the pairs, the score, the ground's, 1 where there is a runner-up, its position and
 -- its score, the quality
-abbrev pub IsCall : Closed → ℕ → List ℕ → Float → ℕ → ℕ → ℕ → Float → ℕ → Type 0
-IsCall a refusal pairs score ground runner position second quality =
-    (refusal ≡ numberOf (a .refusal))
-    × (pairs ≡ sixOf (a .triple))
-    × (score ≡ a .score)
-    × (ground ≡ groundNumber (a .ground))
-    × (runner ≡ cond (a .«has_runner») 1 0)
-    × (position ≡ a .runner .position)
-    × (second ≡ a .runner .score)
-    × (quality ≡ a .quality)
+pub record IsCall (a : Closed) (refusal : ℕ) (pairs : List ℕ) (score : Float) (ground runner position : ℕ) (second : Float) (quality : ℕ)
+    : Type 0 where
+  pub refusal-is : refusal ≡ numberOf (a .refusal)
+  pub pairs-are : pairs ≡ sixOf (a .triple)
+  pub score-is : score ≡ a .score
+  pub ground-is : ground ≡ groundNumber (a .ground)
+  pub runner-is : runner ≡ cond (a .«has_runner») 1 0
+  pub position-is : position ≡ a .runner .position
+  pub second-is : second ≡ a .runner .score
+  pub quality-is : quality ≡ a .quality

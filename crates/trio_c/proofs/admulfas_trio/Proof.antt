@@ -21,9 +21,20 @@ called c = c .before .before .before .before .before .before .before .before .be
 
 returns : tie.Need-returns
 returns c =
+    let flagged = c .before .before in
+    let grounded = flagged .before in
     rw
     (sym (called c .call .ensures))
-    (c .number .ensures, refl, refl, c .before .before .before .ground-number .ensures, c .before .before .flag .ensures, refl, refl, refl)
+    (record {
+      refusal-is = c .number .ensures;
+      pairs-are = refl;
+      score-is = refl;
+      ground-is = grounded .ground-number .ensures;
+      runner-is = flagged .flag .ensures;
+      position-is = refl;
+      second-is = refl;
+      quality-is = refl;
+    })
 
 pub admulfas-trio-spec : {M : Type 1} → statement M
 admulfas-trio-spec =
