@@ -37,5 +37,8 @@ pub fn nearest_multiple(x: f64, units: u8) -> Nearest
     if field == 0 {
         return Nearest::Is(negative, scaled(units, digits, 1074));
     }
-    Nearest::Is(negative, scaled(units, 0x10_0000_0000_0000 + digits, 1075 - field))
+    Nearest::Is(
+        negative,
+        scaled(units, 0x10_0000_0000_0000 + digits, 1075 - field),
+    )
 }

@@ -101,7 +101,12 @@ fn closed(c: Closed) -> Answer {
 pub fn quality(words: &Words) -> Answer {
     let unread = words::whole(words, 0) == 1;
     let runner = words::whole(words, 4) == 1;
-    let quality = trio_quality(unread, runner, words::float(words, 8), words::float(words, 12));
+    let quality = trio_quality(
+        unread,
+        runner,
+        words::float(words, 8),
+        words::float(words, 12),
+    );
     write::whole(quality as u64)
 }
 

@@ -28,8 +28,8 @@ add-result c =
     let a = c .before .args in
     record {
       fits =
-      rw (shifted-one (a .k) (search needs))
-      (omega (arith, one-small (a .k) (search needs), units-small (a .units) (a .digits) (search needs) (search needs)));
+          rw (shifted-one (a .k) (search needs))
+          (omega (arith, one-small (a .k) (search needs), units-small (a .units) (a .digits) (search needs) (search needs)));
     }
 
 mul-result-3 : tie.Need-mul-result-3

@@ -29,8 +29,13 @@ returns-3 c =
     let figure = nearest .before in
     let tested = figure .before in
     let runner = tested .before .before .args .runner in
-    rw (tested .before .if1 .left, not-false runner (tested .if2 .left), c .at-most-hundred .ensures, nearest .nearest-multiple .ensures,
-    figure .phred .ensures)
+    rw (
+      tested .before .if1 .left,
+      not-false runner (tested .if2 .left),
+      c .at-most-hundred .ensures,
+      nearest .nearest-multiple .ensures,
+      figure .phred .ensures,
+    )
 
 pub trio-quality-spec : {M : Type 1} → statement M
 trio-quality-spec =
