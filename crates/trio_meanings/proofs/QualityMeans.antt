@@ -3,7 +3,7 @@
 use Prim.Native.Nat.{ℕ, _≤_, _<_}
 use mathlib.Core.Bool.{Bool, true, false, cond, decide, decide-iff, _&&_}
 use mathlib.Core.List.{List}
-use mathlib.Core.Logic.{_↔_, ⊎-elim, _≢_}
+use mathlib.Core.Logic.{_↔_, _⊎_, inl, inr, ⊎-elim, _≢_}
 use mathlib.Core.Path.{_≡_, refl, sym, ap, subst, _∙_}
 use native.Mathlib.Omega.{arith}
 use borrow.Author.Tests.{eqb-true, eqb-false}
@@ -29,6 +29,7 @@ use Rattle.trio_opening.specs.Opening.{openStep}
 use Rattle.trio_quality.specs.Quality.{trioQuality}
 use Rattle.trio_quality_laws.proofs.QualityLaws.{quality-most, unread-nothing, alone-most, tied-three}
 use Rattle.trio_quality_laws.proofs.QualityLeast.{quality-least}
+use Rattle.trio_quality_laws.proofs.QualityExamples.{quality-examples}
 use Rattle.trio_closings.specs.declared.closing.Closed.{Closed}
 use Rattle.trio_closings.specs.Closing.{unread, hasRunner, tied, groundOf, closedAs, refusedClosing, closeStep}
 use Rattle.trio_desks.specs.Call.{callOf}
@@ -39,8 +40,9 @@ use Rattle.trio_desks.proofs.Opening.{opened-is}
 use Rattle.trio_laws.proofs.ScoreBounds.{score-within, score-fits}
 use Rattle.trio_meanings.specs.Called.{calledAt, keyAt, Called}
 use Rattle.trio_meanings.specs.Grounds.{SomeUnread, AllRead, BestShared}
-use Rattle.trio_meanings.specs.Qualities.{QualityBeside, Rated, ButQuality}
+use Rattle.trio_meanings.specs.Qualities.{QualityBeside, Rated, kanpigQuality, ButQuality}
 use Rattle.trio_meanings.proofs.CallLaws.{limits, call-called, closing-is}
+use Rattle.trio_meanings.proofs.EdgeLaws.{flat, unread-score}
 use Rattle.trio_meanings.proofs.FloatLaws.{allowed, key-below}
 use Rattle.trio_meanings.proofs.GroundLaws.{below-or-equal, unread-settles, ground-means}
 
@@ -169,6 +171,28 @@ module _ (n : ℕ) (counts : List ℕ) (weights : List Float) (accepted : openSt
             let keys = ap keyOf (called .score-is) ∙ sym (same e) ∙ sym (ap keyOf (called .runner-score e)) in
             by-runner true e ∙ tied-three (c .score) (c .runner .score) best-finite (next-finite e) keys
         go false e = absurd (called .no-runner e (s .0) (s .1))
+
+  -- on Won and Tied it is kanpig's
+  pub on-won-and-tied : (c .ground ≡ Won) ⊎ (c .ground ≡ Tied)
+      → c .quality ≡ kanpigQuality (c .«has_runner») (c .score) (c .runner .score)
+  on-won-and-tied g = by-runner (read g) (c .«has_runner») refl
+    where
+      read : (c .ground ≡ Won) ⊎ (c .ground ≡ Tied) → AllRead n counts
+      read (inl e) = ground-means n counts weights accepted Won .0 e .0
+      read (inr e) = ground-means n counts weights accepted Tied .0 e .0
+
+  -- on Unread kanpig's would be 100, with a runner-up or without
+  pub on-unread : c .ground ≡ Unread → kanpigQuality (c .«has_runner») (c .score) (c .runner .score) ≡ 100
+  on-unread g = go (c .«has_runner») refl
+    where
+      s : SomeUnread n counts
+      s = ground-means n counts weights accepted Unread .0 g
+
+      go : (r : Bool) → c .«has_runner» ≡ r → kanpigQuality r (c .score) (c .runner .score) ≡ 100
+      go true e =
+          rw (unread-score n counts weights accepted s, called .runner-score e ∙ flat n counts weights accepted s second)
+          (quality-examples .least-scores)
+      go false e = alone-most (c .score) (c .runner .score)
 
   most : c .quality ≤ 100
   most =

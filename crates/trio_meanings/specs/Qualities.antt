@@ -1,12 +1,13 @@
--- What a quality says beside its ground. Definitions only (RULES.md, T9, T10, T11).
+-- What a quality says beside its ground. Definitions only (RULES.md, D2, T9, T10, T11).
 use Prim.Native.Nat.{ℕ, _≤_}
-use mathlib.Core.Bool.{false}
+use mathlib.Core.Bool.{Bool, false}
 use mathlib.Core.List.{[], _∷_}
 use mathlib.Core.Path.{_≡_}
-use lib.Ieee.{inf}
+use lib.Ieee.{Float, inf}
 use Rattle.floats.specs.F64.{nat}
 use Rattle.trio_family.specs.declared.ground.Ground.{Ground}
 use Rattle.trio_family.specs.declared.ground.Ground.the-variants.{NoGround, Won, Tied, Unread}
+use Rattle.trio_quality.specs.Quality.{trioQuality}
 use Rattle.trio_closings.specs.declared.closing.Closed.{Closed}
 use Rattle.trio_closings.specs.Closing.{groundOf, hasRunner}
 use Rattle.trio_parts.specs.declared.part.Part.{Part}
@@ -24,6 +25,11 @@ QualityBeside Won q = (3 ≤ q) × (q ≤ 100)
 -- T11: an answer whose quality is what its ground says
 abbrev pub Rated : Closed → Type 0
 Rated c = QualityBeside (c .ground) (c .quality)
+
+-- D2: what kanpig's `__genotype_quality` gives, which is not told whether an animal is unread. That the rounding and the cap are Rust's:
+-- `phred-plain` (trio_quality_laws/proofs/PhredBounds.antt)
+abbrev pub kanpigQuality : Bool → Float → Float → ℕ
+kanpigQuality = trioQuality false
 
 -- T9, T10: what a complete part says but for the quality: none of it is asked what the quality is
 pub record ButQuality (p : Part) (c : Closed) : Type 0 where
