@@ -30,7 +30,11 @@ const SOURCES: [Source; 3] = [
             ("10.0_f64.powf(", "kernel_pow10("),
         ],
     },
-    Source { name: "trio_genotyper.rs", crates: &["use ndarray::"], renamed: &[(".ln()", ".kernel_ln()")] },
+    Source {
+        name: "trio_genotyper.rs",
+        crates: &["use ndarray::"],
+        renamed: &[(".ln()", ".kernel_ln()"), (".exp()", ".kernel_exp()"), (".log10()", ".kernel_log10()")],
+    },
     Source {
         name: "mosaic_genotyper.rs",
         crates: &["use std::collections::"],

@@ -42,6 +42,7 @@ mod trio {
     pub mod desks;
     pub mod distances;
     pub mod forged;
+    pub mod halves;
     pub mod histories;
     pub mod inputs;
     pub mod kanpig;
@@ -49,6 +50,9 @@ mod trio {
     pub mod part;
     pub mod pass;
     pub mod port;
+    pub mod quality;
+    pub mod quality_cases;
+    pub mod quality_inputs;
     pub mod steps;
     pub mod types;
     pub mod words;

@@ -5,6 +5,8 @@ use crate::diploid::kanpig::expected;
 use crate::diploid::types::Input;
 use crate::floor::random::Random;
 use crate::floor::tally::Tally;
+use crate::trio;
+use std::collections::HashSet;
 use std::{fs, io};
 
 /// A decimal with some digits behind its point, or none.
@@ -59,6 +61,22 @@ fn edges() -> Vec<String> {
     for eighths in 1..8 {
         lines.push(format!("mosaic\teighths\t{}\t0\t{}", 400 * (8 - eighths), 400 * eighths));
         lines.push(format!("mosaic\teighths\t{}\t{}\t400", 100 * (8 - eighths), 100 * eighths));
+    }
+    lines
+}
+
+/// A trio of two clusters for each ground and quality that small counts have.
+fn qualities() -> Vec<String> {
+    let random = &mut Random::new(92);
+    let (mut known, mut lines) = (HashSet::new(), vec![]);
+    for _ in 0..60_000 {
+        let most = 2 + random.below(20);
+        let counts: Vec<u32> = (0..6).map(|_| random.below(most) as u32).collect();
+        let numbers: Vec<String> = [2].iter().chain(&counts).chain(&[1, 1]).map(u32::to_string).collect();
+        let answer = trio::pass::expected(&trio::types::Input { n: 2, counts, weights: vec![1.0; 2] });
+        if known.insert((answer.ground, answer.quality)) {
+            lines.push(joined("trio", "quality", &numbers));
+        }
     }
     lines
 }
@@ -150,6 +168,7 @@ pub fn write() -> io::Result<()> {
     let sample = fs::read_to_string("docs/sites.txt")?;
     let mut lines: Vec<String> = sample.lines().chain(REFUSED).chain(SPELLED).map(String::from).collect();
     lines.extend(edges());
+    lines.extend(qualities());
     lines.extend(long_lines());
     lines.extend(random_lines(90, 160));
     exchange(lines).store("calls", "sites")

@@ -64,7 +64,7 @@ fn trio_answer(site: &str, fields: &[&str]) -> Option<String> {
     let answer = trio::pass::expected(&input);
     Some(said(site, answer.number, || {
         let mut rest = pairs(answer.pairs);
-        rest.push(GROUNDS[answer.ground as usize].to_string());
+        rest.extend([GROUNDS[answer.ground as usize].to_string(), answer.quality.to_string()]);
         rest.extend(answer.runner.map_or(vec!["-".to_string()], |(position, _)| pairs(trio::types::pairs_at(input.n, position))));
         rest
     }))

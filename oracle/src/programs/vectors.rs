@@ -13,6 +13,7 @@ pub fn write() -> io::Result<()> {
     spellings::write(cases);
     diploid::cases::write(cases);
     trio::cases::write(cases);
+    trio::quality_cases::write(cases);
     trio::steps::write(cases);
     mosaic::cases::write(cases);
     cases.add("ln 3ff0000000000000", word(plain::ln(1.0)));

@@ -1,5 +1,6 @@
 //! Times each kernel of the port, of kernels/plain.rs and of the standard library on the same inputs, and one diploid call in each mode beside
-//! kanpig's own text over the same kernels and over the standard library's, and one call of a trio and of mosaic likewise, and prints a Markdown table.
+//! kanpig's own text over the same kernels and over the standard library's, and one call of a trio, its quality alone, and one call of mosaic likewise,
+//! and prints a Markdown table.
 //! All kernels are called through a pointer to an `extern "C"` function, so that none is inlined where another cannot be.
 use crate::diploid::kanpig::{with_ours, with_std};
 use crate::diploid::types::MODES;
@@ -9,6 +10,8 @@ use crate::kernels::bound::c_lgamma;
 use crate::kernels::inputs::Trial;
 use crate::kernels::{plain, port};
 use crate::trio::kanpig::{OURS, STD};
+use crate::trio::quality::quality_of;
+use crate::trio::types::Scores;
 use crate::{diploid, mosaic, trio};
 use std::hint::black_box;
 use std::time::Instant;
@@ -45,6 +48,16 @@ extern "C" fn plain_ln_pmf(k: u32, n: u32, p: f64) -> f64 {
 #[inline(never)]
 extern "C" fn plain_key(x: f64) -> i64 {
     plain::key(x)
+}
+
+#[inline(never)]
+extern "C" fn ours_quality(unread: u32, runner: u32, best: f64, next: f64) -> u32 {
+    quality_of(&Scores { unread, runner, best, next }, &OURS)
+}
+
+#[inline(never)]
+extern "C" fn std_quality(unread: u32, runner: u32, best: f64, next: f64) -> u32 {
+    quality_of(&Scores { unread, runner, best, next }, &STD)
 }
 
 /// One timing of a kernel: ns a call.
@@ -128,6 +141,18 @@ fn trio_row(n: u32, inputs: usize, repeats: usize) {
     row_of(&format!("trio, {n} clusters"), &format!("{} triples; {inputs} trios", genotypes.pow(3)), &quickest(repeats, &timings));
 }
 
+/// The quality of two scores, which a call of any number of clusters takes once.
+fn quality_row() {
+    type Quality = extern "C" fn(u32, u32, f64, f64) -> u32;
+    // with numbers of its own, so that the rows after it keep theirs
+    let random = &mut Random::new(16);
+    let scores = many(|| trio::quality_inputs::usual(random));
+    let qualities = black_box([trio::port::admulfas_trio_quality as Quality, ours_quality as Quality, std_quality as Quality]);
+    let timings =
+        qualities.map(|quality| timing(&scores, move |Scores { unread, runner, best, next }| quality(unread, runner, best, next)));
+    row("quality of a trio", "scores to 30 apart", &timings);
+}
+
 /// Fewer, since a call takes longer and its branches are many.
 const MOSAIC_INPUTS: usize = 32;
 
@@ -181,6 +206,7 @@ pub fn run() {
     for (mode, name) in (0..).zip(MODES) {
         diploid_row(name, mode, &counts);
     }
+    quality_row();
     for (n, inputs, repeats) in TRIOS {
         trio_row(n, inputs, repeats);
     }

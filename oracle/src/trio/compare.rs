@@ -3,8 +3,8 @@ use super::cases::{mendel_case, sample_case};
 use super::inputs::{allowed, any_pair, disturbed, few, many, small};
 use super::pass::expected;
 use super::types::{genotypes, Input};
-use super::{port, words};
-use crate::floor::compared::asked;
+use super::{halves, port, quality, quality_inputs, words};
+use crate::floor::compared::{asked, compared};
 use crate::floor::exchange::Exchange;
 use crate::floor::random::Random;
 use crate::floor::tally::Tally;
@@ -61,7 +61,15 @@ fn all_calls() -> Tally {
     (every + small + odd + calls(false, (0..2_000).map(|_| many(random)))).line("call")
 }
 
+/// The quality of two scores, by itself.
+fn qualities() -> Tally {
+    let scores = quality_inputs::all(45);
+    let half = scores.iter().filter(|scores| halves::half_way(scores.best - scores.next)).count();
+    println!("    quality: {half} times the figure lies exactly half-way between two whole numbers");
+    compared("quality", &scores, port::quality, quality::expected, |a, b| a == b, quality::case).line("quality")
+}
+
 /// The kinds of docs/VECTORS.md that ask no register.
-pub fn run() -> [Tally; 3] {
-    [mendel(), samples(), all_calls()]
+pub fn run() -> [Tally; 4] {
+    [mendel(), samples(), qualities(), all_calls()]
 }

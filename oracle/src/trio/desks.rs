@@ -2,8 +2,8 @@
 //! nothing else (docs/RULES.md, D3): what it holds is looked up when asked. Other parts are kept as they were given.
 use super::kanpig::OURS;
 use super::part::{rank, Entry, Part};
-use super::pass::{called, ground, scores};
-use super::types::{genotypes, pairs_at, refusal, Answer, Input};
+use super::pass::{called, found, scores};
+use super::types::{genotypes, refusal, Answer, Input};
 use super::words;
 use std::collections::{BTreeSet, HashMap};
 use std::rc::Rc;
@@ -98,15 +98,7 @@ fn joined(first: &Part, marks: u64, given: &[Entry]) -> Part {
 /// What a complete part says.
 fn closed(part: &Part) -> Answer {
     let entries = part.entries();
-    let (position, score) = entries[0];
-    let runner = entries.get(1).copied();
-    Answer {
-        number: 0,
-        pairs: pairs_at(part.n, position),
-        score: score.to_bits(),
-        ground: ground(&part.counts, score, runner.map(|(_, score)| score)),
-        runner: runner.map(|(position, score)| (position, score.to_bits())),
-    }
+    found(part.n, &part.counts, entries[0], entries.get(1).copied(), &OURS)
 }
 
 impl Desks {

@@ -1,5 +1,5 @@
-//! kanpig's trio genotyper itself. Its text is taken at build time (build.rs) and bound to a logarithm (kernels/bound.rs). What its text names of
-//! the crate ndarray is written here.
+//! kanpig's trio genotyper itself, and its quality, which kanpig never asks for. Its text is taken at build time (build.rs) and bound to kernels
+//! (kernels/bound.rs). What its text names of the crate ndarray is written here.
 use super::types::{Input, Pair};
 use std::ops::Index;
 
@@ -47,7 +47,7 @@ pub fn matrix(input: &Input) -> Array2<usize> {
     Array2 { columns: 3, cells: input.counts.iter().map(|&count| count as usize).collect() }
 }
 
-/// kanpig's functions over one logarithm.
+/// kanpig's functions over the same kernels.
 pub struct Functions {
     /// The log likelihood of a column with a pair.
     pub sample: fn(&Array2<usize>, &[f64], usize, Pair) -> f64,
@@ -55,12 +55,15 @@ pub struct Functions {
     pub mendel: fn(Pair, Pair, Pair) -> f64,
     /// The pairs of child, father and mother.
     pub call: fn(&Input) -> [u32; 6],
+    /// The quality of a score and of the next best one, if there is one.
+    pub quality: fn(f64, Option<f64>) -> u32,
 }
 
-/// A module with kanpig's text over the logarithm that kernels/bound.rs has under this name.
+/// A module with kanpig's text over the kernels that have this name in kernels/bound.rs.
 macro_rules! bound {
     ($name:ident, $functions:ident) => {
-        pub const $functions: Functions = Functions { sample: $name::sample, mendel: $name::mendel, call: $name::call };
+        pub const $functions: Functions =
+            Functions { sample: $name::sample, mendel: $name::mendel, call: $name::call, quality: $name::quality };
 
         #[allow(dead_code, unused_imports)]
         mod $name {
@@ -82,6 +85,13 @@ macro_rules! bound {
             pub fn call(input: &Input) -> [u32; 6] {
                 let pairs = trio_genotyper(&matrix(input), &input.weights).concat();
                 std::array::from_fn(|i| pairs[i] as u32)
+            }
+
+            /// kanpig takes the scores as a list and what they are scores of beside them, which it does not look at.
+            pub fn quality(best: f64, next: Option<f64>) -> u32 {
+                let posteriors = [((), best), ((), next.unwrap_or(0.0))];
+                let quality = __genotype_quality(&posteriors[..1 + usize::from(next.is_some())]);
+                u32::try_from(quality).expect("no quality is below zero")
             }
         }
     };

@@ -1,6 +1,8 @@
 //! The answer of a trio: the call by kanpig's text, and score, runner-up and ground by one plain pass over the scores that kanpig's functions give
-//! (docs/RULES.md, T5, T9, T10).
+//! (docs/RULES.md, T5, T9, T10), and the quality that these two scores have.
 use super::kanpig::{matrix, Functions, OURS};
+use super::part::Entry;
+use super::quality::quality;
 use super::types::{genotypes, pairs_at, refusal, Answer, Input};
 use crate::kernels::plain::key;
 
@@ -38,11 +40,24 @@ fn unread(counts: &[u32]) -> bool {
 }
 
 /// 3 Unread, 2 Tied, 1 Won (T10).
-pub fn ground(counts: &[u32], score: f64, runner: Option<f64>) -> u32 {
+fn ground(counts: &[u32], score: f64, runner: Option<f64>) -> u32 {
     match runner {
         _ if unread(counts) => 3,
         Some(second) if key(second) == key(score) => 2,
         _ => 1,
+    }
+}
+
+/// What a complete search says that found these two.
+pub fn found(n: u32, counts: &[u32], (position, score): Entry, runner: Option<Entry>, functions: &Functions) -> Answer {
+    let second = runner.map(|(_, score)| score);
+    Answer {
+        number: 0,
+        pairs: pairs_at(n, position),
+        score: score.to_bits(),
+        ground: ground(counts, score, second),
+        runner: runner.map(|(position, score)| (position, score.to_bits())),
+        quality: quality(unread(counts), score, second, functions),
     }
 }
 
@@ -51,15 +66,10 @@ pub fn called(input: &Input, functions: &Functions) -> Answer {
     let scores = scores(input, functions);
     let best = largest(&scores, None).expect("there is a triple");
     let runner = largest(&scores, Some(best));
-    let pairs = (functions.call)(input);
-    assert_eq!(pairs, pairs_at(input.n, best as u32), "kanpig's call and one pass over its scores differ at {input:?}");
-    Answer {
-        number: 0,
-        pairs,
-        score: scores[best].to_bits(),
-        ground: ground(&input.counts, scores[best], runner.map(|i| scores[i])),
-        runner: runner.map(|i| (i as u32, scores[i].to_bits())),
-    }
+    let entry = |i: usize| (i as u32, scores[i]);
+    let answer = found(input.n, &input.counts, entry(best), runner.map(entry), functions);
+    assert_eq!((functions.call)(input), answer.pairs, "kanpig's call and one pass over its scores differ at {input:?}");
+    answer
 }
 
 /// The answer that the rules give: a refusal, or kanpig's own with the kernels of the rules.

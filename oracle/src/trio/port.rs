@@ -1,5 +1,6 @@
-//! The port's trio genotyper under its C name. It is proved to answer every argument and to touch no memory but what is lent to it.
-use super::types::{Answer, Input};
+//! The port's trio genotyper and its quality under their C names. They are proved to answer every argument and to touch no memory but what is
+//! lent to them.
+use super::types::{Answer, Input, Scores};
 
 #[rustfmt::skip]
 unsafe extern "C" {
@@ -8,21 +9,25 @@ unsafe extern "C" {
         clusters: u64,
         counts: *const u32, counts_length: usize,
         weights: *const f64, weights_length: usize,
-        pairs: &mut [u64; 6], score: &mut f64, ground: &mut u32, runner: &mut u32, position: &mut u64, second: &mut f64,
+        pairs: &mut [u64; 6], score: &mut f64, ground: &mut u32, runner: &mut u32, position: &mut u64, second: &mut f64, quality: &mut u32,
     ) -> u32;
+
+    pub safe fn admulfas_trio_quality(unread: u32, runner: u32, best: f64, next: f64) -> u32;
 }
 
 /// The whole call of a trio. Where there is no runner-up its places must be zero.
 pub fn call(input: &Input) -> Answer {
     let (mut pairs, mut score, mut ground) = ([0; 6], 0.0, 0);
     let (mut runner, mut position, mut second) = (0, 0, 0.0);
+    // no answer has this, so that it is seen to be written
+    let mut quality = u32::MAX;
     // SAFETY: each pointer comes with the length of its slice, which outlives the call, and the port only reads there.
     #[rustfmt::skip]
     let number = unsafe {
         admulfas_trio(
             u64::from(input.n),
             input.counts.as_ptr(), input.counts.len(), input.weights.as_ptr(), input.weights.len(),
-            &mut pairs, &mut score, &mut ground, &mut runner, &mut position, &mut second,
+            &mut pairs, &mut score, &mut ground, &mut runner, &mut position, &mut second, &mut quality,
         )
     };
     let found = runner != 0 || position != 0 || second.to_bits() != 0;
@@ -32,5 +37,10 @@ pub fn call(input: &Input) -> Answer {
         score: score.to_bits(),
         ground,
         runner: found.then_some((position as u32, second.to_bits())),
+        quality,
     }
+}
+
+pub fn quality(&Scores { unread, runner, best, next }: &Scores) -> u32 {
+    admulfas_trio_quality(unread, runner, best, next)
 }

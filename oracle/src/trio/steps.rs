@@ -2,6 +2,7 @@
 //! model of desks.rs.
 use super::cases::{input, plain};
 use super::desks::{Desks, Step};
+use super::halves;
 use super::histories::history;
 use super::part::Part;
 use super::types::Input;
@@ -167,6 +168,33 @@ fn poor_triples(dialogue: &mut Dialogue) {
     dialogue.all([Step::Part(1, first), Step::Part(2, second), Step::Merge(1, 2), Step::Show(1), Step::Merge(2, 1), Step::Show(2)]);
 }
 
+/// Scores for a part to hold: leads from a tie to far beyond 100, some exactly half-way between two qualities; infinities, whose lead may be a
+/// NaN; and a best score that is not the best.
+fn held_scores() -> Vec<[f64; 2]> {
+    let (up, down) = (f64::INFINITY, f64::NEG_INFINITY);
+    let mut all = vec![[up, up], [down, down], [up, down], [up, -1.0], [-1.0, down], [f64::MAX, f64::MIN], [0.0, -0.0], [-0.0, 0.0]];
+    all.extend([[-2.0, -1.0], [moved(-1.0, -1), -1.0], [down, -1.0], [-1.0, up], [-1.0, -1.0], [moved(-1.0, 1), -1.0], [-1.0, -5000.0]]);
+    for lead in halves::leads().into_iter().filter(|&lead| lead > 0.0) {
+        let exact = halves::exact(lead, 100);
+        all.push([0.0, -exact.first().copied().unwrap_or(lead)]);
+    }
+    all
+}
+
+/// Closing asks for the quality of the scores that are held, whether they are those of the triples or not, unless an animal is unread.
+fn held(dialogue: &mut Dialogue) {
+    dialogue.worked(0, &plain(2, &[4, 4, 4, 3, 3, 3]));
+    let sound = dialogue.desks.registers[0].part();
+    for scores in held_scores() {
+        let read = with(&sound, |part| (part.scores, part.positions) = (scores, [2, 1]));
+        dialogue.all([Step::Part(1, read), Step::Close(1)]);
+    }
+    for scores in held_scores().into_iter().take(18) {
+        let unread = with(&sound, |part| (part.scores, part.positions, part.counts[1], part.counts[4]) = (scores, [2, 1], 0, 0));
+        dialogue.all([Step::Part(1, unread), Step::Close(1)]);
+    }
+}
+
 /// Each good line with one word wrong, left out or put in: no register changes.
 fn unreadable(dialogue: &mut Dialogue) {
     dialogue.worked(0, &plain(1, &[4, 4, 4]));
@@ -195,6 +223,7 @@ pub fn write(cases: &mut Exchange) {
     other_trios(&mut dialogue);
     forged(&mut dialogue);
     poor_triples(&mut dialogue);
+    held(&mut dialogue);
     unreadable(&mut dialogue);
     let random = &mut Random::new(63);
     for _ in 0..6 {

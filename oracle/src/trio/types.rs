@@ -23,11 +23,28 @@ pub struct Answer {
     pub ground: u32,
     /// The runner-up's position, and the bits of its score.
     pub runner: Option<(u32, u64)>,
+    pub quality: u32,
 }
 
 impl Answer {
     pub fn refused(number: u32) -> Answer {
-        Answer { number, pairs: [0; 6], score: 0, ground: 0, runner: None }
+        Answer { number, pairs: [0; 6], score: 0, ground: 0, runner: None, quality: 0 }
+    }
+}
+
+/// What a quality alone is asked of. A flag is true unless it is 0, as in C.
+#[derive(Clone, Copy, Debug)]
+pub struct Scores {
+    pub unread: u32,
+    pub runner: u32,
+    pub best: f64,
+    pub next: f64,
+}
+
+impl Scores {
+    /// Those of a read trio with a runner-up.
+    pub fn of(best: f64, next: f64) -> Scores {
+        Scores { unread: 0, runner: 1, best, next }
     }
 }
 
