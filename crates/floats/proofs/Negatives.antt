@@ -23,7 +23,7 @@ negative-twice nan = refl
 negative-twice (inf s) = ap inf (Bool·not-not s)
 negative-twice (fin s m e) = rw Bool·not-not
 
-negative-finite : (x : Float) → T (finite (neg x)) → T (finite x)
+pub negative-finite : (x : Float) → T (finite (neg x)) → T (finite x)
 unfolding neg
 negative-finite nan f = absurd f
 negative-finite (inf s) f = absurd f

@@ -97,7 +97,7 @@ not-below-trans x y z p q r a b c h k = go (lt z x) refl
 pub never : {A : Type 0} {t : Bool} → t ≡ true → t ≡ false → A
 never p q = absurd (true≢false (sym p ∙ q))
 
-finite-number : (x : Float) → T (finite x) → isNan x ≡ false
+pub finite-number : (x : Float) → T (finite x) → isNan x ≡ false
 unfolding isNan
 finite-number nan f = absurd f
 finite-number (inf s) f = absurd f

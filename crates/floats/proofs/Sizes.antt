@@ -9,15 +9,15 @@ use native.Mathlib.Nat.{mul-le-mul-right, le-of-mul-le-mul-right}
 use native.Mathlib.Omega.{arith}
 use borrow.Author.Tests.{lt-ltb}
 use lib.IntN.{ℤ}
-use lib.Dec.{T, ltb, lt→ltb, lit<}
+use lib.Dec.{T, ltb, lt→ltb, lit≤, lit<}
 use lib.Pow.{pow-pos, pow-add}
-use lib.Ieee.{Float, nan, inf, fin, binary64, unlike, up, down, round, neg, sum, add, sub, mul}
+use lib.Ieee.{Float, nan, inf, fin, binary64, unlike, up, down, round, neg, sum, add, sub, mul, ofInt}
 use lib.Ieee.Fits.{down-pos}
 use lib.Ieee.Exact.{HasValue}
 use lib.Ieee.Order.{round-mono}
 use lib.Ieee.Scale.{finite, grid, round-val, round-under}
 use lib.Ieee.Positive.{num, den, den-pos, positive, above-of-le, first-pos}
-use Rattle.floats.specs.F64.{_⊕_, _⊖_, _⊗_}
+use Rattle.floats.specs.F64.{_⊕_, _⊖_, _⊗_, nat}
 use Rattle.floats.specs.Within.{Within}
 use Rattle.floats.specs.Under.{Under, Over}
 use Rattle.floats.proofs.Rounded.{fraction-val, grid-le, signed-val, le-values, round-clear}
@@ -103,6 +103,18 @@ under-within {a} {i} {x} h b l =
 
 pub within-under : {n : ℕ} {x : Float} → Within n x → Under n 0 x
 within-under {n} {x} h = record { is-finite = h .is-finite; small = le-trans (le-of-eq (mul-one (num x))) (h .small) }
+
+pub over-less : {a b j : ℕ} {x : Float} → Over a j x → b ≤ a → Over b j x
+over-less {a} {b} {j} {x} h l = record { is-positive = h .is-positive; large = le-trans (mul-le-mul-right (den x) l) (h .large) }
+
+-- 1 itself
+pub unit-over : Over 1 0 (nat 1)
+unfolding ofInt
+unit-over = record { is-positive = tt; large = lit≤ tt }
+
+pub unit-under : Under 1 0 (nat 1)
+unfolding ofInt
+unit-under = record { is-finite = tt; small = lit≤ tt }
 
 -- ---- the negative and the product
 

@@ -1,4 +1,4 @@
-// The larger and the smaller of two numbers, the first where neither is (docs/RULES.md, G2, G4, M3, M7).
+// The larger and the smaller of two numbers, the first where neither is (docs/RULES.md, G2, G4, M3, M7, T11).
 ghost use mathlib.Core.Path.{_≡_};
 ghost use Rattle.floats.specs.MaxMin.{larger, smaller};
 

@@ -1,6 +1,6 @@
 -- Worked values: what a sum with a half gets wrong, halves on both sides of zero, and what is too large. Assumes nothing.
 use mathlib.Core.Path.{_≡_, refl}
-use Prim.Native.Nat.{_^_}
+use Prim.Native.Nat.{_+_, _^_}
 use mathlib.Core.Bool.{true, false}
 use lib.Ieee.{nan, inf, binary64, neg, round, ofInt, ofBits}
 use Rattle.floats.specs.F64.{nat, ratio}
@@ -18,6 +18,8 @@ pub record NearestExamples : Type 0 where
   -- the f64 of 0.497: its hundredths round to 50, its whole number is 0
   pub in-hundredths : nearestOf 100 (ratio 497 1000) ≡ Is false 50
   pub in-wholes : nearestOf 1 (ratio 497 1000) ≡ Is false 0
+  -- 2^52 + 1, to which a half adds up to 2^52 + 2
+  pub odd-whole : nearestOf 1 (ofBits binary64 0x4330_0000_0000_0001) ≡ Is false (2 ^ 52 + 1)
   -- 2^52 − 1/2, the largest half
   pub largest-half : nearestOf 1 (ofBits binary64 0x432F_FFFF_FFFF_FFFF) ≡ Is false (2 ^ 52)
   pub no-number : nearestOf 1 nan ≡ TooLarge
@@ -33,6 +35,7 @@ nearest-examples = record {
   negative-zero = refl;
   in-hundredths = refl;
   in-wholes = refl;
+  odd-whole = refl;
   largest-half = refl;
   no-number = refl;
   infinite = refl;

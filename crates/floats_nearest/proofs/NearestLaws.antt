@@ -1,9 +1,10 @@
 -- The nearest multiple of a fraction of one by a float's value, whatever fraction gives it, and by its bits; and that it is the nearest.
 -- Assumes nothing.
-use mathlib.Core.Path.{_≡_, refl, sym, ap, _∙_}
+use mathlib.Core.Logic.{_↔_}
+use mathlib.Core.Path.{_≡_, refl, sym, ap, subst, _∙_}
 use mathlib.Core.Bool.{Bool, true, false, cond}
 use Prim.Native.Nat.{ℕ, zero, suc, _+_, _-_, _*_, _/_, _%_, _^_, _≤_, _<_}
-use native.Mathlib.Nat.{le-trans, not-suc-le-zero, lt-of-lt-of-le, lt-of-le-of-lt, le-of-eq, mul-one, one-mul, mul-assoc, mul-left-comm}
+use native.Mathlib.Nat.{le-antisymm, le-trans, not-suc-le-zero, lt-of-lt-of-le, lt-of-le-of-lt, le-of-eq, mul-one, one-mul, mul-assoc, mul-left-comm}
 use native.Mathlib.Nat.{mul-right-comm, mul-le-mul, mul-le-mul-left, mul-le-mul-right, le-of-mul-le-mul-right, pow-succ'}
 use native.Mathlib.Nat.{mul-lt-mul-of-pos-right, lt-of-mul-lt-mul-right, div-add-mod', mod-lt, mod-eq-of-lt, div-eq-of-lt}
 use native.Mathlib.Omega.{arith}
@@ -15,22 +16,30 @@ use lib.Ieee.Fits.{down-pos}
 use lib.Ieee.Bits.{ofBits-toBits}
 use lib.Ieee.Exact.{HasValue, odd-sign}
 use lib.Ieee.Nearest.{div-same}
+use Rattle.floats_nearest.specs.declared.nearest.Nearest.{Nearest}
 use Rattle.floats_nearest.specs.declared.nearest.Nearest.the-variants.{Is, TooLarge}
-use Rattle.floats_nearest.specs.Nearest.{nearestUnits, nearestAt, nearestOf, IsNearest}
+use Rattle.floats_nearest.specs.Nearest.{nearestTimes, nearestAt, nearestOf, IsNearest}
 
 -- ---- the definition gives the nearest
 
-pub nearest-units : (u a c : ℕ) → 0 < c → IsNearest u a c (nearestUnits u a c)
-nearest-units u a c C =
+pub nearest-times : (u a c : ℕ) → 0 < c → IsNearest u a c (nearestTimes u a c)
+nearest-times u a c C =
     let whole = div-add-mod' (2 * u * a + c) (2 * c) in
     let rest : (2 * u * a + c) % (2 * c) < 2 * c = mod-lt (2 * u * a + c) (omega arith) in
     record { not-above = omega arith; not-below = omega arith }
 
+-- and no other number is
+pub nearest-only : (u a c h k : ℕ) → 0 < c → IsNearest u a c h → IsNearest u a c k → h ≡ k
+nearest-only u a c h k C n m = le-antisymm (below h k (n .not-above) (m .not-below)) (below k h (m .not-above) (n .not-below))
+  where
+    below : (h k : ℕ) → 2 * h * c ≤ 2 * u * a + c → 2 * u * a < (2 * k + 1) * c → h ≤ k
+    below h k p q = let g : h < k + 1 = lt-of-mul-lt-mul-right (2 * c) (omega arith) in omega arith
+
 module _ (u : ℕ) where
   -- ---- by any fraction of the same value
 
-  same-units : (a c b d : ℕ) → 0 < c → 0 < d → a * d ≡ b * c → nearestUnits u a c ≡ nearestUnits u b d
-  same-units a c b d C D h = div-same (2 * u * a + c) (2 * c) (2 * u * b + d) (2 * d) (twice c C) (twice d D) (omega (arith, scaled))
+  same-times : (a c b d : ℕ) → 0 < c → 0 < d → a * d ≡ b * c → nearestTimes u a c ≡ nearestTimes u b d
+  same-times a c b d C D h = div-same (2 * u * a + c) (2 * c) (2 * u * b + d) (2 * d) (twice c C) (twice d D) (omega (arith, scaled))
     where
       twice : (n : ℕ) → 0 < n → 0 < 2 * n
       twice n h = omega arith
@@ -53,7 +62,7 @@ module _ (u : ℕ) where
           (le-trans (le-of-eq (sym turned)) (le-trans (mul-le-mul-right d (ltb-false a (2 ^ 53 * c) e)) (le-of-eq h))) C))
 
   same-nearest : (s : Bool) (a c b d : ℕ) → 0 < c → 0 < d → a * d ≡ b * c → nearestAt u s a c ≡ nearestAt u s b d
-  same-nearest s a c b d C D h = rw (same-size a c b d C D h, same-units a c b d C D h)
+  same-nearest s a c b d C D h = rw (same-size a c b d C D h, same-times a c b d C D h)
 
   by-value : (x : Float) (s : Bool) (a c : ℕ) → 0 < c → HasValue x s a c → nearestOf u x ≡ nearestAt u s a c
   unfolding nearestOf
@@ -62,20 +71,35 @@ module _ (u : ℕ) where
   by-value (fin t m e) s a c C v =
       ap (λ (z : Bool). nearestAt u z (m * up e) (down e)) (v .0) ∙ same-nearest s (m * up e) (down e) a c (down-pos e) C (v .1)
 
+  abbrev times : Nearest → ℕ
+  times (Is s h) = h
+  times TooLarge = 0
+
+  -- of a float with the value ±a / c, below 2^53 in size: it is given h exactly where h is nearest
+  pub nearest-exactly : (x : Float) (s : Bool) (a c h : ℕ) → 0 < c → HasValue x s a c → a < 2 ^ 53 * c
+      → (nearestOf u x ≡ Is s h) ↔ IsNearest u a c h
+  nearest-exactly x s a c h C v l = (
+    λ e. subst (IsNearest u a c) (ap times (sym is ∙ e)) (nearest-times u a c C),
+    λ n. is ∙ ap (Is s) (nearest-only u a c (nearestTimes u a c) h C (nearest-times u a c C) n),
+  )
+    where
+      is : nearestOf u x ≡ Is s (nearestTimes u a c)
+      is = by-value x s a c C v ∙ ap (λ (t : Bool). cond t (Is s (nearestTimes u a c)) TooLarge) (lt-ltb a (2 ^ 53 * c) l)
+
   -- ---- q·2^k / 2^n
 
   -- below 2^53, where q is and k is at most n
-  low-nearest : (s : Bool) (q k j n : ℕ) → k + j ≡ n → q < 2 ^ 53 → nearestAt u s (q * 2 ^ k) (2 ^ n) ≡ Is s (nearestUnits u q (2 ^ j))
+  low-nearest : (s : Bool) (q k j n : ℕ) → k + j ≡ n → q < 2 ^ 53 → nearestAt u s (q * 2 ^ k) (2 ^ n) ≡ Is s (nearestTimes u q (2 ^ j))
   low-nearest s q k j n e h =
       same-nearest s (q * 2 ^ k) (2 ^ n) q (2 ^ j) (pow-pos n) (pow-pos j)
       (mul-assoc q (2 ^ k) (2 ^ j) ∙ ap (λ (z : ℕ). q * z) (sym (pow-add 2 k j) ∙ ap (λ (z : ℕ). 2 ^ z) e))
-      ∙ ap (λ (t : Bool). cond t (Is s (nearestUnits u q (2 ^ j))) TooLarge)
+      ∙ ap (λ (t : Bool). cond t (Is s (nearestTimes u q (2 ^ j))) TooLarge)
       (lt-ltb q (2 ^ 53 * 2 ^ j) (lt-of-lt-of-le h (le-trans (le-of-eq (sym (mul-one (2 ^ 53)))) (mul-le-mul-left (2 ^ 53) (pow-pos j)))))
 
   -- not below it, where k is above n and q has 53 digits
   high-nearest : (s : Bool) (q k n : ℕ) → n < k → 2 ^ 52 ≤ q → nearestAt u s (q * 2 ^ k) (2 ^ n) ≡ TooLarge
   high-nearest s q k n h l =
-      ap (λ (t : Bool). cond t (Is s (nearestUnits u (q * 2 ^ k) (2 ^ n))) TooLarge)
+      ap (λ (t : Bool). cond t (Is s (nearestTimes u (q * 2 ^ k) (2 ^ n))) TooLarge)
       (le-ltb (q * 2 ^ k) (2 ^ 53 * 2 ^ n)
       (le-trans (le-of-eq (halved (2 ^ 52) (2 ^ n) ∙ ap (λ (z : ℕ). 2 ^ 52 * z) (sym (pow-succ' 2 n)))) (mul-le-mul l (pow-mono h))))
     where
@@ -85,7 +109,7 @@ module _ (u : ℕ) where
   -- ---- by the fields of the bits
 
   -- no leading digit: t units of 2^−1074
-  no-field : (s : Bool) (t : ℕ) → t < 2 ^ 53 → nearestOf u (ofFields binary64 s 0 t) ≡ Is s (nearestUnits u t (2 ^ 1074))
+  no-field : (s : Bool) (t : ℕ) → t < 2 ^ 53 → nearestOf u (ofFields binary64 s 0 t) ≡ Is s (nearestTimes u t (2 ^ 1074))
   unfolding ofFields
   no-field s t h =
       by-value (odd 53 s t 0 1074) s (t * 2 ^ 0) (2 ^ 1074) (pow-pos 1074) (odd-sign 53 s t 0 1074) ∙ low-nearest s t 0 1074 1074 refl h
@@ -120,11 +144,11 @@ module _ (u : ℕ) where
         field : (b : ℕ) → b % 2 ^ 63 / 2 ^ 52 ≡ b / 2 ^ 52 % 2 ^ 11
         field b = omega arith
 
-    pub nearest-none : b / 2 ^ 52 % 2 ^ 11 ≡ 0 → nearestOf u x ≡ Is sign (nearestUnits u (b % 2 ^ 52) (2 ^ 1074))
+    pub nearest-none : b / 2 ^ 52 % 2 ^ 11 ≡ 0 → nearestOf u x ≡ Is sign (nearestTimes u (b % 2 ^ 52) (2 ^ 1074))
     nearest-none h = by-fields 0 h ∙ no-field sign (b % 2 ^ 52) (omega arith)
 
     pub nearest-low : (k : ℕ) → b / 2 ^ 52 % 2 ^ 11 ≡ k → (k ≡ 0 → ⊥) → k ≤ 1075
-        → nearestOf u x ≡ Is sign (nearestUnits u (2 ^ 52 + b % 2 ^ 52) (2 ^ (1075 - k)))
+        → nearestOf u x ≡ Is sign (nearestTimes u (2 ^ 52 + b % 2 ^ 52) (2 ^ (1075 - k)))
     nearest-low zero h n l = absurd (n refl)
     nearest-low (suc k) h n l =
         by-fields (suc k) h ∙ some-field sign k (b % 2 ^ 52) (λ z. omega arith)
@@ -148,16 +172,16 @@ shifted-one k h = ap (λ (n : ℕ). n % 2 ^ 64) (one-mul (2 ^ k)) ∙ mod-eq-of-
 pub one-small : (k : ℕ) → k ≤ 61 → 2 ^ k ≤ 2 ^ 61
 one-small k h = pow-mono h
 
--- of less than 256 units and 53 digits
-pub units-small : (u d : ℕ) → u < 2 ^ 8 → d < 2 ^ 53 → 2 * u * d < 2 ^ 62
-units-small u d l h =
+-- of less than 256 parts and 53 digits
+pub times-small : (u d : ℕ) → u < 2 ^ 8 → d < 2 ^ 53 → 2 * u * d < 2 ^ 62
+times-small u d l h =
     let twice : 2 * u ≤ 2 ^ 9 = omega arith in
     let most : d ≤ 2 ^ 53 - 1 = omega arith in
     lt-of-le-of-lt (mul-le-mul twice most) (lit< tt)
 
 -- from 2^−62 on nothing is left of them
-pub nothing-left : (u d k : ℕ) → u < 2 ^ 8 → d < 2 ^ 53 → 61 < k → 0 ≡ nearestUnits u d (2 ^ k)
+pub nothing-left : (u d k : ℕ) → u < 2 ^ 8 → d < 2 ^ 53 → 61 < k → 0 ≡ nearestTimes u d (2 ^ k)
 nothing-left u d k l h g =
     let large : 2 ^ 62 ≤ 2 ^ k = pow-mono g in
-    let small = units-small u d l h in
+    let small = times-small u d l h in
     sym (div-eq-of-lt (omega arith))

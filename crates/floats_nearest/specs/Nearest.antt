@@ -6,14 +6,14 @@ use lib.Ieee.{Float, nan, inf, fin, up, down}
 use Rattle.floats_nearest.specs.declared.nearest.Nearest.{Nearest}
 use Rattle.floats_nearest.specs.declared.nearest.Nearest.the-variants.{Is, TooLarge}
 
--- K9: the whole number nearest to u·a / c, the larger of two that are equally near: u·a / c + 1/2 without its fraction
--- (`nearest-units`, proofs/NearestLaws.antt)
-abbrev pub nearestUnits : ℕ → ℕ → ℕ → ℕ
-nearestUnits u a c = (2 * u * a + c) / (2 * c)
+-- K9: how many times 1/u is nearest to a / c, the larger of two that are equally near: u·a / c + 1/2 without its fraction
+-- (`nearest-times`, proofs/NearestLaws.antt)
+abbrev pub nearestTimes : ℕ → ℕ → ℕ → ℕ
+nearestTimes u a c = (2 * u * a + c) / (2 * c)
 
 -- K9: of ±a / c, where it is below 2^53 in size, the sign, and the size as a number of 1/u
 abbrev pub nearestAt : ℕ → Bool → ℕ → ℕ → Nearest
-nearestAt u s a c = cond (ltb a (2 ^ 53 * c)) (Is s (nearestUnits u a c)) TooLarge
+nearestAt u s a c = cond (ltb a (2 ^ 53 * c)) (Is s (nearestTimes u a c)) TooLarge
 
 -- K9: of a float, by its exact value ±m·2^e; a zero has its sign
 unfoldable pub nearestOf : ℕ → Float → Nearest

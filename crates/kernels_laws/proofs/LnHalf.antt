@@ -4,7 +4,7 @@
 use mathlib.Core.Path.{_≡_, refl, sym, ap, _∙_, subst}
 use mathlib.Core.Bool.{Bool, true, false, cond}
 use Prim.Native.Nat.{ℕ, zero, suc, _+_, _*_, _^_, _≤_, _<_}
-use native.Mathlib.Nat.{le-trans, le-of-eq, mul-pos, zero-mul, mul-le-mul-left, mul-le-mul-right, le-of-mul-le-mul-right}
+use native.Mathlib.Nat.{le-of-eq, mul-pos, zero-mul, mul-le-mul-left, mul-le-mul-right, le-of-mul-le-mul-right}
 use native.Mathlib.Omega.{arith}
 use lib.IntN.{ℤ, pos, negsuc, natAbs, _+ℤ_}
 use lib.Dec.{T, lit≤, lit<}
@@ -19,8 +19,8 @@ use Rattle.floats.specs.Under.{Under, Over}
 use Rattle.floats.specs.Zeros.{nought}
 use Rattle.floats.proofs.Fitting.{exponent-small}
 use Rattle.floats.proofs.Lows.{zero-or-negative, low-plus, negative-is, negative-times}
-use Rattle.floats.proofs.Negatives.{negative-twice, over-beside}
-use Rattle.floats.proofs.Sizes.{round-over, under-more, under-neg, under-mul, under-add, over-mul}
+use Rattle.floats.proofs.Negatives.{negative-twice, negative-finite, over-beside}
+use Rattle.floats.proofs.Sizes.{round-over, under-more, over-less, unit-over, unit-under, under-neg, under-mul, under-add, over-mul}
 use Rattle.kernels.specs.Ln.{hi, lo, lnNearOne, lnParts, lnReduced, lnOf}
 use Rattle.kernels_laws.proofs.LnApart.{ln-apart}
 use Rattle.kernels_laws.proofs.LnBelow.{whole-negative, near-one-low, quotient-low, half-under-one, half-positive, from-turn}
@@ -30,12 +30,6 @@ use Rattle.kernels_laws.proofs.LnSigns.{quotientOf, near-one-under, hi-
 use Rattle.kernels_laws.proofs.LnSigns.{kept-quotient, apart, from-one, to-two}
 
 -- ---- the negative of what is at least b / 2^j, plus what is not above zero
-
-negative-finite : (x : Float) → T (finite (neg x)) → T (finite x)
-unfolding neg
-negative-finite nan f = absurd f
-negative-finite (inf s) f = absurd f
-negative-finite (fin s m e) f = tt
 
 low-over-beside : {b j : ℕ} {x : Float} (y : Float) → Over b j x → T (finite y) → T (le y nought) → 0 < b → b < 2 ^ 53 → j ≤ 1074
     → T (finite (neg x ⊕ y)) → Over b j (neg (neg x ⊕ y))
@@ -64,14 +58,6 @@ low-over-beside {b} {j} {x = fin false m e} (fin true q d) h f l B L J t =
 
 -- ---- k·hi + (t + k·lo), for a k of −1 and an m of at most 1
 
-unit-over : Over 1 0 (nat 1)
-unfolding ofInt round
-unit-over = record { is-positive = tt; large = lit≤ tt }
-
-unit-under : Under 1 0 (nat 1)
-unfolding ofInt round
-unit-under = record { is-finite = tt; small = lit≤ tt }
-
 lo-low : T (le (neg (nat 1 ⊗ lo)) nought)
 unfolding ofInt ofBits mul round neg le
 lo-low = tt
@@ -90,9 +76,6 @@ parts-one m s h =
     let low-is = negative-times (nat 1) lo (unit-over .is-positive) (unfold ofBits in tt) in
     rw (whole-negative 0, high-is, low-is)
     (low-over-beside (lnNearOne m ⊕ neg (nat 1 ⊗ lo)) over (rest .is-finite) below (lit< tt) (lit< tt) (lit≤ tt) (sum .is-finite))
-
-over-less : {a b j : ℕ} {x : Float} → Over a j x → b ≤ a → Over b j x
-over-less {a} {b} {j} {x} h l = record { is-positive = h .is-positive; large = le-trans (mul-le-mul-right (den x) l) (h .large) }
 
 -- ---- x = 2^k·m of at most 1/2
 
@@ -135,7 +118,8 @@ module _ (x : Float) (f : T (fits binary64 x)) (p : T (positive x)) where
           rw (next-exponent 0)
           (over-less (parts-one half s (quotient-low half (half-positive x f p) (half-under-one x f p))) (lit≤ tt))
       go true e (suc (suc a)) l h =
-          rw (next-exponent (suc a)) (parts-over 2 21 (suc a) half (omega arith) (omega arith) (lit≤ tt) (lit< tt) (halved-quotient m one two (subst T (sym e) tt)))
+          let s = halved-quotient m one two (subst T (sym e) tt) in
+          rw (next-exponent (suc a)) (parts-over 2 21 (suc a) half (omega arith) (omega arith) (lit≤ tt) (lit< tt) s)
       go false e zero l h =
           let low = quotient-low m (one .is-positive) (record { is-finite = two .is-finite; small = omega arith }) in
           over-less (parts-one m (kept-quotient m one two e) low) (lit≤ tt)

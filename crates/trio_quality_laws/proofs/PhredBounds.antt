@@ -5,7 +5,7 @@
 use mathlib.Core.Path.{_≡_, refl, sym, ap, _∙_, subst}
 use mathlib.Core.Bool.{Bool, true, false, not, cond, true≢false}
 use Prim.Native.Nat.{ℕ, zero, suc, _+_, _*_, _^_, _≤_, _<_, min}
-use native.Mathlib.Nat.{lt-of-le-of-lt, mul-pos, mul-lt-mul-of-pos-right, zero-mul, zero-lt-suc, div-eq-of-lt}
+use native.Mathlib.Nat.{lt-of-le-of-lt, mul-pos, mul-lt-mul-of-pos-right, mul-le-mul-right, zero-mul, zero-lt-suc, div-eq-of-lt}
 use native.Mathlib.Omega.{arith}
 use borrow.Author.Tests.{lt-ltb}
 use lib.IntN.{ℤ, pos, negℤ}
@@ -13,7 +13,7 @@ use lib.Dec.{T, lt→ltb, eqb→eq, lit≤, lit<, leb·suc-zero}
 use lib.Ieee.{Float, nan, inf, fin, binary64, up, down, round, neg, sum, add, sub, div, lt, le, isNan, ofInt, fits}
 use lib.Ieee.Fits.{down-pos, sub-fits}
 use lib.Ieee.Scale.{finite}
-use lib.Ieee.Positive.{positive}
+use lib.Ieee.Positive.{num, den, positive}
 use Rattle.floats.specs.F64.{_⊕_, _⊖_, _⊘_, whole, nat, decimal}
 use Rattle.floats.specs.MaxMin.{larger}
 use Rattle.floats.specs.Under.{Under, Over}
@@ -24,9 +24,9 @@ use Rattle.floats.proofs.Clear.{clear-div}
 use Rattle.floats.proofs.Differences.{round-negative}
 use Rattle.floats.proofs.Lows.{negative-is, low-over, low-low}
 use Rattle.floats.proofs.Quotients.{under-div}
-use Rattle.floats.proofs.Sizes.{round-over, under-more, under-within, under-apart}
+use Rattle.floats.proofs.Sizes.{round-over, under-more, under-within, under-apart, unit-under}
 use Rattle.floats_nearest.specs.declared.nearest.Nearest.the-variants.{Is}
-use Rattle.floats_nearest.specs.Nearest.{nearestUnits, nearestOf}
+use Rattle.floats_nearest.specs.Nearest.{nearestTimes, nearestOf}
 use Rattle.kernels.specs.Exp.{expParts, expOf}
 use Rattle.kernels.specs.Ln.{lnOf}
 use Rattle.kernels.proofs.ExpSteps.{kOf}
@@ -102,52 +102,49 @@ one-plus (fin false m e) h =
 -- ---- 1 / (1 + y)
 
 -- from 0 to 1, and no −0.0
-pub record Share (x : Float) : Type 0 where
+pub record Portion (x : Float) : Type 0 where
   pub at-most-one : Under 1 0 x
   pub is-clear : T (clear x)
-
-one-under : Under 1 0 (nat 1)
-unfolding ofInt
-one-under = record { is-finite = tt; small = lit≤ tt }
 
 one-clear : T (clear (nat 1))
 unfolding ofInt
 one-clear = tt
 
-pub over-share : (y : Float) → Over 1 0 y → Share (nat 1 ⊘ y)
-over-share y h =
-    let w = under-div one-under h 1 0 (lit≤ tt) (lit< tt) (lit< tt) (lit≤ tt) in
+pub over-portion : (y : Float) → Over 1 0 y → Portion (nat 1 ⊘ y)
+over-portion y h =
+    let w = under-div unit-under h 1 0 (lit≤ tt) (lit< tt) (lit< tt) (lit≤ tt) in
     record { at-most-one = w; is-clear = clear-div (nat 1) y one-clear (h .is-positive) (w .is-finite) }
 
-one-over : {y : Float} → OrNan FromOne y → OrNan Share (nat 1 ⊘ y)
-one-over no-number = unfold ofInt div in no-number
-one-over (number endless) = unfold ofInt div in number (record { at-most-one = record { is-finite = tt; small = lit≤ tt }; is-clear = tt })
-one-over {y} (number (from-one h)) = number (over-share y h)
+one-by : {y : Float} → OrNan FromOne y → OrNan Portion (nat 1 ⊘ y)
+one-by no-number = unfold ofInt div in no-number
+one-by (number endless) = unfold ofInt div in number (record { at-most-one = record { is-finite = tt; small = lit≤ tt }; is-clear = tt })
+one-by {y} (number (from-one h)) = number (over-portion y h)
 
 -- ---- 1 less that
 
-share-less : (p : Float) → Share p → Under 1 0 (nat 1 ⊖ p)
+-- at most 1 / 2^j, where the portion is at least 1 less that
+pub portion-less : (j : ℕ) (p : Float) → Portion p → j ≤ 1074 → den p * 2 ^ j ≤ num p * 2 ^ j + den p → Under 1 j (nat 1 ⊖ p)
 unfolding ofInt
-share-less nan h = absurd (h .is-clear)
-share-less (inf s) h = absurd (h .is-clear)
-share-less (fin true m e) h = absurd (h .is-clear)
-share-less (fin false m e) h =
-    under-apart false 1 (pos 0) (fin false m e) (m * up e) (down e) 1 0 (down-pos e) (refl, refl) (lit< tt) (lit≤ tt)
-    (low (m * up e) (down e)) (high (m * up e) (down e) (h .at-most-one .small))
+portion-less j nan h J k = absurd (h .is-clear)
+portion-less j (inf s) h J k = absurd (h .is-clear)
+portion-less j (fin true m e) h J k = absurd (h .is-clear)
+portion-less j (fin false m e) h J k =
+    under-apart false 1 (pos 0) (fin false m e) (m * up e) (down e) 1 j (down-pos e) (refl, refl) (lit< tt) J
+    (low (m * up e) (down e) (2 ^ j) k) (high (m * up e) (down e) (2 ^ j) (h .at-most-one .small))
   where
-    low : (b f : ℕ) → 1 * 1 * f * 1 ≤ b * 1 * 1 + 1 * (1 * f)
-    low b f = omega arith
+    low : (b f z : ℕ) → f * z ≤ b * z + f → 1 * 1 * f * z ≤ b * 1 * z + 1 * (1 * f)
+    low b f z h = omega arith
 
-    high : (b f : ℕ) → b * 1 ≤ 1 * f → b * 1 * 1 ≤ 1 * 1 * f * 1 + 1 * (1 * f)
-    high b f h = omega arith
+    high : (b f z : ℕ) → b * 1 ≤ 1 * f → b * 1 * z ≤ 1 * 1 * f * z + 1 * (1 * f)
+    high b f z h = omega (arith, mul-le-mul-right z h)
 
-one-less : {p : Float} → OrNan Share p → OrNan (Under 1 0) (nat 1 ⊖ p)
+one-less : {p : Float} → OrNan Portion p → OrNan (Under 1 0) (nat 1 ⊖ p)
 one-less no-number = unfold ofInt sub neg add in no-number
-one-less {p} (number h) = number (share-less p h)
+one-less {p} (number h) = number (portion-less 0 p h (lit≤ tt) (omega arith))
 
 chance-small : (b n : Float) → OrNan (Under 1 0) (runnerChance b n)
 unfolding runnerChance
-chance-small b n = let x = neg (b ⊖ n) in one-less (one-over (one-plus (expOf x) (exp-unsigned x)))
+chance-small b n = let x = neg (b ⊖ n) in one-less (one-by (one-plus (expOf x) (exp-unsigned x)))
 
 pub chance-fits : (b n : Float) → T (fits binary64 (runnerChance b n))
 unfolding runnerChance
@@ -202,22 +199,22 @@ minus-ten-within = within-whole (negℤ (pos 10)) 10 (lit≤ tt) (lit≤ tt)
 
 module _ (b n : Float) where
   -- what the logarithm is taken of
-  abbrev pub chance : Float
-  chance = larger floor (runnerChance b n)
+  abbrev pub flooredChance : Float
+  flooredChance = larger floor (runnerChance b n)
 
-  chance-floored : Floored 0 chance
+  chance-floored : Floored 0 flooredChance
   chance-floored = floored 0 (under-more floor-under 1 0 (lit≤ tt)) (runnerChance b n) (chance-fits b n) (chance-small b n)
 
-  log10-within : Within (2 ^ 12) (log10Of chance)
-  log10-within = within-log10 chance (chance-floored .is-f64) (chance-floored .is-positive)
+  log10-within : Within (2 ^ 12) (log10Of flooredChance)
+  log10-within = within-log10 flooredChance (chance-floored .is-f64) (chance-floored .is-positive)
 
-  log10-low : T (le (log10Of chance) nought)
+  log10-low : T (le (log10Of flooredChance) nought)
   unfolding log10Of
   log10-low =
       let f = chance-floored .is-f64 in
       let p = chance-floored .is-positive in
-      low-over (lnOf chance) (lnOf (nat 10)) (within-ln chance f p .is-finite)
-      (ln-low chance f p (under-within (chance-floored .small) 1 (lit≤ tt))) (ln-ten-above .is-positive)
+      low-over (lnOf flooredChance) (lnOf (nat 10)) (within-ln flooredChance f p .is-finite)
+      (ln-low flooredChance f p (under-within (chance-floored .small) 1 (lit≤ tt))) (ln-ten-above .is-positive)
 
 -- the figure of any two floats is finite: at most 10 * 2 ^ 12 in size
 pub phred-within : (b n : Float) → Within (10 * 2 ^ 12) (phredOf b n)
@@ -228,20 +225,20 @@ phred-within b n = within-mul minus-ten-within (log10-within b n) (lit≤ tt)
 pub phred-not-below : (b n : Float) → NotBelow (phredOf b n)
 unfolding phredOf
 phred-not-below b n =
-    low-low (whole (negℤ (pos 10))) (log10Of (chance b n)) (minus-ten-within .is-finite) (log10-within b n .is-finite) minus-ten-low
+    low-low (whole (negℤ (pos 10))) (log10Of (flooredChance b n)) (minus-ten-within .is-finite) (log10-within b n .is-finite) minus-ten-low
     (log10-low b n) (phred-within b n .is-finite)
 
 -- ---- its rounding
 
 -- of a number below 2^53
 pub nearest-is : (s : Bool) (m : ℕ) (e : ℤ) → Within (10 * 2 ^ 12) (fin s m e)
-    → nearestOf 1 (fin s m e) ≡ Is s (nearestUnits 1 (m * up e) (down e))
+    → nearestOf 1 (fin s m e) ≡ Is s (nearestTimes 1 (m * up e) (down e))
 unfolding nearestOf
 nearest-is s m e w =
     rw (lt-ltb (m * up e) (2 ^ 53 * down e) (lt-of-le-of-lt (w .small) (mul-lt-mul-of-pos-right (lit< tt) (down-pos e)))) refl
 
 -- of a zero
-nothing-nearest : (m u c : ℕ) → 0 < c → m ≡ 0 → nearestUnits 1 (m * u) c ≡ 0
+nothing-nearest : (m u c : ℕ) → 0 < c → m ≡ 0 → nearestTimes 1 (m * u) c ≡ 0
 nothing-nearest m u c C z = rw (z, zero-mul) (div-eq-of-lt (omega arith))
 
 negative-nothing : (s : Bool) (m : ℕ) (k : ℤ) → NotBelow (fin s m k) → s ≡ true → m ≡ 0
@@ -262,7 +259,7 @@ phred-plain b n = go (phredOf b n) refl (phred-within b n) (phred-not-below b n)
     go nan e w p = absurd (w .is-finite)
     go (inf s) e w p = absurd (w .is-finite)
     go (fin s m k) e w p =
-        let h = nearestUnits 1 (m * up k) (down k) in
+        let h = nearestTimes 1 (m * up k) (down k) in
         let is : nearestOf 1 (phredOf b n) ≡ Is s h = ap (nearestOf 1) e ∙ nearest-is s m k w in
         let none : s ≡ true → h ≡ 0 = λ t. nothing-nearest m (up k) (down k) (down-pos k) (negative-nothing s m k p t) in
         record { sign = s; nearest = h; is-nearest = is; no-negative = none; is-quality = quality-is b n s h is none }

@@ -6,10 +6,8 @@ use Prim.Native.Nat.{_≤_}
 use native.Mathlib.Nat.{min-le-left}
 use native.Mathlib.Omega.{arith}
 use lib.IntN.{ℤ}
-use lib.Dec.{T}
 use lib.Signed.{ltZ}
-use lib.Ieee.{Float, nan, inf, fin, size, neg, add, sub, mul, div, round, lt, le, isNan, ofInt, ofBits}
-use lib.Ieee.Scale.{finite}
+use lib.Ieee.{Float, size, neg, add, sub, mul, div, round, lt, le, ofInt, ofBits}
 use Rattle.floats.specs.F64.{_⊖_}
 use Rattle.floats.specs.Apart.{exponent, significand}
 use Rattle.floats.specs.Key.{keyOf}
@@ -17,6 +15,7 @@ use Rattle.floats.specs.Zeros.{zeroOf, Number, Alike, same, zeros}
 use Rattle.floats.proofs.Differences.{less-itself}
 use Rattle.floats.proofs.KeyOrder.{key-order}
 use Rattle.floats.proofs.KeyEqual.{not-below-itself}
+use Rattle.floats.proofs.Signs.{finite-number}
 use Rattle.floats.proofs.Zeros.{zeros-sum, neither-below}
 use Rattle.floats_nearest.specs.declared.nearest.Nearest.{Nearest}
 use Rattle.floats_nearest.specs.declared.nearest.Nearest.the-variants.{Is, TooLarge}
@@ -65,18 +64,12 @@ unfolding atMostHundred phredOf runnerChance log10Of lnOf lnPositive lnReduced l
     size neg add sub mul div round lt le ofInt ofBits nearestOf
 three s b n h = rw (h, exp-of-zero (not s))
 
-number-is : (x : Float) → T (finite x) → isNan x ≡ false
-unfolding isNan
-number-is nan h = absurd h
-number-is (inf s) h = refl
-number-is (fin s m e) h = refl
-
 -- 3 where two finite scores share a key, as a tie is found: equal, or both a zero
 pub tied-three : (b n : Float) → Number b → Number n → keyOf b ≡ keyOf n → trioQuality false true b n ≡ 3
 unfolding trioQuality
 tied-three b n f g h =
-    let p = number-is b (f .is-finite) in
-    let q = number-is n (g .is-finite) in
+    let p = finite-number b (f .is-finite) in
+    let q = finite-number n (g .is-finite) in
     let none = not-below-itself (keyOf n) in
     let low : lt b n ≡ false = sym (key-order b n (f .is-f64) (g .is-f64) p q) ∙ ap (λ (z : ℤ). ltZ z (keyOf n)) h ∙ none in
     let high : lt n b ≡ false = sym (key-order n b (g .is-f64) (f .is-f64) q p) ∙ ap (λ (z : ℤ). ltZ (keyOf n) z) h ∙ none in

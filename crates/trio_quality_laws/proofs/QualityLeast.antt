@@ -10,7 +10,7 @@ use native.Mathlib.Omega.{arith}
 use borrow.Author.Tests.{ltb-false}
 use lib.IntN.{pos}
 use lib.Dec.{T, ltb, lit≤, lit<}
-use lib.Ieee.{Float, nan, inf, fin, binary64, up, down, round, neg, sum, add, sub, lt, le, ofInt}
+use lib.Ieee.{Float, nan, inf, fin, binary64, up, down, round, neg, sum, add, sub, lt, le}
 use lib.Ieee.Fits.{down-pos}
 use lib.Ieee.Scale.{finite}
 use Rattle.floats.specs.F64.{_⊕_, _⊖_, _⊘_, nat}
@@ -22,16 +22,16 @@ use Rattle.floats.proofs.Differences.{zero-is, round-nothing}
 use Rattle.floats.proofs.Lows.{negative-is}
 use Rattle.floats.proofs.Negatives.{negative-twice}
 use Rattle.floats.proofs.Quotients.{over-div, over-left}
-use Rattle.floats.proofs.Sizes.{under-apart, within-under}
-use Rattle.floats_nearest.specs.Nearest.{nearestUnits, nearestOf}
-use Rattle.floats_nearest.proofs.NearestLaws.{nearest-units}
+use Rattle.floats.proofs.Sizes.{within-under, unit-over}
+use Rattle.floats_nearest.specs.Nearest.{nearestTimes, nearestOf}
+use Rattle.floats_nearest.proofs.NearestLaws.{nearest-times}
 use Rattle.kernels.specs.Exp.{expOf}
 use Rattle.kernels_laws.proofs.ExpAtMost.{exp-at-most-one}
 use Rattle.kernels_laws.proofs.LnHalf.{ln-half}
 use Rattle.kernels_laws.proofs.Log10Over.{tens-over}
 use Rattle.trio_quality.specs.Quality.{runnerChance, phredOf, trioQuality}
-use Rattle.trio_quality_laws.proofs.PhredBounds.{number, rounded-low, Share, over-share, chance-fits, floor-under, Floored, floored}
-use Rattle.trio_quality_laws.proofs.PhredBounds.{chance, phred-within, nearest-is, quality-is}
+use Rattle.trio_quality_laws.proofs.PhredBounds.{number, rounded-low, Portion, over-portion, chance-fits, portion-less, floor-under, Floored, floored}
+use Rattle.trio_quality_laws.proofs.PhredBounds.{flooredChance, phred-within, nearest-is, quality-is}
 
 -- ---- the difference with its sign changed: minus infinity where it overflows
 
@@ -59,31 +59,10 @@ difference-low (fin true m e) (fin true n d) f g h =
     go true a b c = rounded-low (b - a) c
     go false a b c = rounded-low (a - b) c
 
--- ---- 1 less a share of at least 1/2
-
-half-less : (p : Float) → Share p → Over 1 1 p → Under 1 1 (nat 1 ⊖ p)
-unfolding ofInt
-half-less nan h k = absurd (h .is-clear)
-half-less (inf s) h k = absurd (h .is-clear)
-half-less (fin true m e) h k = absurd (h .is-clear)
-half-less (fin false m e) h k =
-    under-apart false 1 (pos 0) (fin false m e) (m * up e) (down e) 1 1 (down-pos e) (refl, refl) (lit< tt) (lit≤ tt)
-    (low (m * up e) (down e) (k .large)) (high (m * up e) (down e) (h .at-most-one .small))
-  where
-    low : (b f : ℕ) → 1 * f ≤ b * 2 → 1 * 1 * f * 2 ≤ b * 1 * 2 + 1 * (1 * f)
-    low b f h = omega arith
-
-    high : (b f : ℕ) → b * 1 ≤ 1 * f → b * 1 * 2 ≤ 1 * 1 * f * 2 + 1 * (1 * f)
-    high b f h = omega arith
-
-one-over : Over 1 0 (nat 1)
-unfolding ofInt
-one-over = record { is-positive = tt; large = lit≤ tt }
-
 -- ---- the whole number nearest to what is at least 90/32
 
-three-least : (a c : ℕ) → 0 < c → 90 * c ≤ a * 2 ^ 5 → 3 ≤ nearestUnits 1 a c
-three-least a c C l = above (nearestUnits 1 a c) (nearest-units 1 a c C .not-below)
+three-least : (a c : ℕ) → 0 < c → 90 * c ≤ a * 2 ^ 5 → 3 ≤ nearestTimes 1 a c
+three-least a c C l = above (nearestTimes 1 a c) (nearest-times 1 a c C .not-below)
   where
     above : (h : ℕ) → 2 * 1 * a < (2 * h + 1) * c → 3 ≤ h
     above h k = let g : 5 < 2 * h + 1 = lt-of-mul-lt-mul-right c (omega arith) in omega arith
@@ -110,22 +89,22 @@ module _ (b n : Float) (f : Number b) (g : Number n) (h : lt b n ≡ false) wher
   sum-within = within-add (within-whole (pos 1) 1 (lit≤ tt) (lit≤ tt)) (at-most-one .0) (lit≤ tt)
 
   sum-over : Over 1 0 (nat 1 ⊕ beside)
-  sum-over = over-left (nat 1) beside one-over (at-most-one .1) (lit< tt) (lit< tt) (lit≤ tt) sum-within
+  sum-over = over-left (nat 1) beside unit-over (at-most-one .1) (lit< tt) (lit< tt) (lit≤ tt) sum-within
 
   chance-half : Under 1 1 (runnerChance b n)
   unfolding runnerChance
   chance-half =
-      let s : Share share = over-share (nat 1 ⊕ beside) sum-over in
+      let s : Portion share = over-portion (nat 1 ⊕ beside) sum-over in
       let half : Over 1 1 share =
-      over-div one-over (sum-over .is-positive) (within-under sum-within) 1 1 (lit≤ tt) (lit< tt) (lit< tt) (lit≤ tt)
+      over-div unit-over (sum-over .is-positive) (within-under sum-within) 1 1 (lit≤ tt) (lit< tt) (lit< tt) (lit≤ tt)
       (s .at-most-one .is-finite) in
-      half-less share s half
+      portion-less 1 share s (lit≤ tt) (omega (arith, half .large))
 
   phred-over : Over 90 5 (phredOf b n)
   unfolding phredOf
   phred-over =
-      let c : Floored 1 (chance b n) = floored 1 floor-under (runnerChance b n) (chance-fits b n) (number chance-half) in
-      let x = chance b n in
+      let c : Floored 1 (flooredChance b n) = floored 1 floor-under (runnerChance b n) (chance-fits b n) (number chance-half) in
+      let x = flooredChance b n in
       tens-over x (c .is-f64) (c .is-positive) 21 (ln-half x (c .is-f64) (c .is-positive) (c .small)) 9 5 (lit≤ tt) (lit< tt) (lit< tt)
       (lit≤ tt)
 
@@ -138,6 +117,6 @@ quality-least b n f g h = go (phredOf b n) refl (phred-within b n) (phred-over b
     go (inf s) e w o = absurd (w .is-finite)
     go (fin true m k) e w o = absurd (o .is-positive)
     go (fin false m k) e w o =
-        let q = nearestUnits 1 (m * up k) (down k) in
+        let q = nearestTimes 1 (m * up k) (down k) in
         let is = quality-is b n false q (ap (nearestOf 1) e ∙ nearest-is false m k w) (λ t. absurd (true≢false (sym t))) in
         rw is (three-capped q (three-least (m * up k) (down k) (down-pos k) (o .large)))

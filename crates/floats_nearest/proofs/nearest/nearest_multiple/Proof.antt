@@ -15,7 +15,7 @@ returns : tie.Need-returns
 returns c =
     let s = c .before .before in
     let b = c .before .bits in
-    sym (nearest-high (s .args .units) (s .args .x) (subst T (sym (s .good .0 .1)) tt) (b .result) (b .ensures) _ refl (c .if1 .taken))
+    sym (nearest-high (s .args .parts) (s .args .x) (subst T (sym (s .good .0 .1)) tt) (b .result) (b .ensures) _ refl (c .if1 .taken))
 
 scaled-requires : tie.Need-scaled-requires
 scaled-requires c κs = search needs
@@ -25,7 +25,7 @@ returns-2 c =
     let s = c .before .before .before .before in
     let b = c .before .before .before .bits in
     ap (Is (leb (2 ^ 63) (b .result))) (c .scaled .ensures)
-    ∙ sym (nearest-none (s .args .units) (s .args .x) (subst T (sym (s .good .0 .1)) tt) (b .result) (b .ensures) (c .before .if2 .taken))
+    ∙ sym (nearest-none (s .args .parts) (s .args .x) (subst T (sym (s .good .0 .1)) tt) (b .result) (b .ensures) (c .before .if2 .taken))
 
 add-scaled : tie.Need-add-scaled
 add-scaled c = search needs
@@ -38,7 +38,7 @@ returns-3 c =
     let s = c .before .before .before .before in
     let b = c .before .before .before .bits in
     ap (Is (leb (2 ^ 63) (b .result))) (c .scaled2 .ensures)
-    ∙ sym (nearest-low (s .args .units) (s .args .x) (subst T (sym (s .good .0 .1)) tt) (b .result) (b .ensures) _ refl
+    ∙ sym (nearest-low (s .args .parts) (s .args .x) (subst T (sym (s .good .0 .1)) tt) (b .result) (b .ensures) _ refl
     (c .before .if2 .left) (search needs))
 
 pub nearest-multiple-spec : {M : Type 1} → statement M

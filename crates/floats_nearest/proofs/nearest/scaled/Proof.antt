@@ -3,14 +3,14 @@
 use native.Mathlib.Omega.{arith}
 use lib.Pow.{pow-pos}
 use borrow.Author.Needs.{needs}
-use Rattle.floats_nearest.proofs.NearestLaws.{shifted-one, one-small, units-small, nothing-left}
+use Rattle.floats_nearest.proofs.NearestLaws.{shifted-one, one-small, times-small, nothing-left}
 use Rattle.floats_nearest.proofs.nearest.scaled.Statement.{statement}
 use Rattle.floats_nearest.proofs.nearest.scaled.Tie as tie
 
 returns : tie.Need-returns
 returns c =
     let a = c .before .args in
-    nothing-left (a .units) (a .digits) (a .k) (search needs) (search needs) (c .if1 .taken)
+    nothing-left (a .parts) (a .digits) (a .k) (search needs) (search needs) (c .if1 .taken)
 
 shl-one : tie.Need-shl-one
 shl-one c = search needs
@@ -21,7 +21,7 @@ mul-result c = search needs
 mul-result-2 : tie.Need-mul-result-2
 mul-result-2 c =
     let a = c .before .args in
-    record { fits = omega (arith, units-small (a .units) (a .digits) (search needs) (search needs)) }
+    record { fits = omega (arith, times-small (a .parts) (a .digits) (search needs) (search needs)) }
 
 add-result : tie.Need-add-result
 add-result c =
@@ -29,7 +29,7 @@ add-result c =
     record {
       fits =
           rw (shifted-one (a .k) (search needs))
-          (omega (arith, one-small (a .k) (search needs), units-small (a .units) (a .digits) (search needs) (search needs)));
+          (omega (arith, one-small (a .k) (search needs), times-small (a .parts) (a .digits) (search needs) (search needs)));
     }
 
 mul-result-3 : tie.Need-mul-result-3
