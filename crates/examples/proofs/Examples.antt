@@ -1,4 +1,5 @@
--- The table of examples holds: antt computes X7, the logarithm of X8, and X9 from the definitions; the others are laws of the crates below. Assumes nothing.
+-- The table of examples holds: antt computes X7, the logarithm of X8, and X9 from the definitions; the others are laws of the crates below.
+-- Assumes nothing.
 use Prim.Native.Nat.{ℕ}
 use mathlib.Core.Bool.{true, false}
 use mathlib.Core.List.{List, []}
@@ -42,7 +43,8 @@ unfolding mosaicBy
 no-alleles p h d = rw (h, d)
 
 pub examples : Examples
-unfolding keyOf lnOf lnPositive lnReduced lnParts lnNearOne exponent significand genotypeBy answered scoredBy modelAllowed tableAllowed entries neverFalling isNan sub mul div le ofInt ofBits toBits
+unfolding keyOf lnOf lnPositive lnReduced lnParts lnNearOne exponent significand genotypeBy answered scoredBy modelAllowed tableAllowed
+    entries neverFalling isNan sub mul div le ofInt ofBits toBits
 examples =
     record {
       genotypes-number = genotype-counts;

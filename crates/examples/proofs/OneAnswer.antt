@@ -1,4 +1,5 @@
--- No second answer meets a public contract (RULES.md, C1). `Post` of a function's `Reads` is what its contract, as its source has it, asks of the result.
+-- No second answer meets a public contract (RULES.md, C1). `Post` of a function's `Reads` is what its contract, as its source has it, asks
+-- of the result.
 -- A crate that comes adds its public functions here. Assumes nothing.
 use mathlib.Core.Path.{_≡_, sym, _∙_}
 use Rattle.refusals.proofs.number.Reads as number

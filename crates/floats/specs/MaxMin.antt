@@ -10,8 +10,8 @@ use lib.Ieee.Scale.{finite}
 abbrev pub Pick : Type 0
 Pick = Float → Float → Float
 
--- G2, G4, M3, M7, T11: the larger and the smaller, as the contracts take them. Where two zeros of unlike sign meet, Rust does not say which of
--- them its max and min give, so the definitions of diploid and of mosaic's M7 stand over any `Pick`, and laws say that no answer depends
+-- G2, G4, M3, M7, T11: the larger and the smaller, as the contracts take them. Where two zeros of unlike sign meet, Rust does not say which
+-- of them its max and min give, so the definitions of diploid and of mosaic's M7 stand over any `Pick`, and laws say that no answer depends
 -- on it (`genotype-any`, diploid_laws/proofs/AnyPick.antt; `mosaic-any`, mosaic_laws/proofs/AnyPick.antt).
 abbrev pub larger : Float → Float → Float
 larger a b = cond (lt a b) b a

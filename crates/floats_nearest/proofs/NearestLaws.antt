@@ -4,7 +4,8 @@ use mathlib.Core.Logic.{_↔_}
 use mathlib.Core.Path.{_≡_, refl, sym, ap, subst, _∙_}
 use mathlib.Core.Bool.{Bool, true, false, cond}
 use Prim.Native.Nat.{ℕ, zero, suc, _+_, _-_, _*_, _/_, _%_, _^_, _≤_, _<_}
-use native.Mathlib.Nat.{le-antisymm, le-trans, not-suc-le-zero, lt-of-lt-of-le, lt-of-le-of-lt, le-of-eq, mul-one, one-mul, mul-assoc, mul-left-comm}
+use native.Mathlib.Nat.{le-antisymm, le-trans, not-suc-le-zero, lt-of-lt-of-le, lt-of-le-of-lt, le-of-eq, mul-one, one-mul}
+use native.Mathlib.Nat.{mul-assoc, mul-left-comm}
 use native.Mathlib.Nat.{mul-right-comm, mul-le-mul, mul-le-mul-left, mul-le-mul-right, le-of-mul-le-mul-right, pow-succ'}
 use native.Mathlib.Nat.{mul-lt-mul-of-pos-right, lt-of-mul-lt-mul-right, div-add-mod', mod-lt, mod-eq-of-lt, div-eq-of-lt}
 use native.Mathlib.Omega.{arith}

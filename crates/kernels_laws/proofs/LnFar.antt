@@ -20,8 +20,8 @@ use Rattle.floats.proofs.Bounds.{within-whole}
 use Rattle.floats.proofs.Sizes.{round-over, under-more, under-neg, under-mul, under-add, over-mul, within-under}
 use Rattle.kernels.specs.Ln.{hi, lo, lnNearOne, lnParts, lnReduced, lnOf}
 use Rattle.kernels_laws.proofs.LnApart.{ln-apart}
-use Rattle.kernels_laws.proofs.LnSigns.{quotientOf, near-one-under, hi-over, hi-under, lo-under, turn, halved-quotient, kept-quotient}
-use Rattle.kernels_laws.proofs.LnSigns.{apart, from-one, to-two}
+use Rattle.kernels_laws.proofs.LnSigns.{quotientOf, near-one-under, hi-over, hi-under, lo-under, turn}
+use Rattle.kernels_laws.proofs.LnSigns.{halved-quotient, kept-quotient, apart, from-one, to-two}
 use Rattle.kernels_laws.proofs.LnBelow.{whole-negative, next-exponent}
 use Rattle.floats.proofs.Negatives.{over-beside}
 

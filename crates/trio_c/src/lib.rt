@@ -61,8 +61,8 @@ pub extern "C" fn admulfas_trio(
     refusals::number(refusal)
 }
 
-// The quality of a call with this score beside a runner-up with that one. 0 says that no animal is unread, and that there is no runner-up;
-// any other number that one is, and that there is.
+// The quality of a call with the score `best` beside a runner-up with the score `next`, by whether an animal is unread and whether there is
+// a runner-up: 0 for no, any other number for yes.
 #[no_mangle]
 pub extern "C" fn admulfas_trio_quality(unread: u32, runner: u32, best: f64, next: f64) -> u32
     ensures { λ r. ⌜ r ≡ trioQuality (not (eqb unread 0)) (not (eqb runner 0)) best next ⌝ }

@@ -5,6 +5,7 @@ use mathlib.Core.Bool.{Bool, false, cond, decide, _&&_, _||_}
 use mathlib.Core.List.{List}
 use lib.Dec.{eqb, leb}
 use lib.IntN.{ℤ-discrete}
+use lib.Ieee.{Float}
 use Rattle.floats.specs.F64.{nat}
 use Rattle.floats.specs.Key.{keyOf}
 use Rattle.refusals.specs.declared.Refusal.{Refusal}
@@ -37,13 +38,22 @@ hasRunner h = leb 2 (h .count)
 unfoldable pub tied : Held → Bool
 tied h = hasRunner h && decide (ℤ-discrete (keyOf (h .first .score)) (keyOf (h .second .score)))
 
--- T10: Unread before Tied, Won where neither holds
-unfoldable pub groundOf : ℕ → List ℕ → Held → Ground
-groundOf n counts h = cond (unread n counts) Unread (cond (tied h) Tied Won)
+-- T10: Unread, where some animal has no read, before Tied; Won where neither holds
+abbrev pub groundBy : Bool → Held → Ground
+groundBy none-read h = cond none-read Unread (cond (tied h) Tied Won)
 
--- T9: the best triple with its score, and the runner-up, or that there is none; T11: its quality, by both scores
-unfoldable pub closedAs : Part → Closed
-closedAs p =
+-- T10: by the counts
+unfoldable pub groundOf : ℕ → List ℕ → Held → Ground
+groundOf n counts h = groundBy (unread n counts) h
+
+-- T11: what a quality may depend on: whether an animal is unread, whether there is a runner-up, the two scores
+abbrev pub Quality : Type 0
+Quality = Bool → Bool → Float → Float → ℕ
+
+-- T9: the best triple with its score, and the runner-up, or that there is none; its ground; and what makes a quality of them. That
+-- nothing else depends on it: `any-quality` (trio_meanings/proofs/QualityMeans.antt)
+abbrev pub closedBy : Quality → Part → Closed
+closedBy quality-by p =
     let h = p .held in
     record {
       refusal = Done;
@@ -51,10 +61,14 @@ closedAs p =
       triple = tripleOf (p .clusters) (h .first .position);
       score = h .first .score;
       ground = groundOf (p .clusters) (p .counts) h;
-      quality = trioQuality (unread (p .clusters) (p .counts)) (hasRunner h) (h .first .score) (h .second .score);
+      quality = quality-by (unread (p .clusters) (p .counts)) (hasRunner h) (h .first .score) (h .second .score);
       «has_runner» = hasRunner h;
       runner = h .second;
     }
+
+-- T9, T10, T11: what a complete part says
+unfoldable pub closedAs : Part → Closed
+closedAs p = closedBy trioQuality p
 
 -- O2: zeros, no ground, a quality of 0, no runner-up, and the part
 unfoldable pub refusedClosing : Refusal → Part → Closed
@@ -70,9 +84,13 @@ refusedClosing r p =
       runner = noEntry;
     }
 
--- O1: a bad part (R12), a row that is not marked (R10); else the call
-unfoldable pub closeStep : Part → Closed
-closeStep p =
+-- O1: a bad part (R12), a row that is not marked (R10); else what a complete part says
+abbrev pub closeBy : (Part → Closed) → Part → Closed
+closeBy says p =
     cond (rightPart p)
-    (cond (eqb (p .marks) (fullMarks (rowCount p))) (closedAs p) (refusedClosing NotComplete p))
+    (cond (eqb (p .marks) (fullMarks (rowCount p))) (says p) (refusedClosing NotComplete p))
     (refusedClosing BadPart p)
+
+-- O1: closing
+unfoldable pub closeStep : Part → Closed
+closeStep p = closeBy closedAs p

@@ -1,8 +1,6 @@
 // Closing a part: the call, its score, the runner-up, the ground and the quality (docs/RULES.md, T9, T10, T11).
 ghost use mathlib.Core.Path.{_≡_};
-ghost use mathlib.Core.Bool.{cond};
-ghost use Rattle.trio_family.specs.declared.ground.Ground.the-variants.{Won, Tied, Unread};
-ghost use Rattle.trio_closings.specs.Closing.{unread, tied, refusedClosing, closedAs, closeStep};
+ghost use Rattle.trio_closings.specs.Closing.{unread, groundBy, refusedClosing, closedAs, closeStep};
 use floats::key::key;
 use refusals::Refusal;
 use trio_entries::entry::Entry;
@@ -46,10 +44,10 @@ fn is_unread(n: u64, counts: [u32; 24]) -> bool
 }
 
 // The ground of what is held, by whether some animal has no reads.
-fn ground_of(missing: bool, h: Held) -> Ground
-    ensures { λ r. ⌜ r ≡ cond missing Unread (cond (tied h) Tied Won) ⌝ }
+fn ground_of(some_unread: bool, h: Held) -> Ground
+    ensures { λ r. ⌜ r ≡ groundBy «some_unread» h ⌝ }
 {
-    if missing {
+    if some_unread {
         return Ground::Unread;
     }
     if h.count < 2 {
@@ -94,15 +92,15 @@ fn closed_as(p: Part) -> Closed
     let held = p.held;
     let first = held.first;
     let runner = held.second;
-    let missing = is_unread(n, counts);
+    let some_unread = is_unread(n, counts);
     let has_runner = 2 <= held.count;
     Closed {
         refusal: Refusal::Done,
         part: p,
         triple: triple_of(n, first.position),
         score: first.score,
-        ground: ground_of(missing, held),
-        quality: trio_quality(missing, has_runner, first.score, runner.score),
+        ground: ground_of(some_unread, held),
+        quality: trio_quality(some_unread, has_runner, first.score, runner.score),
         has_runner,
         runner,
     }

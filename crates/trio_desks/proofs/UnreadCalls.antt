@@ -1,4 +1,5 @@
--- T4, T10: the call of an unread trio of two or more clusters is the last triple of all, however the other animals' counts and the weights are.
+-- T4, T10, T11: the call of an unread trio of two or more clusters is the last triple of all, however the other animals' counts and the
+-- weights are, and its quality is 0.
 use Prim.Native.Nat.{ℕ, zero, suc, _+_, _*_, _-_, _≤_}
 use mathlib.Core.Bool.{Bool, true, false, _||_}
 use mathlib.Core.List.{List, [], _∷_, map}
@@ -114,9 +115,12 @@ unread-column n counts h = go (eqb (columnTotal n counts Child) 0) refl (eqb (co
 -- a mother without reads makes a trio unread
 pub unread-of : (n : ℕ) (counts : List ℕ) → columnTotal n counts Mother ≡ 0 → unread n counts ≡ true
 unfolding unread
-unread-of n counts e = or-inr (eqb (columnTotal n counts Child) 0) _ (or-inr (eqb (columnTotal n counts Father) 0) _ (eq-eqb (columnTotal n counts Mother) 0 e))
+unread-of n counts e =
+    or-inr (eqb (columnTotal n counts Child) 0) _
+    (or-inr (eqb (columnTotal n counts Father) 0) _ (eq-eqb (columnTotal n counts Mother) 0 e))
 
-module _ (n : ℕ) (counts : List ℕ) (weights : List Float) (accepted : numberOf (openStep n counts weights .refusal) ≡ 0) (many : 2 ≤ n) where
+module _ (n : ℕ) (counts : List ℕ) (weights : List Float) (accepted : numberOf (openStep n counts weights .refusal) ≡ 0)
+    (many : 2 ≤ n) where
   -- the whole answer, from two clusters on, as `LastUnread` says it: X2 cites it (examples), and it is by the same `last-unread` that a
   -- forged part is found out (Forged.antt). What the position, the score and the ground are with one cluster too stands above this crate,
   -- over what a call means: `unread-last`, `unread-score`, `ground-means` (trio_meanings)

@@ -1,6 +1,7 @@
--- S2, T11: a forged part that closes as Tied with a quality of 100, not 3: two scores of plus infinity share a key, and their difference is
--- no number, so that the floor takes its place, as it does in kanpig. Assumes nothing.
-use mathlib.Core.Bool.{true, false}
+-- S2, T11: forged scores. Two that are the same infinity share a key, and one less the other is a NaN, which loses to the floor: so a part
+-- that holds them closes as Tied with a quality of 100, not 3; kanpig's function has it so. No search of a trio with reads gives an
+-- infinite score. Assumes nothing.
+use mathlib.Core.Bool.{Bool, true, false}
 use mathlib.Core.Path.{_≡_, refl, ap, _∙_}
 use mathlib.Mathlib.Data.Bool.Basic.{decide-true}
 use lib.IntN.{ℤ-discrete}
@@ -12,13 +13,27 @@ use Rattle.trio_search.specs.Shape.{workRight}
 use Rattle.trio_family.specs.declared.ground.Ground.the-variants.{Tied}
 use Rattle.trio_family.specs.Genotypes.{genotypeCount}
 use Rattle.trio_samples.specs.Samples.{columnTotal}
+use Rattle.trio_parts.specs.declared.part.Part.{Part}
 use Rattle.trio_parts.specs.Part.{weightAllowed, rowCount}
 use Rattle.trio_parts.specs.Right.{inputRight, rightPart}
+use Rattle.trio_quality.specs.Quality.{trioQuality}
 use Rattle.trio_quality_laws.proofs.QualityExamples.{quality-examples}
 use Rattle.trio_closings.specs.declared.closing.Closed.{Closed}
-use Rattle.trio_closings.specs.Closing.{unread, tied, groundOf, closedAs, closeStep}
+use Rattle.trio_closings.specs.Closing.{unread, hasRunner, tied, groundOf, closedAs, closeStep}
 use Rattle.trio_desks.proofs.Forged.{closing-says}
 use Rattle.trio_meanings.specs.Qualities.{forgedTie}
+
+infinities : (s : Bool) → trioQuality false true (inf s) (inf s) ≡ 100
+infinities true = quality-examples .least-scores
+infinities false = quality-examples .largest-scores
+
+-- what a complete part with reads in every column says that holds two equal infinities
+pub infinite-tie : (s : Bool) (p : Part) → hasRunner (p .held) ≡ true → unread (p .clusters) (p .counts) ≡ false
+    → p .held .first .score ≡ inf s → p .held .second .score ≡ inf s → (closedAs p .ground ≡ Tied) × (closedAs p .quality ≡ 100)
+unfolding closedAs groundOf tied
+infinite-tie s p r u b n = rw (r, u, b, n, decide-true (ℤ-discrete (keyOf (inf s)) (keyOf (inf s))) refl) (refl, infinities s)
+
+-- ---- there is such a part, of the right shape
 
 tie-right : rightPart forgedTie ≡ true
 unfolding rightPart inputRight weightAllowed workRight isMarked markCount beatsOf genotypeCount keyOf le toBits ofInt isNan forgedTie
@@ -28,15 +43,15 @@ tie-full : forgedTie .marks ≡ fullMarks (rowCount forgedTie)
 unfolding genotypeCount forgedTie
 tie-full = refl
 
-tie-ground : closedAs forgedTie .ground ≡ Tied
-unfolding closedAs groundOf unread tied columnTotal forgedTie
-tie-ground = rw (decide-true (ℤ-discrete (keyOf (inf false)) (keyOf (inf false))) refl)
+tie-read : unread (forgedTie .clusters) (forgedTie .counts) ≡ false
+unfolding unread columnTotal forgedTie
+tie-read = refl
 
-tie-quality : closedAs forgedTie .quality ≡ 100
-unfolding closedAs unread columnTotal forgedTie
-tie-quality = quality-examples .largest-scores
+tie-says : (closedAs forgedTie .ground ≡ Tied) × (closedAs forgedTie .quality ≡ 100)
+unfolding forgedTie
+tie-says = infinite-tie false forgedTie refl tie-read refl refl
 
 pub forged-tie : (closeStep forgedTie .ground ≡ Tied) × (closeStep forgedTie .quality ≡ 100)
 forged-tie =
     let says = closing-says forgedTie tie-right tie-full in
-    (ap (λ (c : Closed). c .ground) says ∙ tie-ground, ap (λ (c : Closed). c .quality) says ∙ tie-quality)
+    (ap (λ (c : Closed). c .ground) says ∙ tie-says .0, ap (λ (c : Closed). c .quality) says ∙ tie-says .1)

@@ -2,13 +2,13 @@
 -- row has been worked. And that what else is answered does not ask for it. Assumes nothing.
 use Prim.Native.Nat.{ℕ, _≤_, _<_}
 use mathlib.Core.Bool.{Bool, true, false, cond, decide, decide-iff, _&&_}
-use mathlib.Core.List.{List}
+use mathlib.Core.List.{List, [], _∷_}
 use mathlib.Core.Logic.{_↔_, _⊎_, inl, inr, ⊎-elim, _≢_}
 use mathlib.Core.Path.{_≡_, refl, sym, ap, subst, _∙_}
 use native.Mathlib.Omega.{arith}
 use borrow.Author.Tests.{eqb-true, eqb-false}
 use lib.Ieee.{Float, lt}
-use lib.IntN.{ℤ, ℤ-discrete}
+use lib.IntN.{ℤ, pos, ℤ-discrete}
 use lib.Signed.{ltZ, _≤ℤ_, ltZ-yes, clashℤ}
 use lib.Dec.{T, eqb}
 use Rattle.floats.specs.Key.{keyOf}
@@ -27,32 +27,67 @@ use Rattle.trio_parts.specs.Right.{rightPart}
 use Rattle.trio_search.specs.Marks.{fullMarks}
 use Rattle.trio_opening.specs.Opening.{openStep}
 use Rattle.trio_quality.specs.Quality.{trioQuality}
+use Rattle.trio_quality_laws.specs.Kanpig.{kanpigQuality}
+use Rattle.trio_quality_laws.proofs.KanpigLaws.{kanpig-two, kanpig-one}
 use Rattle.trio_quality_laws.proofs.QualityLaws.{quality-most, unread-nothing, alone-most, tied-three}
 use Rattle.trio_quality_laws.proofs.QualityLeast.{quality-least}
 use Rattle.trio_quality_laws.proofs.QualityExamples.{quality-examples}
 use Rattle.trio_closings.specs.declared.closing.Closed.{Closed}
-use Rattle.trio_closings.specs.Closing.{unread, hasRunner, tied, groundOf, closedAs, refusedClosing, closeStep}
+use Rattle.trio_closings.specs.Closing.{unread, hasRunner, tied, groundOf, Quality, closedBy, closeBy, closedAs, refusedClosing, closeStep}
 use Rattle.trio_desks.specs.Call.{callOf}
-use Rattle.trio_desks.specs.History.{History, AllWorked, partOf}
+use Rattle.trio_desks.specs.History.{History, AllWorked, Promised, partOf}
 use Rattle.trio_desks.specs.Steps.{openedPart}
-use Rattle.trio_desks.proofs.Demand.{refused-call}
+use Rattle.trio_desks.proofs.Demand.{demand-three, refused-call}
 use Rattle.trio_desks.proofs.Opening.{opened-is}
 use Rattle.trio_laws.proofs.ScoreBounds.{score-within, score-fits}
 use Rattle.trio_meanings.specs.Called.{calledAt, keyAt, Called}
 use Rattle.trio_meanings.specs.Grounds.{SomeUnread, AllRead, BestShared}
-use Rattle.trio_meanings.specs.Qualities.{QualityBeside, Rated, kanpigQuality, ButQuality}
+use Rattle.trio_meanings.specs.Qualities.{QualityBeside, Rated, bestScores, SameButQuality}
 use Rattle.trio_meanings.proofs.CallLaws.{limits, call-called, closing-is}
+use Rattle.trio_meanings.proofs.CloseLaws.{complete-exactly}
 use Rattle.trio_meanings.proofs.EdgeLaws.{flat, unread-score}
 use Rattle.trio_meanings.proofs.FloatLaws.{allowed, key-below}
 use Rattle.trio_meanings.proofs.GroundLaws.{below-or-equal, unread-settles, ground-means}
 
 -- ---- what is answered beside it
 
--- the triple, the score, the ground and the runner-up of a complete part, whatever its quality is
-pub but-quality : (p : Part) → ButQuality p (closedAs p)
+same-itself : (c : Closed) → SameButQuality c c
+same-itself c =
+    record {
+      same-refusal = refl;
+      same-part = refl;
+      same-triple = refl;
+      same-score = refl;
+      same-ground = refl;
+      same-has-runner = refl;
+      same-runner = refl;
+    }
+
+-- of a complete part, by whatever quality
+closed-same : (quality-by : Quality) (p : Part) → SameButQuality (closedBy quality-by p) (closedAs p)
 unfolding closedAs
-but-quality p =
-    record { part-is = refl; triple-is = refl; score-is = refl; ground-is = refl; has-runner-is = refl; runner-is = refl }
+closed-same quality-by p =
+    record {
+      same-refusal = refl;
+      same-part = refl;
+      same-triple = refl;
+      same-score = refl;
+      same-ground = refl;
+      same-has-runner = refl;
+      same-runner = refl;
+    }
+
+-- of any part: closing by whatever quality gives the refusal, part, triple, score, ground and runner-up that closing gives
+pub any-quality : (quality-by : Quality) (p : Part) → SameButQuality (closeBy (closedBy quality-by) p) (closeStep p)
+unfolding closeStep
+any-quality quality-by p = go (rightPart p) (eqb (p .marks) (fullMarks (rowCount p)))
+  where
+    go : (t u : Bool) → SameButQuality
+        (cond t (cond u (closedBy quality-by p) (refusedClosing NotComplete p)) (refusedClosing BadPart p))
+        (cond t (cond u (closedAs p) (refusedClosing NotComplete p)) (refusedClosing BadPart p))
+    go true true = closed-same quality-by p
+    go true false = same-itself (refusedClosing NotComplete p)
+    go false u = same-itself (refusedClosing BadPart p)
 
 -- ---- at most 100
 
@@ -68,8 +103,8 @@ closing-most p = go (rightPart p) (eqb (p .marks) (fullMarks (rowCount p)))
 
 -- ---- a tie of two finite scores
 
--- of any part, forged or not, that closes as Tied with two finite scores
-pub tied-finite : (p : Part) → Number (p .held .first .score) → Number (p .held .second .score) → closedAs p .ground ≡ Tied
+-- of what a complete part says, forged or not
+tied-finite : (p : Part) → Number (p .held .first .score) → Number (p .held .second .score) → closedAs p .ground ≡ Tied
     → closedAs p .quality ≡ 3
 unfolding closedAs groundOf tied
 tied-finite p f g e = go (unread (p .clusters) (p .counts)) (hasRunner (p .held)) (decide test) refl e
@@ -88,6 +123,24 @@ tied-finite p f g e = go (unread (p .clusters) (p .counts)) (hasRunner (p .held)
     go false false t d e = absurd (omega (arith, ap groundNumber e))
     go false true false d e = absurd (omega (arith, ap groundNumber e))
     go false true true d e = tied-three b n f g (decide-iff test .0 d)
+
+-- and so of whatever part closes as Tied
+pub tied-closing : (p : Part) → Number (p .held .first .score) → Number (p .held .second .score) → closeStep p .ground ≡ Tied
+    → closeStep p .quality ≡ 3
+unfolding closeStep refusedClosing
+tied-closing p f g = go (rightPart p) (eqb (p .marks) (fullMarks (rowCount p)))
+  where
+    go : (t u : Bool) → cond t (cond u (closedAs p) (refusedClosing NotComplete p)) (refusedClosing BadPart p) .ground ≡ Tied
+        → cond t (cond u (closedAs p) (refusedClosing NotComplete p)) (refusedClosing BadPart p) .quality ≡ 3
+    go true true e = tied-finite p f g e
+    go true false e = absurd (omega (arith, ap groundNumber e))
+    go false u e = absurd (omega (arith, ap groundNumber e))
+
+-- ---- kanpig's function of the best scores, which is not told whether an animal is unread
+
+kanpig-is : (r : Bool) (b n : Float) → kanpigQuality (b ∷ cond r (n ∷ []) []) ≡ pos (trioQuality false r b n)
+kanpig-is true b n = kanpig-two b n []
+kanpig-is false b n = kanpig-one b n
 
 -- ---- the quality of an accepted input
 
@@ -114,7 +167,8 @@ module _ (n : ℕ) (counts : List ℕ) (weights : List Float) (accepted : openSt
 
   unread-none : SomeUnread n counts → c .quality ≡ 0
   unread-none s =
-      quality-by true (c .«has_runner») (unread-settles n counts .is-held s) refl ∙ unread-nothing (c .«has_runner») (c .score) (c .runner .score)
+      quality-by true (c .«has_runner») (unread-settles n counts .is-held s) refl
+      ∙ unread-nothing (c .«has_runner») (c .score) (c .runner .score)
 
   module _ (read : AllRead n counts) where
     score-finite : (p : ℕ) → Number (score p)
@@ -145,7 +199,8 @@ module _ (n : ℕ) (counts : List ℕ) (weights : List Float) (accepted : openSt
       not-below : lt (c .score) (c .runner .score) ≡ false
       not-below =
           rw (called .score-is, called .runner-score e)
-          (sym (key-below n counts weights (limits n counts weights accepted) (calledAt c) second) ∙ go (ltZ (key (calledAt c)) (key second)) refl)
+          (sym (key-below n counts weights (limits n counts weights accepted) (calledAt c) second)
+          ∙ go (ltZ (key (calledAt c)) (key second)) refl)
         where
           go : (t : Bool) → ltZ (key (calledAt c)) (key second) ≡ t → t ≡ false
           go true t = absurd (clashℤ (ltZ-yes (subst T (sym t) tt)) runner-most)
@@ -154,7 +209,8 @@ module _ (n : ℕ) (counts : List ℕ) (weights : List Float) (accepted : openSt
     -- at least 3 where every animal has reads
     least : (r : Bool) → c .«has_runner» ≡ r → 3 ≤ c .quality
     least true e =
-        subst (λ (q : ℕ). 3 ≤ q) (sym (by-runner true e)) (quality-least (c .score) (c .runner .score) best-finite (next-finite e) (not-below e))
+        subst (λ (q : ℕ). 3 ≤ q) (sym (by-runner true e))
+        (quality-least (c .score) (c .runner .score) best-finite (next-finite e) (not-below e))
     least false e = let q = by-runner false e ∙ alone-most (c .score) (c .runner .score) in omega arith
 
     -- 3 where another position has the key of the one called: the runner-up has it then
@@ -172,23 +228,22 @@ module _ (n : ℕ) (counts : List ℕ) (weights : List Float) (accepted : openSt
             by-runner true e ∙ tied-three (c .score) (c .runner .score) best-finite (next-finite e) keys
         go false e = absurd (called .no-runner e (s .0) (s .1))
 
-  -- on Won and Tied it is kanpig's
-  pub on-won-and-tied : (c .ground ≡ Won) ⊎ (c .ground ≡ Tied)
-      → c .quality ≡ kanpigQuality (c .«has_runner») (c .score) (c .runner .score)
-  on-won-and-tied g = by-runner (read g) (c .«has_runner») refl
+  -- on Won and Tied it is what kanpig's own function gives for the best scores
+  pub on-won-and-tied : (c .ground ≡ Won) ⊎ (c .ground ≡ Tied) → pos (c .quality) ≡ kanpigQuality (bestScores c)
+  on-won-and-tied g = ap pos (by-runner (read g) (c .«has_runner») refl) ∙ sym (kanpig-is (c .«has_runner») (c .score) (c .runner .score))
     where
       read : (c .ground ≡ Won) ⊎ (c .ground ≡ Tied) → AllRead n counts
       read (inl e) = ground-means n counts weights accepted Won .0 e .0
       read (inr e) = ground-means n counts weights accepted Tied .0 e .0
 
-  -- on Unread kanpig's would be 100, with a runner-up or without
-  pub on-unread : c .ground ≡ Unread → kanpigQuality (c .«has_runner») (c .score) (c .runner .score) ≡ 100
-  on-unread g = go (c .«has_runner») refl
+  -- on Unread that would be 100, with a runner-up or without
+  pub on-unread : c .ground ≡ Unread → kanpigQuality (bestScores c) ≡ pos 100
+  on-unread g = kanpig-is (c .«has_runner») (c .score) (c .runner .score) ∙ ap pos (go (c .«has_runner») refl)
     where
       s : SomeUnread n counts
       s = ground-means n counts weights accepted Unread .0 g
 
-      go : (r : Bool) → c .«has_runner» ≡ r → kanpigQuality r (c .score) (c .runner .score) ≡ 100
+      go : (r : Bool) → c .«has_runner» ≡ r → trioQuality false r (c .score) (c .runner .score) ≡ 100
       go true e =
           rw (unread-score n counts weights accepted s, called .runner-score e ∙ flat n counts weights accepted s second)
           (quality-examples .least-scores)
@@ -226,8 +281,48 @@ call-rated n counts weights = go (eqb (numberOf (openStep n counts weights .refu
         accepted-rated n counts weights (ap (λ (o : Stepped). o .refusal) done)
     go false e = subst Rated (refused-call n counts weights (eqb-false (numberOf (openStep n counts weights .refusal)) 0 e)) refl
 
--- and so is that of every closing once every row has been worked, however desks went about it
-pub closing-rated : (n : ℕ) (counts : List ℕ) (weights : List Float) → openStep n counts weights .refusal ≡ Done
-    → (h : History (openedPart n counts weights)) → AllWorked (openedPart n counts weights) h
-    → Rated (closeStep (partOf (openedPart n counts weights) h))
-closing-rated n counts weights accepted h all = subst Rated (sym (closing-is n counts weights accepted h all)) (call-rated n counts weights)
+-- ---- of every closing
+
+module _ (n : ℕ) (counts : List ℕ) (weights : List Float) (accepted : openStep n counts weights .refusal ≡ Done)
+    (h : History (openedPart n counts weights)) where
+  abbrev start : Part
+  start = openedPart n counts weights
+
+  abbrev closing : Closed
+  closing = closeStep (partOf start h)
+
+  module _ (all : AllWorked start h) where
+    abbrev is-call : closing ≡ callOf n counts weights
+    is-call = closing-is n counts weights accepted h all
+
+    worked-rated : Rated closing
+    worked-rated = subst Rated (sym is-call) (call-rated n counts weights)
+
+    -- once every row has been worked, however desks went about it: 0 exactly where an animal has no reads
+    pub closing-nothing : (closing .quality ≡ 0) ↔ SomeUnread n counts
+    closing-nothing =
+        subst (λ (c : Closed). (c .quality ≡ 0) ↔ SomeUnread n counts) (sym is-call) (nothing-exactly n counts weights accepted)
+
+    -- and kanpig's on Won and Tied
+    pub closing-won-and-tied : (closing .ground ≡ Won) ⊎ (closing .ground ≡ Tied)
+        → pos (closing .quality) ≡ kanpigQuality (bestScores closing)
+    closing-won-and-tied =
+        subst (λ (c : Closed). (c .ground ≡ Won) ⊎ (c .ground ≡ Tied) → pos (c .quality) ≡ kanpigQuality (bestScores c))
+        (sym is-call) (on-won-and-tied n counts weights accepted)
+
+  -- of every history, closed too early or in time, the quality is what the ground says: over each of them Tied gives 3
+  pub closing-rated : Rated closing
+  unfolding closeStep refusedClosing
+  closing-rated = go (eqb (p .marks) (fullMarks (rowCount p))) refl
+    where
+      p : Part
+      p = partOf start h
+
+      promised : Promised start h
+      promised = demand-three n counts weights (ap numberOf accepted) h
+
+      go : (t : Bool) → eqb (p .marks) (fullMarks (rowCount p)) ≡ t → Rated (closeStep p)
+      go true e =
+          let marked = complete-exactly p (promised .right) .0 (unfold closedAs in rw (promised .right, e)) in
+          worked-rated (λ r l. sym (promised .marks-are r) ∙ marked r (rw (promised .input-kept .0) l))
+      go false e = rw (promised .right, e) refl

@@ -1,18 +1,15 @@
 -- What a quality says beside its ground. Definitions only (RULES.md, D2, T9, T10, T11).
 use Prim.Native.Nat.{ℕ, _≤_}
-use mathlib.Core.Bool.{Bool, false}
-use mathlib.Core.List.{[], _∷_}
+use mathlib.Core.Bool.{false, cond}
+use mathlib.Core.List.{List, [], _∷_}
 use mathlib.Core.Path.{_≡_}
 use lib.Ieee.{Float, inf}
 use Rattle.floats.specs.F64.{nat}
 use Rattle.trio_family.specs.declared.ground.Ground.{Ground}
 use Rattle.trio_family.specs.declared.ground.Ground.the-variants.{NoGround, Won, Tied, Unread}
-use Rattle.trio_quality.specs.Quality.{trioQuality}
 use Rattle.trio_closings.specs.declared.closing.Closed.{Closed}
-use Rattle.trio_closings.specs.Closing.{groundOf, hasRunner}
 use Rattle.trio_parts.specs.declared.part.Part.{Part}
 use Rattle.trio_parts.specs.Part.{freshPart, withWork}
-use Rattle.trio_triples.specs.Genotypes.{tripleOf}
 
 -- T11: the quality of an answer with this ground: 0 where an animal is unread, and of a refusal; 3 where the best score is shared; from 3
 -- to 100 where it is alone
@@ -26,19 +23,19 @@ QualityBeside Won q = (3 ≤ q) × (q ≤ 100)
 abbrev pub Rated : Closed → Type 0
 Rated c = QualityBeside (c .ground) (c .quality)
 
--- D2: what kanpig's `__genotype_quality` gives, which is not told whether an animal is unread. That the rounding and the cap are Rust's:
--- `phred-plain` (trio_quality_laws/proofs/PhredBounds.antt)
-abbrev pub kanpigQuality : Bool → Float → Float → ℕ
-kanpigQuality = trioQuality false
+-- D2: the scores that kanpig's function for a quality looks at: the call's, and the runner-up's where there is one
+abbrev pub bestScores : Closed → List Float
+bestScores c = c .score ∷ cond (c .«has_runner») (c .runner .score ∷ []) []
 
--- T9, T10: what a complete part says but for the quality: none of it is asked what the quality is
-pub record ButQuality (p : Part) (c : Closed) : Type 0 where
-  pub part-is : c .part ≡ p
-  pub triple-is : c .triple ≡ tripleOf (p .clusters) (p .held .first .position)
-  pub score-is : c .score ≡ p .held .first .score
-  pub ground-is : c .ground ≡ groundOf (p .clusters) (p .counts) (p .held)
-  pub has-runner-is : c .«has_runner» ≡ hasRunner (p .held)
-  pub runner-is : c .runner ≡ p .held .second
+-- D4: two answers are the same but for the quality
+pub record SameButQuality (c d : Closed) : Type 0 where
+  pub same-refusal : c .refusal ≡ d .refusal
+  pub same-part : c .part ≡ d .part
+  pub same-triple : c .triple ≡ d .triple
+  pub same-score : c .score ≡ d .score
+  pub same-ground : c .ground ≡ d .ground
+  pub same-has-runner : c .«has_runner» ≡ d .«has_runner»
+  pub same-runner : c .runner ≡ d .runner
 
 -- S2: two clusters of which every animal has a read, all rows marked, and two triples held at plus infinity, which no search gives. Its
 -- shape is right, and it closes as Tied with a quality of 100: `forged-tie` (trio_meanings/proofs/ForgedTie.antt)

@@ -11,15 +11,15 @@ use Rattle.floats_nearest.specs.Nearest.{nearestOf}
 use Rattle.kernels.specs.Exp.{expOf}
 use Rattle.kernels_tens.specs.Log10.{log10Of}
 
--- T11: how probable the runner-up is beside the call: one less 1 / (1 + exp −(b − n))
+-- T11: how probable the runner-up is, if only it and the call can be right: 1 − 1 / (1 + exp(−(b − n)))
 unfoldable pub runnerChance : Float → Float → Float
 runnerChance b n = nat 1 ⊖ nat 1 ⊘ (nat 1 ⊕ expOf (neg (b ⊖ n)))
 
--- T11: −10·log10 of that, from 1e-10 up; the floor stands first in `larger`, so that a NaN loses to it
+-- T11: −10·log10 of the larger of 1e-10 and that; the first stays where the second is a NaN
 unfoldable pub phredOf : Float → Float → Float
 phredOf b n = whole (negℤ (pos 10)) ⊗ log10Of (larger (decimal 1 10) (runnerChance b n))
 
--- T11: at most 100. No figure is too large or below zero, so that nothing else is cut off: `phred-plain`
+-- T11: at most 100. No figure is too large or below zero, so that nothing else is cut off: `phred-within`, `phred-not-below`
 -- (trio_quality_laws/proofs/PhredBounds.antt)
 unfoldable pub atMostHundred : Nearest → ℕ
 atMostHundred TooLarge = 100

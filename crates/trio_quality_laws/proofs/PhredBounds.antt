@@ -142,7 +142,7 @@ one-less : {p : Float} → OrNan Portion p → OrNan (Under 1 0) (nat 1 ⊖ p)
 one-less no-number = unfold ofInt sub neg add in no-number
 one-less {p} (number h) = number (portion-less 0 p h (lit≤ tt) (omega arith))
 
-chance-small : (b n : Float) → OrNan (Under 1 0) (runnerChance b n)
+pub chance-small : (b n : Float) → OrNan (Under 1 0) (runnerChance b n)
 unfolding runnerChance
 chance-small b n = let x = neg (b ⊖ n) in one-less (one-by (one-plus (expOf x) (exp-unsigned x)))
 
@@ -238,10 +238,10 @@ nearest-is s m e w =
     rw (lt-ltb (m * up e) (2 ^ 53 * down e) (lt-of-le-of-lt (w .small) (mul-lt-mul-of-pos-right (lit< tt) (down-pos e)))) refl
 
 -- of a zero
-nothing-nearest : (m u c : ℕ) → 0 < c → m ≡ 0 → nearestTimes 1 (m * u) c ≡ 0
+pub nothing-nearest : (m u c : ℕ) → 0 < c → m ≡ 0 → nearestTimes 1 (m * u) c ≡ 0
 nothing-nearest m u c C z = rw (z, zero-mul) (div-eq-of-lt (omega arith))
 
-negative-nothing : (s : Bool) (m : ℕ) (k : ℤ) → NotBelow (fin s m k) → s ≡ true → m ≡ 0
+pub negative-nothing : (s : Bool) (m : ℕ) (k : ℤ) → NotBelow (fin s m k) → s ≡ true → m ≡ 0
 negative-nothing true m k p t = eqb→eq m 0 (p .not-below)
 negative-nothing false m k p t = absurd (true≢false (sym t))
 

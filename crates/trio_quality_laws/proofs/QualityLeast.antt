@@ -30,8 +30,8 @@ use Rattle.kernels_laws.proofs.ExpAtMost.{exp-at-most-one}
 use Rattle.kernels_laws.proofs.LnHalf.{ln-half}
 use Rattle.kernels_laws.proofs.Log10Over.{tens-over}
 use Rattle.trio_quality.specs.Quality.{runnerChance, phredOf, trioQuality}
-use Rattle.trio_quality_laws.proofs.PhredBounds.{number, rounded-low, Portion, over-portion, chance-fits, portion-less, floor-under, Floored, floored}
-use Rattle.trio_quality_laws.proofs.PhredBounds.{flooredChance, phred-within, nearest-is, quality-is}
+use Rattle.trio_quality_laws.proofs.PhredBounds.{number, rounded-low, Portion, over-portion, portion-less, chance-fits}
+use Rattle.trio_quality_laws.proofs.PhredBounds.{floor-under, Floored, floored, flooredChance, phred-within, nearest-is, quality-is}
 
 -- ---- the difference with its sign changed: minus infinity where it overflows
 

@@ -7,9 +7,8 @@ use Rattle.floats_nearest.specs.declared.nearest.Nearest.the-variants.{Is}
 use Rattle.floats_nearest.specs.Nearest.{nearestOf}
 use Rattle.trio_quality.specs.Quality.{phredOf, trioQuality}
 
--- T11: the figure has a nearest whole number, which is 0 where the sign is set, as it is of −0.0; the quality is that number, or 100 where
--- it is above 100. So no figure is too large or below zero, and the quality is Rust's `figure.round().min(100.0) as i32`: `phred-plain`
--- (proofs/PhredBounds.antt)
+-- T11: the figure has a nearest whole number, which is 0 where the sign is set; the quality is that number, or 100 where it is above 100:
+-- `phred-plain` (proofs/PhredBounds.antt)
 pub record Plain (b n : Float) : Type 0 where
   pub sign : Bool
   pub nearest : ℕ

@@ -37,7 +37,8 @@ returns c =
     let laid-star = c .before .before in
     let told = laid-star .before .before .before in
     let rounded = told .before .before in
-    let large : figureOf (rounded .before .before .args .x) ≡ TooLarge = sym (rounded .nearest-multiple .ensures) ∙ told .enum-told .given .1 in
+    let x = rounded .before .before .args .x in
+    let large : figureOf x ≡ TooLarge = sym (rounded .nearest-multiple .ensures) ∙ told .enum-told .given .1 in
     let l = laid-star .lay .ensures in
     rw large (l .0, l .1)
 
@@ -45,7 +46,9 @@ sign-length-requires : tie.Need-sign-length-requires
 sign-length-requires c κs = search needs
 
 array-share-prefix-minus : tie.Need-array-share-prefix-minus
-array-share-prefix-minus c = sign-short (c .before .before .before .negative .given .0 .0) (c .before .sign-length .result) (c .before .sign-length .ensures)
+array-share-prefix-minus c =
+    let sign = c .before .sign-length in
+    sign-short (c .before .before .before .negative .given .0 .0) (sign .result) (sign .ensures)
 
 slice-aggregate-lay-2 : tie.Need-slice-aggregate-lay-2
 slice-aggregate-lay-2 c =
@@ -96,7 +99,8 @@ returns-2 c =
     let text =
     figure-text (f .0 .0) (f .0 .1 .0) k t u (sign .sign-length .ensures) (tens .last-digit .ensures) (units .last-digit2 .ensures)
     ∙ ap figureText (sym (f .1) ∙ rounded .nearest-multiple .ensures) in
-    (all .ends ∙ ap (λ (t : List ℕ). laidEnd (length (a .text .now)) (a .at) (length t)) text, all .gives ∙ ap (laid (a .text .now) (a .at)) text)
+    let end : List ℕ → ℕ = λ t. laidEnd (length (a .text .now)) (a .at) (length t) in
+    (all .ends ∙ ap end text, all .gives ∙ ap (laid (a .text .now) (a .at)) text)
 
 pub lay-figure-spec : {M : Type 1} → statement M
 lay-figure-spec =
