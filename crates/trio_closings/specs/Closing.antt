@@ -40,7 +40,7 @@ tied h = hasRunner h && decide (ℤ-discrete (keyOf (h .first .score)) (keyOf (h
 
 -- T10: Unread, where some animal has no read, before Tied; Won where neither holds
 abbrev pub groundBy : Bool → Held → Ground
-groundBy none-read h = cond none-read Unread (cond (tied h) Tied Won)
+groundBy some-unread h = cond some-unread Unread (cond (tied h) Tied Won)
 
 -- T10: by the counts
 unfoldable pub groundOf : ℕ → List ℕ → Held → Ground
@@ -50,8 +50,8 @@ groundOf n counts h = groundBy (unread n counts) h
 abbrev pub Quality : Type 0
 Quality = Bool → Bool → Float → Float → ℕ
 
--- T9: the best triple with its score, and the runner-up, or that there is none; its ground; and what makes a quality of them. That
--- nothing else depends on it: `any-quality` (trio_meanings/proofs/QualityMeans.antt)
+-- T9: the best triple with its score, and the runner-up, or that there is none; its ground; and the quality that the given function makes of
+-- the reads and the two scores. That nothing else depends on that function: `any-quality` (trio_meanings/proofs/QualityMeans.antt)
 abbrev pub closedBy : Quality → Part → Closed
 closedBy quality-by p =
     let h = p .held in

@@ -1,5 +1,6 @@
--- T11 beside T10: 0 exactly where an animal is unread, 3 at a tie, from 3 to 100 otherwise; of every call, and of every closing once every
--- row has been worked. And that what else is answered does not ask for it. Assumes nothing.
+-- T11 beside T10: of an accepted input 0 exactly where an animal is unread, 3 at a tie, from 3 to 100 otherwise, and kanpig's number where
+-- all are read; of the call, and of closing whatever a history ends with. And that what else is answered does not depend on it.
+-- Assumes nothing.
 use Prim.Native.Nat.{ℕ, _≤_, _<_}
 use mathlib.Core.Bool.{Bool, true, false, cond, decide, decide-iff, _&&_}
 use mathlib.Core.List.{List, [], _∷_}
