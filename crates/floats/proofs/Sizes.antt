@@ -1,4 +1,5 @@
--- The bounds of `specs/Under.antt` through the operations on `f64`. A bound n / 2^j with n below 2^53 is itself a float, so rounding cannot pass it.
+-- The bounds of `specs/Under.antt` through the operations on `f64`. A bound n / 2^j with n below 2^53 is itself a float, so rounding cannot
+-- pass it.
 -- Assumes nothing.
 use mathlib.Core.Path.{_≡_, sym, ap, _∙_}
 use mathlib.Core.Bool.{Bool, true, false, not, _&&_, cond, Bool·beq}
@@ -42,7 +43,8 @@ under-value (fin t m e) s a c n j C v h = record {
 pub round-at-most : (s : Bool) (a c n j : ℕ) → 0 < c → n < 2 ^ 53 → j ≤ 1074 → a * 2 ^ j ≤ n * c → Under n j (round binary64 s a c)
 round-at-most s a c n j C small J h =
     let g : grid binary64 a c * 2 ^ j ≤ n * 2 ^ 1074 =
-    grid-le a c (round binary64 false n (2 ^ j)) n (2 ^ j) (fraction-val false n j small J) (round-mono binary64 a c n (2 ^ j) C (pow-pos j) h) in
+    grid-le a c (round binary64 false n (2 ^ j)) n (2 ^ j) (fraction-val false n j small J)
+    (round-mono binary64 a c n (2 ^ j) C (pow-pos j) h) in
     under-value (round binary64 s a c) s (grid binary64 a c) (2 ^ 1074) n j (pow-pos 1074)
     (signed-val s a c (no-overflow (grid binary64 a c)
     (le-trans (le-of-eq (sym (mul-one (grid binary64 a c)))) (le-trans (mul-le-mul-left (grid binary64 a c) (pow-pos j)) g)))) g
@@ -56,10 +58,12 @@ pub round-at-least : (s : Bool) (a c n j : ℕ) → 0 < c → n < 2 ^ 53 → j �
 round-at-least s a c n j C small J h t =
     let under = round-under binary64 a c t in
     from-value (round binary64 s a c) (signed-val s a c under)
-    (le-values (round binary64 false n (2 ^ j)) (round binary64 false a c) n (2 ^ j) (grid binary64 a c) (2 ^ 1074) (fraction-val false n j small J)
+    (le-values (round binary64 false n (2 ^ j)) (round binary64 false a c) n (2 ^ j) (grid binary64 a c) (2 ^ 1074)
+    (fraction-val false n j small J)
     (round-val binary64 a c under) (round-mono binary64 n (2 ^ j) a c (pow-pos j) C h))
   where
-    from-value : (x : Float) → HasValue x s (grid binary64 a c) (2 ^ 1074) → n * 2 ^ 1074 ≤ grid binary64 a c * 2 ^ j → n * den x ≤ num x * 2 ^ j
+    from-value : (x : Float) → HasValue x s (grid binary64 a c) (2 ^ 1074) → n * 2 ^ 1074 ≤ grid binary64 a c * 2 ^ j
+        → n * den x ≤ num x * 2 ^ j
     from-value nan v g = absurd v
     from-value (inf u) v g = absurd v
     from-value (fin u m e) v g =
@@ -92,7 +96,8 @@ under-more {a} {i} {x} h b j l = record {
       le-of-mul-le-mul-right
       (le-trans (le-of-eq (mul-right-comm (num x) (2 ^ j) (2 ^ i)))
       (le-trans (mul-le-mul-right (2 ^ j) (h .small))
-      (le-trans (le-of-eq (mul-right-comm a (den x) (2 ^ j))) (le-trans (mul-le-mul-right (den x) l) (le-of-eq (mul-right-comm b (2 ^ i) (den x)))))))
+      (le-trans (le-of-eq (mul-right-comm a (den x) (2 ^ j)))
+      (le-trans (mul-le-mul-right (den x) l) (le-of-eq (mul-right-comm b (2 ^ i) (den x)))))))
       (pow-pos i);
 }
 
@@ -136,7 +141,8 @@ under-mul {x = fin s m e} {y = nan} h k l J = absurd (k .is-finite)
 under-mul {x = fin s m e} {y = inf t} h k l J = absurd (k .is-finite)
 under-mul {a} {i} {b} {j} {x = fin s m e} {y = fin t n d} h k l J =
     round-at-most (unlike s t) (m * up e * (n * up d)) (down e * down d) (a * b) (i + j) (mul-pos (down-pos e) (down-pos d)) l J
-    (le-trans (le-of-eq (powers (m * up e) (n * up d) i j)) (le-trans (mul-le-mul (h .small) (k .small)) (le-of-eq (mul-mul-mul-comm a (down e) b (down d)))))
+    (le-trans (le-of-eq (powers (m * up e) (n * up d) i j))
+    (le-trans (mul-le-mul (h .small) (k .small)) (le-of-eq (mul-mul-mul-comm a (down e) b (down d)))))
 
 pub over-mul : {a i b j : ℕ} {x y : Float} → Over a i x → Over b j y → 0 < a * b → a * b < 2 ^ 53 → i + j ≤ 1074 → T (finite (x ⊗ y))
     → Over (a * b) (i + j) (x ⊗ y)
@@ -158,14 +164,16 @@ pub sub-mul : (p q z : ℕ) → (p - q) * z ≡ p * z - q * z
 sub-mul p q z = rw (mul-comm (p - q) z, mul-sub, mul-comm z p, mul-comm z q)
 
 -- with either sign
-sum-under : (s : Bool) (a : ℕ) (t : Bool) (b c n j : ℕ) → 0 < c → n < 2 ^ 53 → j ≤ 1074 → (a + b) * 2 ^ j ≤ n * c → Under n j (sum binary64 s a t b c)
+sum-under : (s : Bool) (a : ℕ) (t : Bool) (b c n j : ℕ) → 0 < c → n < 2 ^ 53 → j ≤ 1074 → (a + b) * 2 ^ j ≤ n * c
+    → Under n j (sum binary64 s a t b c)
 unfolding sum
 sum-under s a t b c n j C l J h = go (Bool·beq s t) (ltb a b)
   where
     less : (d : ℕ) → d ≤ a + b → d * 2 ^ j ≤ n * c
     less d k = le-trans (mul-le-mul-right (2 ^ j) k) h
 
-    go : (u v : Bool) → Under n j (cond u (round binary64 s (a + b) c) (cond v (round binary64 t (b - a) c) (round binary64 (s && ltb b a) (a - b) c)))
+    go : (u v : Bool)
+        → Under n j (cond u (round binary64 s (a + b) c) (cond v (round binary64 t (b - a) c) (round binary64 (s && ltb b a) (a - b) c)))
     go true v = round-at-most s (a + b) c n j C l J h
     go false true = round-at-most t (b - a) c n j C l J (less (b - a) (omega arith))
     go false false = round-at-most (s && ltb b a) (a - b) c n j C l J (less (a - b) (omega arith))
@@ -189,15 +197,18 @@ apart-under s a b c n j C l J h k = go s (ltb a b)
 -- from b / f to q / g, which equals it
 equal-above : (p q b d f g n z : ℕ) → 0 < f → q * f ≡ b * g → p * f * z ≤ b * d * z + n * (d * f) → p * g * z ≤ q * d * z + n * (d * g)
 equal-above p q b d f g n z F e h =
-    let k : p * g * z * f ≤ (q * d * z + n * (d * g)) * f = omega (arith, mul-le-mul-right g h, ap (λ (w : ℕ). w * (d * z)) e) in le-of-mul-le-mul-right k F
+    let k : p * g * z * f ≤ (q * d * z + n * (d * g)) * f = omega (arith, mul-le-mul-right g h, ap (λ (w : ℕ). w * (d * z)) e) in
+    le-of-mul-le-mul-right k F
 
 equal-below : (p q b d f g n z : ℕ) → 0 < f → q * f ≡ b * g → b * d * z ≤ p * f * z + n * (d * f) → q * d * z ≤ p * g * z + n * (d * g)
 equal-below p q b d f g n z F e h =
-    let k : q * d * z * f ≤ (p * g * z + n * (d * g)) * f = omega (arith, mul-le-mul-right g h, ap (λ (w : ℕ). w * (d * z)) e) in le-of-mul-le-mul-right k F
+    let k : q * d * z * f ≤ (p * g * z + n * (d * g)) * f = omega (arith, mul-le-mul-right g h, ap (λ (w : ℕ). w * (d * z)) e) in
+    le-of-mul-le-mul-right k F
 
 -- a finite x minus a y of the same sign, where y is b / f in size
 pub under-apart : (s : Bool) (m : ℕ) (e : ℤ) (y : Float) (b f n j : ℕ) → 0 < f → HasValue y s b f → n < 2 ^ 53 → j ≤ 1074
-    → m * up e * f * 2 ^ j ≤ b * down e * 2 ^ j + n * (down e * f) → b * down e * 2 ^ j ≤ m * up e * f * 2 ^ j + n * (down e * f) → Under n j (fin s m e ⊖ y)
+    → m * up e * f * 2 ^ j ≤ b * down e * 2 ^ j + n * (down e * f) → b * down e * 2 ^ j ≤ m * up e * f * 2 ^ j + n * (down e * f)
+    → Under n j (fin s m e ⊖ y)
 unfolding sub add neg
 under-apart s m e nan b f n j F v l J h k = absurd v
 under-apart s m e (inf t) b f n j F v l J h k = absurd v
@@ -219,7 +230,9 @@ under-add {a} {b} {j} {x = fin s m e} {y = fin t n d} h k l J =
     (common (m * up e * 2 ^ j) (n * up d * 2 ^ j) a b (down e) (down d) (h .small) (k .small)))
   where
     spread : (p q d g z : ℕ) → (p * g + q * d) * z ≡ p * z * g + q * z * d
-    spread p q d g z = add-mul (p * g) (q * d) z ∙ ap (λ (w : ℕ). w + q * d * z) (mul-right-comm p g z) ∙ ap (λ (w : ℕ). p * z * g + w) (mul-right-comm q d z)
+    spread p q d g z =
+        add-mul (p * g) (q * d) z ∙ ap (λ (w : ℕ). w + q * d * z) (mul-right-comm p g z)
+        ∙ ap (λ (w : ℕ). p * z * g + w) (mul-right-comm q d z)
 
 pub under-sub : {a b j : ℕ} {x y : Float} → Under a j x → Under b j y → a + b < 2 ^ 53 → j ≤ 1074 → Under (a + b) j (x ⊖ y)
 unfolding sub

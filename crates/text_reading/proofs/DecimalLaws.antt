@@ -1,10 +1,11 @@
--- The quotient of two whole numbers that an f64 holds is the f64 nearest to their fraction; and what the digits on both sides of a point write.
--- Assumes nothing.
+-- The quotient of two whole numbers that an f64 holds is the f64 nearest to their fraction; and what the digits on both sides of a point
+-- write. Assumes nothing.
 use mathlib.Core.Path.{_≡_, sym, ap, _∙_, subst}
 use mathlib.Core.Bool.{true, false, true≢false, and-false}
 use mathlib.Core.List.{List, _++_}
 use Prim.Native.Nat.{ℕ, suc, _+_, _-_, _*_, _^_, _≤_, _<_, zero-le}
-use native.Mathlib.Nat.{le-trans, lt-of-lt-of-le, lt-of-le-of-lt, le-of-lt, le-of-eq, zero-lt-suc, zero-add, mul-one, mul-comm, mul-assoc, mul-left-comm, mul-pos, mul-le-mul-right, suc-mul, one-le-pow, pow-suc, pow-le-pow-right}
+use native.Mathlib.Nat.{le-trans, lt-of-lt-of-le, lt-of-le-of-lt, le-of-lt, le-of-eq, zero-lt-suc, zero-add, mul-one, mul-comm, mul-assoc}
+use native.Mathlib.Nat.{mul-left-comm, mul-pos, mul-le-mul-right, suc-mul, one-le-pow, pow-suc, pow-le-pow-right}
 use native.Mathlib.Numerals.{add-one}
 use native.Mathlib.Omega.{arith}
 use borrow.Author.Tests.{ne-eqb, le-leb, lt-leb, lt-ltb, le-ltb}
@@ -45,7 +46,8 @@ quotient-values (fin false m e) (fin true n d) a b B h k = absurd (true≢false 
 quotient-values (fin false m e) (fin false n d) a b B h k =
     let N : 0 < n * up d = subst (λ (z : ℕ). 0 < z) (sym (sym (mul-one (n * up d)) ∙ k .1)) (mul-pos B (down-pos d)) in
     rw (ne-eqb n 0 (some n (first-pos n (up d) N)))
-    (round-same binary64 false (m * up e * down d) (n * up d * down e) a b (mul-pos N (down-pos e)) B (cross (m * up e) (n * up d) a b (down e) (down d) (h .1) (k .1)))
+    (round-same binary64 false (m * up e * down d) (n * up d * down e) a b (mul-pos N (down-pos e)) B
+    (cross (m * up e) (n * up d) a b (down e) (down d) (h .1) (k .1)))
   where
     some : (n : ℕ) → 0 < n → n ≡ 0 → ⊥
     some n h z = omega arith
@@ -65,10 +67,12 @@ short-power k h = le-trans (pow-le-pow-right (zero-lt-suc 9) h) (lit≤ tt)
 pub short-number : (w : List ℕ) → length w ≤ 15 → T (every isDigit w) → number w ≤ 2 ^ 53
 short-number w h t = le-of-lt (lt-of-lt-of-le (number-lt w t) (short-power (length w) h))
 
-pub short-both : (w p : List ℕ) → length w + length p ≤ 15 → T (every isDigit w) → T (every isDigit p) → number w * 10 ^ length p + number p ≤ 2 ^ 53
+pub short-both : (w p : List ℕ) → length w + length p ≤ 15 → T (every isDigit w) → T (every isDigit p)
+    → number w * 10 ^ length p + number p ≤ 2 ^ 53
 short-both w p h s t =
     let less : suc (number w) * 10 ^ length p ≤ 10 ^ length w * 10 ^ length p = mul-le-mul-right (10 ^ length p) (number-lt w s) in
-    let same : 10 ^ length w * 10 ^ length p ≤ 2 ^ 53 = le-trans (le-of-eq (sym (pow-add 10 (length w) (length p)))) (short-power (length w + length p) h) in
+    let same : 10 ^ length w * 10 ^ length p ≤ 2 ^ 53 =
+    le-trans (le-of-eq (sym (pow-add 10 (length w) (length p)))) (short-power (length w + length p) h) in
     let rest : number p < 10 ^ length p = number-lt p t in
     omega (arith, suc-mul (number w) (10 ^ length p))
 
@@ -152,7 +156,8 @@ module _ (l : List ℕ) (e : ℕ) (at : e ≡ fieldEnd point 0 l) where
   by-point h =
       let before : take e l ≡ upTo point l = ap (λ (n : ℕ). take n l) up-to-point ∙ up-to-taken point l in
       let after : take (length l - (e + 1)) (drop (e + 1) l) ≡ behind point l =
-      take-all (length l - (e + 1)) (drop (e + 1) l) (le-of-eq (length-drop (e + 1) l)) ∙ ap (λ (n : ℕ). drop n l) (add-one e ∙ ap suc up-to-point) in
+      take-all (length l - (e + 1)) (drop (e + 1) l) (le-of-eq (length-drop (e + 1) l))
+      ∙ ap (λ (n : ℕ). drop n l) (add-one e ∙ ap suc up-to-point) in
       rw (lt-ltb (length (upTo point l)) (length l) (le-trans (le-of-eq (ap suc (sym up-to-point))) h), before, after)
 
   pub by-none : length l ≤ e → plainDecimal l ≡ decimalOf l

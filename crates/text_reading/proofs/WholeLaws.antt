@@ -30,12 +30,14 @@ pub step-yes : (n b m : ℕ) → grownBy n (digitOf b) ≡ Is m → DigitStep n 
 unfolding grownBy
 step-yes n b m h = go (isDigit b) refl h
   where
-    by-tests : (p q : Bool) → isDigit b ≡ true → ltb (n * 10 + (b - 48)) (2 ^ 64) ≡ q → cond (p && q) (Is (n * 10 + (b - 48))) Unreadable ≡ Is m → DigitStep n b m
+    by-tests : (p q : Bool) → isDigit b ≡ true → ltb (n * 10 + (b - 48)) (2 ^ 64) ≡ q
+        → cond (p && q) (Is (n * 10 + (b - 48))) Unreadable ≡ Is m → DigitStep n b m
     by-tests true true d l e = let same : m ≡ n * 10 + (b - 48) = cc in record { digit = d; grown = same; fits = rw same (ltb-true _ _ l) }
     by-tests true false d l e = absurd (never e)
     by-tests false q d l e = absurd (never e)
 
-    go : (t : Bool) → isDigit b ≡ t → cond (leb (cond t (b - 48) 10) 9 && ltb (n * 10 + cond t (b - 48) 10) (2 ^ 64)) (Is (n * 10 + cond t (b - 48) 10)) Unreadable ≡ Is m → DigitStep n b m
+    go : (t : Bool) → isDigit b ≡ t → let d = cond t (b - 48) 10 in
+        cond (leb d 9 && ltb (n * 10 + d) (2 ^ 64)) (Is (n * 10 + d)) Unreadable ≡ Is m → DigitStep n b m
     go true d e = by-tests (leb (b - 48) 9) (ltb (n * 10 + (b - 48)) (2 ^ 64)) d refl e
     go false d e = absurd (never e)
 
@@ -45,7 +47,8 @@ number-grows n [] = omega arith
 number-grows n (b ∷ l) = let h = number-grows (n * 10 + (b - 48)) l in omega arith
 
 -- a byte that does not go on: no digit, or a number that is too large however the rest goes on
-pub step-no : (n b : ℕ) (l : List ℕ) → grownBy n (digitOf b) ≡ Unreadable → (every isDigit (b ∷ l) && ltb (numberFrom n (b ∷ l)) (2 ^ 64)) ≡ false
+pub step-no : (n b : ℕ) (l : List ℕ) → grownBy n (digitOf b) ≡ Unreadable
+    → (every isDigit (b ∷ l) && ltb (numberFrom n (b ∷ l)) (2 ^ 64)) ≡ false
 unfolding grownBy
 step-no n b l h = go (n * 10 + (b - 48)) (leb 48 b) (leb b 57) refl refl h
   where
@@ -53,12 +56,14 @@ step-no n b l h = go (n * 10 + (b - 48)) (leb 48 b) (leb b 57) refl refl h
     large m true g = le-ltb (numberFrom m l) (2 ^ 64) (le-trans g (number-grows m l))
     large m false g = refl
 
-    by-tests : (m : ℕ) (p q : Bool) → leb (b - 48) 9 ≡ p → ltb m (2 ^ 64) ≡ q → b ≤ 57 → cond (p && q) (Is m) Unreadable ≡ Unreadable → (every isDigit l && ltb (numberFrom m l) (2 ^ 64)) ≡ false
+    by-tests : (m : ℕ) (p q : Bool) → leb (b - 48) 9 ≡ p → ltb m (2 ^ 64) ≡ q → b ≤ 57
+        → cond (p && q) (Is m) Unreadable ≡ Unreadable → (every isDigit l && ltb (numberFrom m l) (2 ^ 64)) ≡ false
     by-tests m true true e g d u = absurd (never (sym u))
     by-tests m true false e g d u = large m (every isDigit l) (ltb-false m (2 ^ 64) g)
     by-tests m false q e g d u = let k : 9 < b - 48 = leb-false (b - 48) 9 e in absurd (omega arith)
 
-    go : (m : ℕ) (p q : Bool) → n * 10 + (b - 48) ≡ m → leb b 57 ≡ q → cond (leb (cond (p && q) (b - 48) 10) 9 && ltb (n * 10 + cond (p && q) (b - 48) 10) (2 ^ 64)) (Is (n * 10 + cond (p && q) (b - 48) 10)) Unreadable ≡ Unreadable
+    go : (m : ℕ) (p q : Bool) → n * 10 + (b - 48) ≡ m → leb b 57 ≡ q → let d = cond (p && q) (b - 48) 10 in
+        cond (leb d 9 && ltb (n * 10 + d) (2 ^ 64)) (Is (n * 10 + d)) Unreadable ≡ Unreadable
         → (((p && q) && every isDigit l) && ltb (numberFrom m l) (2 ^ 64)) ≡ false
     go m true true z e u = by-tests m (leb (b - 48) 9) (ltb m (2 ^ 64)) refl refl (leb-true b 57 e) (rw z at u)
     go m true false z e u = refl
@@ -109,10 +114,14 @@ pub number-shift : (n : ℕ) (l : List ℕ) → numberFrom n l ≡ n * 10 ^ leng
 number-shift n [] = omega arith
 number-shift n (b ∷ l) =
     let one = number-shift (n * 10 + (b - 48)) l in
-    let two : number (b ∷ l) ≡ (b - 48) * 10 ^ length l + number l = ap (λ (k : ℕ). numberFrom k l) (zero-add (b - 48)) ∙ number-shift (b - 48) l in
-    let split : (n * 10 + (b - 48)) * 10 ^ length l ≡ n * 10 * 10 ^ length l + (b - 48) * 10 ^ length l = add-mul (n * 10) (b - 48) (10 ^ length l) in
+    let two : number (b ∷ l) ≡ (b - 48) * 10 ^ length l + number l =
+    ap (λ (k : ℕ). numberFrom k l) (zero-add (b - 48)) ∙ number-shift (b - 48) l in
+    let split : (n * 10 + (b - 48)) * 10 ^ length l ≡ n * 10 * 10 ^ length l + (b - 48) * 10 ^ length l =
+    add-mul (n * 10) (b - 48) (10 ^ length l) in
     let power : n * 10 ^ suc (length l) ≡ n * 10 * 10 ^ length l = rw (pow-succ' 10 (length l)) (sym (mul-assoc n 10 (10 ^ length l))) in
-    one ∙ ap (λ (k : ℕ). k + number l) split ∙ joined (n * 10 * 10 ^ length l) ((b - 48) * 10 ^ length l) (number l) ∙ ap (λ (k : ℕ). k + ((b - 48) * 10 ^ length l + number l)) (sym power) ∙ ap (λ (k : ℕ). n * 10 ^ suc (length l) + k) (sym two)
+    one ∙ ap (λ (k : ℕ). k + number l) split ∙ joined (n * 10 * 10 ^ length l) ((b - 48) * 10 ^ length l) (number l)
+    ∙ ap (λ (k : ℕ). k + ((b - 48) * 10 ^ length l + number l)) (sym power)
+    ∙ ap (λ (k : ℕ). n * 10 ^ suc (length l) + k) (sym two)
   where
     joined : (x y z : ℕ) → x + y + z ≡ x + (y + z)
     joined x y z = omega arith

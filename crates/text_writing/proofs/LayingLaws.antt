@@ -97,7 +97,8 @@ module _ (l : List ℕ) (at : ℕ) (s t : List ℕ) where
   unfolding laidEnd
   laid-append = go (leb (at + length s) (length l)) refl
     where
-      go : (b : Bool) → leb (at + length s) (length l) ≡ b → laid (laid l at s) (cond b (at + length s) (suc (length l))) t ≡ laid l at (s ++ t)
+      go : (b : Bool) → leb (at + length s) (length l) ≡ b
+          → laid (laid l at s) (cond b (at + length s) (suc (length l))) t ≡ laid l at (s ++ t)
       go true e = fitting (leb-true (at + length s) (length l) e)
       go false e =
           let past : length (laid l at s) < suc (length l) = omega (arith, length-laid l at s) in
@@ -123,7 +124,8 @@ pub behind-it : {l : List ℕ} {at : ℕ} {s : List ℕ} {end : ℕ} {after : Li
     → Laid l at s end after → end′ ≡ laidEnd (length after) end (length t) → after′ ≡ laid after end t → Laid l at (s ++ t) end′ after′
 behind-it {l} {at} {s} {end} {after} t a e g = record {
   ends =
-      e ∙ ap (λ (k : ℕ). laidEnd k end (length t)) (ap length (a .gives) ∙ length-laid l at s) ∙ ap (λ (k : ℕ). laidEnd (length l) k (length t)) (a .ends)
+      e ∙ ap (λ (k : ℕ). laidEnd k end (length t)) (ap length (a .gives) ∙ length-laid l at s)
+      ∙ ap (λ (k : ℕ). laidEnd (length l) k (length t)) (a .ends)
       ∙ end-append (length l) at (length s) (length t) ∙ ap (laidEnd (length l) at) (sym (length-append s t));
   gives = g ∙ ap (λ (b : List ℕ). laid b end t) (a .gives) ∙ ap (λ (k : ℕ). laid (laid l at s) k t) (a .ends) ∙ laid-append l at s t;
 }

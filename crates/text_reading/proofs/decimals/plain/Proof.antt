@@ -23,16 +23,24 @@ enum-told c = search needs
 returns-2 : tie.Need-returns-2
 returns-2 c =
     let read = c .before .before in
-    plain-unreadable (read .before .before .before .args .whole .now) (search needs) (sym (read .read-whole .ensures) ∙ c .enum-told .given .1)
+    let whole = read .before .before .before .args .whole .now in
+    plain-unreadable whole (search needs) (sym (read .read-whole .ensures) ∙ c .enum-told .given .1)
 
 int-to-float-t6 : tie.Need-int-to-float-t6
 unfolding inFloat
 int-to-float-t6 c =
-    let n = c .before .before .n .given .0 .0 in
-    le→leb n (2 ^ 53) (plain-small (c .before .before .before .before .before .before .before .args .whole .now) n (search needs) (sym (c .before .before .before .before .read-whole .ensures) ∙ c .before .before .n .given .1))
+    let told = c .before .before .n .given in
+    let read = c .before .before .before .before in
+    let whole = read .before .before .before .args .whole .now in
+    let n = told .0 .0 in
+    le→leb n (2 ^ 53) (plain-small whole n (search needs) (sym (read .read-whole .ensures) ∙ told .1))
 
 returns-3 : tie.Need-returns-3
-returns-3 c = plain-read (c .before .before .before .before .before .before .before .args .whole .now) (c .before .before .n .given .0 .0) (search needs) (sym (c .before .before .before .before .read-whole .ensures) ∙ c .before .before .n .given .1)
+returns-3 c =
+    let told = c .before .before .n .given in
+    let read = c .before .before .before .before in
+    let whole = read .before .before .before .args .whole .now in
+    plain-read whole (told .0 .0) (search needs) (sym (read .read-whole .ensures) ∙ told .1)
 
 pub plain-spec : {M : Type 1} → statement M
 plain-spec =
