@@ -1,4 +1,5 @@
--- The pairs that a child can have: `distinct` means what it says, and d is 1 to 4 (RULES.md, T3, X3 to X6). Assumes nothing.
+-- The pairs that a child can have: in `distinct` none stands twice, and d is 1 to 4 (RULES.md, T3, X3 to X6). That every pair of the list
+-- stands in it: `distinct-same` (trio_mendel/proofs/MendelLaws.antt). Assumes nothing.
 use Prim.Native.Nat.{_≤_, suc-le-suc, zero-le}
 use mathlib.Core.Path.{_≡_, refl, sym, ap, _∙_}
 use mathlib.Core.Bool.{Bool, true, false, cond, not, _||_, and-eq-true-iff}
@@ -9,19 +10,9 @@ use lib.ListN.{length}
 use Rattle.lists.proofs.PassingLaws.{passing-length}
 use Rattle.trio_family.specs.declared.pair.Pair.{Pair}
 use Rattle.trio_family.specs.Genotypes.{pair}
-use Rattle.trio_mendel.specs.Mendel.{ordered, samePair, among, distinct, childPairs}
+use Rattle.trio_mendel.specs.Mendel.{samePair, among, distinct, combinations, childPairs}
 use Rattle.trio_mendel.proofs.MendelLaws.{same-is, withoutPair, among-without}
 use Rattle.trio_laws.specs.ChildPairs.{noRepeat}
-
--- ---- the same pairs are among them
-
-pub distinct-same : (p : Pair) (l : List Pair) → among p (distinct l) ≡ among p l
-distinct-same p [] = refl
-distinct-same p (q ∷ l) = go (samePair q p) refl (distinct-same p l)
-  where
-    go : (b : Bool) → samePair q p ≡ b → among p (distinct l) ≡ among p l → (b || among p (withoutPair q (distinct l))) ≡ (b || among p l)
-    go true e k = refl
-    go false e k = among-without p q (distinct l) e ∙ k
 
 -- ---- none stands twice
 
@@ -36,7 +27,8 @@ gone : (p : Pair) (l : List Pair) → among p (withoutPair p l) ≡ false
 gone p [] = refl
 gone p (q ∷ l) = go (samePair p q) refl (gone p l)
   where
-    go : (b : Bool) → samePair p q ≡ b → among p (withoutPair p l) ≡ false → among p (cond (not b) (q ∷ withoutPair p l) (withoutPair p l)) ≡ false
+    go : (b : Bool) → samePair p q ≡ b → among p (withoutPair p l) ≡ false
+        → among p (cond (not b) (q ∷ withoutPair p l) (withoutPair p l)) ≡ false
     go true e k = k
     go false e k = ap (_|| among p (withoutPair p l)) (differ p q e) ∙ k
 
@@ -71,10 +63,7 @@ distinct-length (p ∷ l) = suc-le-suc (le-trans (passing-length (λ q. not (sam
 
 pub child-pairs-few : (f m : Pair) → (1 ≤ length (childPairs f m)) × (length (childPairs f m) ≤ 4)
 unfolding childPairs
-child-pairs-few f m = (
-  suc-le-suc zero-le,
-  distinct-length (ordered (f .low) (m .low) ∷ ordered (f .low) (m .high) ∷ ordered (f .high) (m .low) ∷ ordered (f .high) (m .high) ∷ []),
-)
+child-pairs-few f m = (suc-le-suc zero-le, distinct-length (combinations f m))
 
 -- ---- X3 to X6
 

@@ -1,6 +1,7 @@
 -- What the trio's triples, child pairs and scores obey.
 pub mod TripleLaws
 pub mod ChildPairLaws
+pub mod NotebookLaws
 pub mod Every
 pub mod SampleBounds
 pub mod ScoreBounds

@@ -1,19 +1,17 @@
--- The pairs of a child, collected one by one as the code does. Assumes nothing.
-use Prim.Native.Nat.{ℕ, _+_, _≤_, _<_}
+-- Pairs: when two are the same; what is among the different ones of a list, and how many they are. Assumes nothing.
+use Prim.Native.Nat.{ℕ, suc}
 use mathlib.Core.Path.{_≡_, refl, sym, ap, _∙_}
-use mathlib.Core.Bool.{Bool, true, false, not, cond, _||_, and-eq-true-iff}
+use mathlib.Core.Bool.{Bool, true, false, not, cond, _&&_, _||_, and-comm, and-eq-true-iff}
 use mathlib.Core.List.{List, [], _∷_, _++_, append-nil}
-use native.Mathlib.Numerals.{add-one}
 use native.Mathlib.Omega.{arith}
-use borrow.Author.Tests.{eqb-true}
-use lib.Dec.{eqb}
-use lib.ListN.{length, take, drop, getD, drop-of-length-le}
-use lib.Seq.{length-take-le, drop-cons, getD-take}
+use borrow.Author.Tests.{eqb-true, eq-eqb, leb-true, leb-false}
+use lib.Dec.{eqb, leb}
+use lib.ListN.{length, length-append}
 use Rattle.lists.proofs.PassingLaws.{passing-append}
 use Rattle.trio_family.specs.declared.pair.Pair.{Pair}
 use Rattle.trio_family.specs.Genotypes.{pair}
 use Rattle.lists.specs.Lists.{passing}
-use Rattle.trio_mendel.specs.Mendel.{samePair, among, distinct, withPair}
+use Rattle.trio_mendel.specs.Mendel.{ordered, samePair, among, distinct}
 
 -- the test tells equal pairs
 pub same-is : (p q : Pair) → samePair p q ≡ true → p ≡ q
@@ -22,6 +20,59 @@ same-is p q e =
     let l = eqb-true (p .low) (q .low) (parts .0) in
     let h = eqb-true (p .high) (q .high) (parts .1) in
     ap (λ x. record { low = x; high = p .high }) l ∙ ap (λ x. record { low = q .low; high = x }) h
+
+-- ---- two pairs are the same when their alleles are, one way round or the other
+
+or-left : (s t : Bool) → (t ≡ true → s ≡ true) → s ≡ (s || t)
+or-left true t h = refl
+or-left false true h = h refl
+or-left false false h = refl
+
+or-right : (s t : Bool) → (s ≡ true → t ≡ true) → t ≡ (s || t)
+or-right true t h = h refl
+or-right false t h = refl
+
+abbrev pub together : ℕ → ℕ → ℕ → ℕ → Bool
+together x u y v = eqb x u && eqb y v
+
+pub told : (x u y v : ℕ) → together x u y v ≡ true → (x ≡ u) × (y ≡ v)
+told x u y v h =
+    let parts = and-eq-true-iff (eqb x u) (eqb y v) .0 h in
+    (eqb-true x u (parts .0), eqb-true y v (parts .1))
+
+holds : (x u y v : ℕ) → x ≡ u → y ≡ v → together x u y v ≡ true
+holds x u y v p q = rw (eq-eqb x u p, eq-eqb y v q)
+
+abbrev pub eitherWay : ℕ → ℕ → ℕ → ℕ → Bool
+eitherWay x y u v = together x u y v || together x v y u
+
+pub same-ordered : (x y u v : ℕ) → samePair (ordered x y) (ordered u v) ≡ eitherWay x y u v
+same-ordered x y u v = go (leb x y) (leb u v) refl refl
+  where
+    straight : Bool
+    straight = together x u y v
+
+    crossed : Bool
+    crossed = together x v y u
+
+    go : (b c : Bool) → leb x y ≡ b → leb u v ≡ c
+        → samePair (cond b (pair x y) (pair y x)) (cond c (pair u v) (pair v u)) ≡ eitherWay x y u v
+    go true true p q =
+        or-left straight crossed
+        (λ h. let e = told x v y u h in let l = leb-true x y p in let k = leb-true u v q in holds x u y v (omega arith) (omega arith))
+    go true false p q =
+        or-right straight crossed
+        (λ h. let e = told x u y v h in let l = leb-true x y p in let k = leb-false u v q in holds x v y u (omega arith) (omega arith))
+    go false true p q =
+        and-comm (eqb y u) (eqb x v)
+        ∙ or-right straight crossed
+        (λ h. let e = told x u y v h in let l = leb-false x y p in let k = leb-true u v q in holds x v y u (omega arith) (omega arith))
+    go false false p q =
+        and-comm (eqb y v) (eqb x u)
+        ∙ or-left straight crossed
+        (λ h. let e = told x v y u h in let l = leb-false x y p in let k = leb-false u v q in holds x u y v (omega arith) (omega arith))
+
+-- ---- lists of pairs in which each stands once
 
 -- the list without p
 abbrev pub withoutPair : Pair → List Pair → List Pair
@@ -37,49 +88,57 @@ among-without p q (r ∷ l) h = go (samePair q r) refl (among-without p q l h)
     go true e k = k ∙ sym (ap (_|| among p l) (ap (λ x. samePair x p) (sym (same-is q r e)) ∙ h))
     go false e k = ap (samePair r p ||_) k
 
--- ---- one more pair is pushed behind those before it
+-- the same pairs are among them when each stands once
+pub distinct-same : (p : Pair) (l : List Pair) → among p (distinct l) ≡ among p l
+distinct-same p [] = refl
+distinct-same p (q ∷ l) = go (samePair q p) refl (distinct-same p l)
+  where
+    go : (b : Bool) → samePair q p ≡ b → among p (distinct l) ≡ among p l → (b || among p (withoutPair q (distinct l))) ≡ (b || among p l)
+    go true e k = refl
+    go false e k = among-without p q (distinct l) e ∙ k
 
-module _ (q p : Pair) (d : List Pair) where
-  abbrev rest : List Pair
-  rest = withoutPair q d
+-- ---- one more pair behind those before it: it stays unless it is among them
 
-  without-pushed : (b : Bool) → withoutPair q (cond b d (d ++ (p ∷ []))) ≡ cond b rest (rest ++ withoutPair q (p ∷ []))
-  without-pushed true = refl
-  without-pushed false = passing-append (λ r. not (samePair q r)) d (p ∷ [])
+-- p, unless it is there
+abbrev unlessThere : Bool → Pair → List Pair
+unlessThere there p = cond there [] (p ∷ [])
 
-  -- with s: is p the first, a: is it among the others, b: among them without the first
-  by-cases : (s a b : Bool) → (s ≡ false → b ≡ a) → q ∷ cond a rest (rest ++ cond (not s) (p ∷ []) []) ≡ cond (s || b) (q ∷ rest) (q ∷ (rest ++ (p ∷ [])))
-  by-cases true true b k = refl
-  by-cases true false b k = ap (q ∷_) (append-nil rest)
-  by-cases false true b k = sym (ap (λ x. cond x (q ∷ rest) (q ∷ (rest ++ (p ∷ [])))) (k refl))
-  by-cases false false b k = sym (ap (λ x. cond x (q ∷ rest) (q ∷ (rest ++ (p ∷ [])))) (k refl))
+last-without : (q p : Pair) (there : Bool) → withoutPair q (unlessThere there p) ≡ unlessThere (samePair q p || there) p
+last-without q p there = go (samePair q p) there refl
+  where
+    go : (s t : Bool) → samePair q p ≡ s → withoutPair q (unlessThere t p) ≡ unlessThere (s || t) p
+    go true true e = refl
+    go false true e = refl
+    go true false e = rw e
+    go false false e = rw e
 
-  push : q ∷ withoutPair q (withPair d p) ≡ withPair (q ∷ rest) p
-  push = ap (q ∷_) (without-pushed (among p d)) ∙ by-cases (samePair q p) (among p d) (among p rest) (among-without p q d)
+distinct-more : (l : List Pair) (p : Pair) → distinct (l ++ (p ∷ [])) ≡ distinct l ++ unlessThere (among p l) p
+distinct-more [] p = refl
+distinct-more (q ∷ l) p =
+    let last = unlessThere (among p l) p in
+    ap (q ∷_)
+    (ap (withoutPair q) (distinct-more l p)
+    ∙ passing-append (λ r. not (samePair q r)) (distinct l) last
+    ∙ ap (withoutPair q (distinct l) ++_) (last-without q p (among p l)))
 
-distinct-push : (l : List Pair) (p : Pair) → distinct (l ++ (p ∷ [])) ≡ withPair (distinct l) p
-distinct-push [] p = refl
-distinct-push (q ∷ l) p = ap (λ d. q ∷ withoutPair q d) (distinct-push l p) ∙ push q p (distinct l)
+-- ---- how many
 
-pub four-pushed : (a b c d : Pair) → withPair (withPair (withPair (a ∷ []) b) c) d ≡ distinct (a ∷ b ∷ c ∷ d ∷ [])
-four-pushed a b c d =
-    sym (distinct-push (a ∷ b ∷ c ∷ []) d ∙ ap (λ l. withPair l d) (distinct-push (a ∷ b ∷ []) c ∙ ap (λ l. withPair l c) (distinct-push (a ∷ []) b)))
+-- one more pair counts unless it is among those before it
+abbrev pub counted : Bool → ℕ → ℕ
+counted there n = cond there n (suc n)
 
--- ---- looking for a pair among the first n of a list, from i on
+length-more : (l : List Pair) (there : Bool) (p : Pair) → length (l ++ unlessThere there p) ≡ counted there (length l)
+length-more l true p = ap length (append-nil l)
+length-more l false p = omega (arith, length-append l (p ∷ []))
 
-module _ (p : Pair) (l : List Pair) (n i : ℕ) (fits : n ≤ length l) where
-  among-from : i < n → among p (drop i (take n l)) ≡ (samePair (getD l i (pair 0 0)) p || among p (drop (i + 1) (take n l)))
-  among-from h =
-      let k : i < length (take n l) = omega (arith, length-take-le n l fits) in
-      ap (among p) (drop-cons (take n l) i (pair 0 0) k) ∙ rw (getD-take n l i (pair 0 0) h, add-one)
+count-more : (l : List Pair) (p : Pair) → length (distinct (l ++ (p ∷ []))) ≡ counted (among p l) (length (distinct l))
+count-more l p = ap length (distinct-more l p) ∙ length-more (distinct l) (among p l) p
 
-  pub among-here : i < n → samePair (getD l i (pair 0 0)) p ≡ true → among p (drop i (take n l)) ≡ true
-  among-here h e = among-from h ∙ ap (_|| among p (drop (i + 1) (take n l))) e
-
-  pub among-next : i < n → samePair (getD l i (pair 0 0)) p ≡ false → among p (drop i (take n l)) ≡ among p (drop (i + 1) (take n l))
-  among-next h e = among-from h ∙ ap (_|| among p (drop (i + 1) (take n l))) e
-
-  pub among-past : n ≤ i → among p (drop i (take n l)) ≡ false
-  among-past h =
-      let past : length (take n l) ≤ i = omega (arith, length-take-le n l fits) in
-      ap (among p) (drop-of-length-le (take n l) past)
+-- of four pairs
+pub four-count : (p q r s : Pair) →
+    length (distinct (p ∷ q ∷ r ∷ s ∷ []))
+    ≡ counted (among s (p ∷ q ∷ r ∷ [])) (counted (among r (p ∷ q ∷ [])) (counted (among q (p ∷ [])) 1))
+four-count p q r s =
+    count-more (p ∷ q ∷ r ∷ []) s
+    ∙ ap (counted (among s (p ∷ q ∷ r ∷ [])))
+    (count-more (p ∷ q ∷ []) r ∙ ap (counted (among r (p ∷ q ∷ []))) (count-more (p ∷ []) q))

@@ -1,2 +1,3 @@
 -- The definitions of `trio_mendel`.
 pub mod Mendel
+pub mod Decision

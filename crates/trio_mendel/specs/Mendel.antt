@@ -1,16 +1,15 @@
 -- The Mendelian term. Definitions only (RULES.md, T3).
 use Prim.Native.Nat.{ℕ}
 use mathlib.Core.Bool.{Bool, false, cond, _&&_, _||_}
-use mathlib.Core.List.{List, [], _∷_, _++_}
+use mathlib.Core.List.{List, [], _∷_}
 use lib.Dec.{eqb, leb}
-use lib.ListN.{length, take}
+use lib.ListN.{length}
 use lib.Ieee.{Float}
 use Rattle.lists.specs.Lists.{distinctBy}
 use Rattle.floats.specs.F64.{_⊘_, nat, decimal}
 use Rattle.kernels.specs.Ln.{lnOf}
 use Rattle.trio_family.specs.declared.pair.Pair.{Pair}
 use Rattle.trio_family.specs.Genotypes.{pair}
-use Rattle.trio_mendel.specs.declared.mendel.Possible.{Possible}
 
 -- T3: two cluster numbers as a pair, the lower first
 abbrev pub ordered : ℕ → ℕ → Pair
@@ -29,23 +28,16 @@ among p (q ∷ l) = samePair q p || among p l
 abbrev pub distinct : List Pair → List Pair
 distinct l = distinctBy samePair l
 
--- T3: the different pairs of one allele of the father and one of the mother; d is their number
+-- T3: the four combinations of one allele of the father and one of the mother: his lower with each of hers, then his higher
+abbrev pub combinations : Pair → Pair → List Pair
+combinations f m =
+    ordered (f .low) (m .low) ∷ ordered (f .low) (m .high) ∷ ordered (f .high) (m .low) ∷ ordered (f .high) (m .high) ∷ []
+
+-- T3: the different pairs among them; d is their number
 unfoldable pub childPairs : Pair → Pair → List Pair
-childPairs f m =
-    distinct (ordered (f .low) (m .low) ∷ ordered (f .low) (m .high) ∷ ordered (f .high) (m .low) ∷ ordered (f .high) (m .high) ∷ [])
+childPairs f m = distinct (combinations f m)
 
 -- T3: ln(1/d) for a child whose pair is among them, else ln(1e-6)
 unfoldable pub mendelTerm : Pair → Pair → Pair → Float
 mendelTerm c f m =
     cond (among (ordered (c .low) (c .high)) (childPairs f m)) (lnOf (nat 1 ⊘ nat (length (childPairs f m)))) (lnOf (decimal 1 6))
-
--- ---- for the code
-
--- T3: the pairs of a `Possible`: those in use of its four places
-abbrev pub possiblePairs : Possible → List Pair
-possiblePairs s = take (s .count) (s .pairs)
-
--- T3: l with p at its end, unless it has it; four pairs put in so are `distinct` of the four: `four-pushed`
--- (trio_mendel/proofs/MendelLaws.antt)
-abbrev pub withPair : List Pair → Pair → List Pair
-withPair l p = cond (among p l) l (l ++ (p ∷ []))

@@ -1,102 +1,124 @@
-// The Mendelian term: how likely a child is, given its parents (docs/RULES.md, T3).
+// The Mendelian term: how likely a child is, given its parents (docs/RULES.md, T3; docs/MENDEL.md).
 ghost use mathlib.Core.Path.{_≡_};
-ghost use Prim.Native.Nat.{suc, _≤_, _<_};
 ghost use lib.ListN.{length};
-ghost use Rattle.trio_mendel.specs.Mendel.{ordered, samePair, among, childPairs, mendelTerm, possiblePairs, withPair};
+ghost use Rattle.trio_mendel.specs.Mendel.{childPairs, mendelTerm};
+ghost use Rattle.trio_mendel.specs.Decision.{alleleCount, carries, sharedCount, pairsMade, fromEach, inherits};
 use kernels::ln::ln;
 use trio_family::pair::Pair;
 
-// Up to four different pairs: the first `count` of `pairs`.
-struct Possible {
-    count: u32,
-    pairs: [Pair; 4],
+// How many different alleles a pair has.
+fn allele_count(p: Pair) -> u32
+    ensures { λ r. ⌜ r ≡ alleleCount p ⌝ }
+{
+    if p.low == p.high {
+        return 1;
+    }
+    2
 }
 
-fn same_pair(a: Pair, b: Pair) -> bool
-    ensures { λ r. ⌜ r ≡ samePair a b ⌝ }
+// Is this allele one of the pair's?
+fn carries(p: Pair, allele: u64) -> bool
+    ensures { λ r. ⌜ r ≡ carries p allele ⌝ }
 {
-    if a.low == b.low {
-        return a.high == b.high;
+    if p.low == allele {
+        return true;
+    }
+    p.high == allele
+}
+
+// How many of the father's different alleles the mother has too: an allele that he has twice counts once.
+fn shared_count(father: Pair, mother: Pair) -> u32
+    ensures { λ r. ⌜ r ≡ sharedCount father mother ⌝ }
+{
+    let low = carries(mother, father.low) as u32;
+    if father.low == father.high {
+        return low;
+    }
+    low + carries(mother, father.high) as u32
+}
+
+// How many different pairs a child can have, by how many alleles each parent has and how many of them they share.
+// No parents have any other counts than those of the notebook: such arms answer 0.
+fn pairs_made(father: u32, mother: u32, shared: u32) -> u32
+    ensures { λ r. ⌜ r ≡ pairsMade father mother shared ⌝ }
+{
+    match father {
+        1 => match mother {
+            1 => match shared {
+                0 => 1,
+                1 => 1,
+                _ => 0,
+            },
+            2 => match shared {
+                0 => 2,
+                1 => 2,
+                _ => 0,
+            },
+            _ => 0,
+        },
+        2 => match mother {
+            1 => match shared {
+                0 => 2,
+                1 => 2,
+                _ => 0,
+            },
+            2 => match shared {
+                0 => 4,
+                1 => 4,
+                2 => 3,
+                _ => 0,
+            },
+            _ => 0,
+        },
+        _ => 0,
+    }
+}
+
+// How many different pairs a child of these parents can have.
+fn child_pair_count(father: Pair, mother: Pair) -> u32
+    ensures { λ r. ⌜ r ≡ length (childPairs father mother) ⌝ }
+{
+    pairs_made(
+        allele_count(father),
+        allele_count(mother),
+        shared_count(father, mother),
+    )
+}
+
+// Can `a` come from the father and `b` from the mother?
+fn from_each(a: u64, b: u64, father: Pair, mother: Pair) -> bool
+    ensures { λ r. ⌜ r ≡ fromEach a b father mother ⌝ }
+{
+    if carries(father, a) {
+        return carries(mother, b);
     }
     false
 }
 
-// The pair of two cluster numbers, the lower first.
-fn sorted(a: u64, b: u64) -> Pair
-    ensures { λ r. ⌜ r ≡ ordered a b ⌝ }
+// Has the child one allele from each parent, either way round?
+fn inherits(child: Pair, father: Pair, mother: Pair) -> bool
+    ensures { λ r. ⌜ r ≡ inherits child father mother ⌝ }
 {
-    if a <= b {
-        return Pair { low: a, high: b };
+    if from_each(child.low, child.high, father, mother) {
+        return true;
     }
-    Pair { low: b, high: a }
-}
-
-fn contains(s: Possible, p: Pair) -> bool
-    requires { ⌜ s .count ≤ 4 ⌝ }
-    ensures { λ r. ⌜ r ≡ among p (possiblePairs s) ⌝ }
-{
-    let pairs = s.pairs;
-    let n = s.count as usize;
-    let mut i: usize = 0;
-    while i < n {
-        if same_pair(pairs[i], p) {
-            return true;
-        }
-        i += 1;
-    }
-    false
-}
-
-// `s` with `p` at its end, unless it has it.
-fn with_pair(s: Possible, p: Pair) -> Possible
-    requires { ⌜ s .count < 4 ⌝ }
-    ensures { λ r. ⌜ possiblePairs r ≡ withPair (possiblePairs s) p ⌝ }
-    ensures { λ r. ⌜ r .count ≤ suc (s .count) ⌝ }
-{
-    if contains(s, p) {
-        return s;
-    }
-    let n = s.count;
-    let mut pairs = s.pairs;
-    pairs[n as usize] = p;
-    Possible {
-        count: n + 1,
-        pairs,
-    }
-}
-
-// The different pairs that a child of these parents can have.
-fn child_pairs(father: Pair, mother: Pair) -> Possible
-    ensures { λ r. ⌜ possiblePairs r ≡ childPairs father mother ⌝ }
-    ensures { λ r. ⌜ r .count ≡ length (childPairs father mother) ⌝ }
-    ensures { λ r. ⌜ r .count ≤ 4 ⌝ }
-{
-    let none = Pair { low: 0, high: 0 };
-    let s0 = Possible {
-        count: 0,
-        pairs: [none; 4],
-    };
-    let s1 = with_pair(s0, sorted(father.low, mother.low));
-    let s2 = with_pair(s1, sorted(father.low, mother.high));
-    let s3 = with_pair(s2, sorted(father.high, mother.low));
-    with_pair(s3, sorted(father.high, mother.high))
+    from_each(child.high, child.low, father, mother)
 }
 
 // How many different pairs a child of these parents can have.
 pub fn distinct_pairs(father: Pair, mother: Pair) -> u64
     ensures { λ r. ⌜ r ≡ length (childPairs father mother) ⌝ }
 {
-    let s = child_pairs(father, mother);
-    s.count as u64
+    child_pair_count(father, mother) as u64
 }
 
 // ln(1/d) if the child's pair is one of the d that its parents can make, else ln(1e-6).
 pub fn mendelian_prior(child: Pair, father: Pair, mother: Pair) -> f64
     ensures { λ r. ⌜ r ≡ mendelTerm child father mother ⌝ }
 {
-    let s = child_pairs(father, mother);
-    if contains(s, sorted(child.low, child.high)) {
-        return ln(1.0 / (s.count as f64));
+    if inherits(child, father, mother) {
+        let d = child_pair_count(father, mother);
+        return ln(1.0 / (d as f64));
     }
     ln(1e-6)
 }

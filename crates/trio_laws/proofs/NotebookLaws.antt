@@ -1,0 +1,209 @@
+-- What a geneticist may rely on (MENDEL.md; RULES.md, T3): the term is what the notebook and the child's test say, no pair weighs more than
+-- another, each line of the notebook has a couple and every couple one line, and it does not matter which parent is called the father.
+-- Assumes nothing.
+use Prim.Native.Nat.{ℕ, _+_}
+use mathlib.Core.Path.{_≡_, refl, sym, _∙_}
+use mathlib.Core.Bool.{Bool, true, false, cond, _||_, and-comm, or-comm, false≢true}
+use mathlib.Core.List.{List, [], _∷_, map}
+use native.Mathlib.Omega.{arith}
+use borrow.Author.Tests.{eqb-true, eqb-false, eq-eqb}
+use lib.Dec.{eqb}
+use Rattle.lists.specs.Lists.{passing}
+use Rattle.floats.specs.F64.{_⊘_, nat, decimal}
+use Rattle.kernels.specs.Ln.{lnOf}
+use Rattle.trio_family.specs.declared.pair.Pair.{Pair}
+use Rattle.trio_family.specs.Genotypes.{pair}
+use Rattle.trio_mendel.specs.Mendel.{ordered, samePair, childPairs, mendelTerm}
+use Rattle.trio_mendel.specs.Decision.{carries, alleleCount, sharedCount, Line, line, notebook, lineOf, pairsMade, fromEach, inherits}
+use Rattle.trio_mendel.proofs.MendelLaws.{together, told, eitherWay, same-ordered}
+use Rattle.trio_mendel.proofs.ChildLaws.{child-among}
+use Rattle.trio_mendel.proofs.CountLaws.{one, count-by, shared-by, eqb-comm, pairs-made}
+use Rattle.trio_laws.specs.Couples.{Couple, lineFor, couples}
+
+-- ---- the term, in the notebook's words
+
+-- ln(1/d), d by the notebook, for a child with one allele from each parent, else ln(1e-6)
+pub term-by-notebook : (c f m : Pair) →
+    mendelTerm c f m
+    ≡ cond (inherits c f m) (lnOf (nat 1 ⊘ nat (pairsMade (alleleCount f) (alleleCount m) (sharedCount f m)))) (lnOf (decimal 1 6))
+unfolding mendelTerm
+term-by-notebook c f m = rw (child-among c f m, pairs-made f m)
+
+-- no pair that two parents can make weighs more than another
+pub equal-weights : (c d f m : Pair) → inherits c f m ≡ true → inherits d f m ≡ true → mendelTerm c f m ≡ mendelTerm d f m
+equal-weights c d f m p q = rw (term-by-notebook c f m, term-by-notebook d f m, p, q)
+
+-- nor one that they cannot
+pub equal-strangers : (c d f m : Pair) → inherits c f m ≡ false → inherits d f m ≡ false → mendelTerm c f m ≡ mendelTerm d f m
+equal-strangers c d f m p q = rw (term-by-notebook c f m, term-by-notebook d f m, p, q)
+
+-- ---- each line has a couple
+
+abbrev lineOfCouple : Couple → Line
+lineOfCouple c = lineFor (c .father) (c .mother)
+
+abbrev pairsOfCouple : Couple → List Pair
+pairsOfCouple c = childPairs (c .father) (c .mother)
+
+pub couples-lines : map lineOfCouple couples ≡ notebook
+unfolding alleleCount sharedCount childPairs
+couples-lines = refl
+
+-- the pairs that they can make
+pub couples-pairs : map pairsOfCouple couples
+    ≡ (pair 0 1 ∷ [])
+    ∷ (pair 0 0 ∷ [])
+    ∷ (pair 0 1 ∷ pair 0 2 ∷ [])
+    ∷ (pair 0 0 ∷ pair 0 1 ∷ [])
+    ∷ (pair 0 2 ∷ pair 1 2 ∷ [])
+    ∷ (pair 0 0 ∷ pair 0 1 ∷ [])
+    ∷ (pair 0 2 ∷ pair 0 3 ∷ pair 1 2 ∷ pair 1 3 ∷ [])
+    ∷ (pair 0 0 ∷ pair 0 2 ∷ pair 0 1 ∷ pair 1 2 ∷ [])
+    ∷ (pair 0 0 ∷ pair 0 1 ∷ pair 1 1 ∷ [])
+    ∷ []
+unfolding childPairs
+couples-pairs = refl
+
+-- ---- every couple has one line
+
+-- the father has a and b, the mother k and l
+module _ (a b k l : ℕ) where
+  -- the counts by which of the four are equal
+  abbrev sharedBy : Bool → Bool → Bool → ℕ
+  sharedBy same low high = cond same (one low) (one low + one high)
+
+  abbrev countBy : Bool → ℕ
+  countBy same = cond same 1 2
+
+  abbrev father : Pair
+  father = pair a b
+
+  abbrev mother : Pair
+  mother = pair k l
+
+  -- a mother of one allele has not both of a father's two
+  only-one : eqb a b ≡ false → eqb k l ≡ true → carries mother a ≡ true → carries mother b ≡ true → ⊥
+  only-one p q low high = eqb-false a b p (has a low ∙ sym (has b high))
+    where
+      has : (x : ℕ) → carries mother x ≡ true → x ≡ k
+      has x h = go (eqb k x) (eqb l x) refl refl h
+        where
+          go : (s t : Bool) → eqb k x ≡ s → eqb l x ≡ t → (s || t) ≡ true → x ≡ k
+          go true t e d h = sym (eqb-true k x e)
+          go false true e d h = sym (eqb-true l x d) ∙ sym (eqb-true k l q)
+          go false false e d h = absurd (false≢true h)
+
+  one-of-nine : (ab kl low high : Bool) → eqb a b ≡ ab → eqb k l ≡ kl → carries mother a ≡ low → carries mother b ≡ high
+      → passing (lineOf (countBy ab) (countBy kl) (sharedBy ab low high)) notebook
+      ≡ line (countBy ab) (countBy kl) (sharedBy ab low high) (pairsMade (countBy ab) (countBy kl) (sharedBy ab low high)) ∷ []
+  unfolding pairsMade
+  one-of-nine true true true high p q r s = refl
+  one-of-nine true true false high p q r s = refl
+  one-of-nine true false true high p q r s = refl
+  one-of-nine true false false high p q r s = refl
+  one-of-nine false true true true p q r s = absurd (only-one p q r s)
+  one-of-nine false true true false p q r s = refl
+  one-of-nine false true false true p q r s = refl
+  one-of-nine false true false false p q r s = refl
+  one-of-nine false false true true p q r s = refl
+  one-of-nine false false true false p q r s = refl
+  one-of-nine false false false true p q r s = refl
+  one-of-nine false false false false p q r s = refl
+
+-- of the nine lines exactly one has a couple's counts, and it says how many different pairs the couple can make
+pub one-line : (f m : Pair) → passing (lineOf (alleleCount f) (alleleCount m) (sharedCount f m)) notebook ≡ lineFor f m ∷ []
+one-line f m =
+    let a = f .low in
+    let b = f .high in
+    rw (← pairs-made f m, count-by f, count-by m, shared-by f m)
+    (one-of-nine a b (m .low) (m .high) (eqb a b) (eqb (m .low) (m .high)) (carries m a) (carries m b) refl refl refl refl)
+
+-- ---- which parent is called the father makes no difference
+
+-- an allele that a parent has is one of its different alleles, and one alone
+one-carried : (p : Pair) (x : ℕ) → let low = one (eqb (p .low) x) in
+    one (carries p x) ≡ cond (eqb (p .low) (p .high)) low (low + one (eqb (p .high) x))
+one-carried p x = go (eqb (p .low) (p .high)) (eqb (p .low) x) (eqb (p .high) x) refl refl refl
+  where
+    go : (same low high : Bool) → eqb (p .low) (p .high) ≡ same → eqb (p .low) x ≡ low → eqb (p .high) x ≡ high
+        → one (low || high) ≡ cond same (one low) (one low + one high)
+    go true true high e d h = refl
+    go true false true e d h = absurd (eqb-false (p .low) x d (eqb-true (p .low) (p .high) e ∙ eqb-true (p .high) x h))
+    go true false false e d h = refl
+    go false true true e d h = absurd (eqb-false (p .low) (p .high) e (eqb-true (p .low) x d ∙ sym (eqb-true (p .high) x h)))
+    go false true false e d h = refl
+    go false false true e d h = refl
+    go false false false e d h = refl
+
+-- what they share is the same, whichever of them is asked
+pub shared-both-ways : (f m : Pair) → sharedCount f m ≡ sharedCount m f
+shared-both-ways f m =
+    let a = f .low in
+    let b = f .high in
+    let k = m .low in
+    let l = m .high in
+    rw (shared-by f m, shared-by m f, one-carried m a, one-carried m b, one-carried f k, one-carried f l)
+    (rw (eqb-comm a k, eqb-comm a l, eqb-comm b k, eqb-comm b l)
+    (go (eqb a b) (eqb k l) (one (eqb k a)) (one (eqb l a)) (one (eqb k b)) (one (eqb l b))))
+  where
+    go : (ab kl : Bool) (ka la kb lb : ℕ) →
+        cond ab (cond kl ka (ka + la)) (cond kl ka (ka + la) + cond kl kb (kb + lb))
+        ≡ cond kl (cond ab ka (ka + kb)) (cond ab ka (ka + kb) + cond ab la (la + lb))
+    go true true ka la kb lb = refl
+    go true false ka la kb lb = refl
+    go false true ka la kb lb = refl
+    go false false ka la kb lb = omega arith
+
+pairs-exchanged : (f m : Pair) (s : ℕ) → pairsMade (alleleCount f) (alleleCount m) s ≡ pairsMade (alleleCount m) (alleleCount f) s
+unfolding pairsMade
+pairs-exchanged f m s = rw (count-by f, count-by m) (go (eqb (f .low) (f .high)) (eqb (m .low) (m .high)))
+  where
+    go : (x y : Bool) → pairsMade (cond x 1 2) (cond y 1 2) s ≡ pairsMade (cond y 1 2) (cond x 1 2) s
+    go true true = refl
+    go true false = refl
+    go false true = refl
+    go false false = refl
+
+inherits-exchanged : (c f m : Pair) → inherits c f m ≡ inherits c m f
+unfolding inherits
+inherits-exchanged c f m =
+    rw (and-comm (carries f (c .low)) (carries m (c .high)), and-comm (carries f (c .high)) (carries m (c .low)))
+    (or-comm (fromEach (c .high) (c .low) m f) (fromEach (c .low) (c .high) m f))
+
+pub parents-exchanged : (c f m : Pair) → mendelTerm c f m ≡ mendelTerm c m f
+parents-exchanged c f m =
+    rw (
+      term-by-notebook c f m,
+      term-by-notebook c m f,
+      inherits-exchanged c f m,
+      shared-both-ways f m,
+      pairs-exchanged f m (sharedCount m f),
+    )
+
+-- ---- why two alike heterozygous parents make three pairs and not two
+
+-- two pairs that are the same, and their first numbers are not: they match crosswise
+crossed : (x y u v : ℕ) → (x ≡ u → ⊥) → eitherWay x y u v ≡ true → (x ≡ v) × (y ≡ u)
+crossed x y u v other = go (together x u y v) refl
+  where
+    go : (straight : Bool) → together x u y v ≡ straight → (straight || together x v y u) ≡ true → (x ≡ v) × (y ≡ u)
+    go true e h = absurd (other (told x u y v e .0))
+    go false e h = told x v y u h
+
+two-differ : (p : Pair) → alleleCount p ≡ 2 → p .low ≡ p .high → ⊥
+two-differ p two e = let h : _≡_ {A = ℕ} 1 2 = rw (eq-eqb (p .low) (p .high) e) at (sym (count-by p) ∙ two) in omega arith
+
+-- a father of two alleles: of the four combinations the first and the last can be the same, or the middle two, and never both
+pub never-both : (f m : Pair) → alleleCount f ≡ 2
+    → samePair (ordered (f .low) (m .low)) (ordered (f .high) (m .high)) ≡ true
+    → samePair (ordered (f .low) (m .high)) (ordered (f .high) (m .low)) ≡ true
+    → ⊥
+never-both f m two ends middle =
+    let a = f .low in
+    let b = f .high in
+    let k = m .low in
+    let l = m .high in
+    let differ = two-differ f two in
+    let first-last = crossed a k b l differ (sym (same-ordered a k b l) ∙ ends) in
+    let middle-two = crossed a l b k differ (sym (same-ordered a l b k) ∙ middle) in
+    differ (middle-two .0 ∙ first-last .1)

@@ -1,0 +1,125 @@
+-- The notebook gives the number of different child pairs, for every two parents, also where a pair has its higher number in front: by cases
+-- on which of their four numbers are equal. Assumes nothing.
+use Prim.Native.Nat.{ℕ, _+_}
+use mathlib.Core.Path.{_≡_, refl, sym, _∙_}
+use mathlib.Core.Bool.{Bool, true, false, not, cond, _&&_, _||_}
+use mathlib.Core.List.{[], _∷_}
+use borrow.Author.Tests.{eqb-true, eqb-false, eq-eqb, ne-eqb}
+use lib.Dec.{eqb}
+use lib.ListN.{length}
+use Rattle.lists.specs.Lists.{passing}
+use Rattle.trio_family.specs.declared.pair.Pair.{Pair}
+use Rattle.trio_family.specs.Genotypes.{pair}
+use Rattle.trio_mendel.specs.Mendel.{ordered, distinct, combinations, childPairs}
+use Rattle.trio_mendel.specs.Decision.{carries, alleleCount, sharedCount, pairsMade}
+use Rattle.trio_mendel.proofs.MendelLaws.{same-ordered, counted, four-count}
+
+-- ---- the alleles, as the code counts them
+
+abbrev pub one : Bool → ℕ
+one there = cond there 1 0
+
+pub count-by : (p : Pair) → alleleCount p ≡ cond (eqb (p .low) (p .high)) 1 2
+unfolding alleleCount
+count-by p = go (eqb (p .low) (p .high))
+  where
+    go : (same : Bool) → length (p .low ∷ cond (not same) (p .high ∷ []) []) ≡ cond same 1 2
+    go true = refl
+    go false = refl
+
+-- the father's lower allele, and the higher if it is another
+pub shared-by : (f m : Pair) →
+    sharedCount f m ≡ cond (eqb (f .low) (f .high)) (one (carries m (f .low))) (one (carries m (f .low)) + one (carries m (f .high)))
+unfolding sharedCount
+shared-by f m = go (eqb (f .low) (f .high)) (carries m (f .low)) (carries m (f .high)) refl refl
+  where
+    go : (same low high : Bool) → carries m (f .low) ≡ low → carries m (f .high) ≡ high
+        → length (passing (carries m) (f .low ∷ cond (not same) (f .high ∷ []) [])) ≡ cond same (one low) (one low + one high)
+    go true true high p q = rw p
+    go true false high p q = rw p
+    go false true true p q = rw (p, q)
+    go false true false p q = rw (p, q)
+    go false false true p q = rw (p, q)
+    go false false false p q = rw (p, q)
+
+-- ---- the number of pairs
+
+pub eqb-comm : (a b : ℕ) → eqb a b ≡ eqb b a
+eqb-comm a b = go (eqb b a) refl
+  where
+    go : (t : Bool) → eqb b a ≡ t → eqb a b ≡ t
+    go true e = eq-eqb a b (sym (eqb-true b a e))
+    go false e = ne-eqb a b (λ q. eqb-false b a e (sym q))
+
+-- the father has a and b, the mother k and l
+module _ (a b k l : ℕ) where
+  -- the length of the list, and the notebook's number, by which of the four are equal
+  abbrev listed : Bool → Bool → Bool → Bool → Bool → Bool → ℕ
+  listed ab kl ka la kb lb =
+      counted (((ab && kl) || (la && kb)) || (((ab && true) || (la && lb)) || ((kl || (lb && kb)) || false)))
+      (counted (((ab && true) || (ka && kb)) || (((ab && kl) || (ka && lb)) || false)) (counted ((kl || (la && ka)) || false) 1))
+
+  abbrev noted : Bool → Bool → Bool → Bool → Bool → Bool → ℕ
+  noted ab kl ka la kb lb = pairsMade (cond ab 1 2) (cond kl 1 2) (cond ab (one (ka || la)) (one (ka || la) + one (kb || lb)))
+
+  four-listed : length (distinct (combinations (pair a b) (pair k l)))
+      ≡ listed (eqb a b) (eqb k l) (eqb k a) (eqb l a) (eqb k b) (eqb l b)
+  four-listed =
+      four-count (ordered a k) (ordered a l) (ordered b k) (ordered b l)
+      ∙ rw (
+        same-ordered a k b l,
+        same-ordered a l b l,
+        same-ordered b k b l,
+        same-ordered a k b k,
+        same-ordered a l b k,
+        same-ordered a k a l,
+      )
+      (rw (eq-eqb a a refl, eq-eqb b b refl, eq-eqb k k refl, eq-eqb l l refl, eqb-comm a l, eqb-comm a k, eqb-comm b l, eqb-comm l k))
+
+  agree : (ab kl ka la kb lb : Bool) → eqb a b ≡ ab → eqb k l ≡ kl → eqb k a ≡ ka → eqb l a ≡ la → eqb k b ≡ kb → eqb l b ≡ lb
+      → listed ab kl ka la kb lb ≡ noted ab kl ka la kb lb
+  unfolding pairsMade
+  -- one allele each
+  agree true true true la kb lb p q r s t w = refl
+  agree true true false true kb lb p q r s t w = refl
+  agree true true false false kb lb p q r s t w = refl
+  -- a father of one, a mother of two
+  agree true false true true kb lb p q r s t w = absurd (eqb-false k l q (eqb-true k a r ∙ sym (eqb-true l a s)))
+  agree true false true false kb lb p q r s t w = refl
+  agree true false false true true lb p q r s t w = refl
+  agree true false false true false lb p q r s t w = refl
+  agree true false false false kb lb p q r s t w = refl
+  -- a father of two, a mother of one
+  agree false true true la true lb p q r s t w = absurd (eqb-false a b p (sym (eqb-true k a r) ∙ eqb-true k b t))
+  agree false true true la false true p q r s t w = absurd (eqb-false a b p (sym (eqb-true k a r) ∙ eqb-true k l q ∙ eqb-true l b w))
+  agree false true true true false false p q r s t w = refl
+  agree false true true false false false p q r s t w = refl
+  agree false true false true true lb p q r s t w = absurd (eqb-false a b p (sym (eqb-true l a s) ∙ sym (eqb-true k l q) ∙ eqb-true k b t))
+  agree false true false true false true p q r s t w = absurd (eqb-false a b p (sym (eqb-true l a s) ∙ eqb-true l b w))
+  agree false true false true false false p q r s t w = refl
+  agree false true false false true lb p q r s t w = refl
+  agree false true false false false true p q r s t w = refl
+  agree false true false false false false p q r s t w = refl
+  -- two of each: none of the mother's is both of the father's, nor the other way
+  agree false false true true kb lb p q r s t w = absurd (eqb-false k l q (eqb-true k a r ∙ sym (eqb-true l a s)))
+  agree false false true false true lb p q r s t w = absurd (eqb-false a b p (sym (eqb-true k a r) ∙ eqb-true k b t))
+  agree false false true false false true p q r s t w = refl
+  agree false false true false false false p q r s t w = refl
+  agree false false false true kb true p q r s t w = absurd (eqb-false a b p (sym (eqb-true l a s) ∙ eqb-true l b w))
+  agree false false false true true false p q r s t w = refl
+  agree false false false true false false p q r s t w = refl
+  agree false false false false true true p q r s t w = absurd (eqb-false k l q (eqb-true k b t ∙ sym (eqb-true l b w)))
+  agree false false false false true false p q r s t w = refl
+  agree false false false false false true p q r s t w = refl
+  agree false false false false false false p q r s t w = refl
+
+-- what the notebook says of two parents is how many different pairs they can make
+pub pairs-made : (f m : Pair) → pairsMade (alleleCount f) (alleleCount m) (sharedCount f m) ≡ length (childPairs f m)
+unfolding childPairs
+pairs-made f m =
+    let a = f .low in
+    let b = f .high in
+    let k = m .low in
+    let l = m .high in
+    let by-equalities = agree a b k l (eqb a b) (eqb k l) (eqb k a) (eqb l a) (eqb k b) (eqb l b) refl refl refl refl refl refl in
+    rw (count-by f, count-by m, shared-by f m) (sym (four-listed a b k l ∙ by-equalities))

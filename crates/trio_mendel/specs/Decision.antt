@@ -1,0 +1,71 @@
+-- For the code: how many different pairs two parents can make, by how many alleles each has and how many they share, and whether a child can
+-- be theirs. None of it has to be believed: the notebook counts `childPairs` (`pairs-made`, trio_mendel/proofs/CountLaws.antt), and the test
+-- finds the child among them (`child-among`, ChildLaws.antt beside it). Definitions only (RULES.md, T3; MENDEL.md).
+use Prim.Native.Nat.{ℕ}
+use mathlib.Core.Bool.{Bool, cond, _&&_, _||_}
+use mathlib.Core.List.{List, [], _∷_}
+use lib.Dec.{eqb}
+use lib.ListN.{length}
+use Rattle.lists.specs.Lists.{passing, distinctBy}
+use Rattle.trio_family.specs.declared.pair.Pair.{Pair}
+
+-- T3: the different alleles of a pair, one or two
+abbrev pub alleles : Pair → List ℕ
+alleles p = distinctBy eqb (p .low ∷ p .high ∷ [])
+
+-- T3: how many they are
+unfoldable pub alleleCount : Pair → ℕ
+alleleCount p = length (alleles p)
+
+-- T3: is a one of them?
+abbrev pub carries : Pair → ℕ → Bool
+carries p a = eqb (p .low) a || eqb (p .high) a
+
+-- T3: how many of the father's different alleles the mother has too
+unfoldable pub sharedCount : Pair → Pair → ℕ
+sharedCount f m = length (passing (carries m) (alleles f))
+
+-- T3: a line of the notebook: how many alleles the father has, the mother has, both have; and how many different pairs their child can have
+pub record Line : Type 0 where
+  pub father : ℕ
+  pub mother : ℕ
+  pub shared : ℕ
+  pub pairs : ℕ
+
+abbrev pub line : ℕ → ℕ → ℕ → ℕ → Line
+line f m s d = record { father = f; mother = m; shared = s; pairs = d }
+
+-- T3: the notebook, for any two parents
+abbrev pub notebook : List Line
+notebook =
+    line 1 1 0 1
+    ∷ line 1 1 1 1
+    ∷ line 1 2 0 2
+    ∷ line 1 2 1 2
+    ∷ line 2 1 0 2
+    ∷ line 2 1 1 2
+    ∷ line 2 2 0 4
+    ∷ line 2 2 1 4
+    ∷ line 2 2 2 3
+    ∷ []
+
+-- T3: is the line that of these three counts?
+abbrev pub lineOf : ℕ → ℕ → ℕ → Line → Bool
+lineOf f m s l = eqb f (l .father) && (eqb m (l .mother) && eqb s (l .shared))
+
+-- T3: what the first line of these counts says; 0 where there is none
+abbrev pub pairsBy : ℕ → ℕ → ℕ → List Line → ℕ
+pairsBy f m s [] = 0
+pairsBy f m s (l ∷ ls) = cond (lineOf f m s l) (l .pairs) (pairsBy f m s ls)
+
+-- T3: what the notebook says of three counts
+unfoldable pub pairsMade : ℕ → ℕ → ℕ → ℕ
+pairsMade f m s = pairsBy f m s notebook
+
+-- T3: can a come from the father and b from the mother?
+abbrev pub fromEach : ℕ → ℕ → Pair → Pair → Bool
+fromEach a b f m = carries f a && carries m b
+
+-- T3: has the child one allele from each parent, either way round?
+unfoldable pub inherits : Pair → Pair → Pair → Bool
+inherits c f m = fromEach (c .low) (c .high) f m || fromEach (c .high) (c .low) f m
