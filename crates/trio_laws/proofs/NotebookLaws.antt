@@ -4,7 +4,7 @@
 use Prim.Native.Nat.{ℕ, _+_}
 use mathlib.Core.Path.{_≡_, refl, sym, _∙_}
 use mathlib.Core.Bool.{Bool, true, false, cond, _||_, and-comm, or-comm, false≢true}
-use mathlib.Core.List.{List, [], _∷_, map}
+use mathlib.Core.List.{[], _∷_, map}
 use native.Mathlib.Omega.{arith}
 use borrow.Author.Tests.{eqb-true, eqb-false, eq-eqb}
 use lib.Dec.{eqb}
@@ -14,11 +14,11 @@ use Rattle.kernels.specs.Ln.{lnOf}
 use Rattle.trio_family.specs.declared.pair.Pair.{Pair}
 use Rattle.trio_family.specs.Genotypes.{pair}
 use Rattle.trio_mendel.specs.Mendel.{ordered, samePair, childPairs, mendelTerm}
-use Rattle.trio_mendel.specs.Decision.{carries, alleleCount, sharedCount, Line, line, notebook, lineOf, pairsMade, fromEach, inherits}
+use Rattle.trio_mendel.specs.Decision.{carries, alleleCount, sharedCount, noted, notebook, hasCounts, pairsMade, fromEach, inherits}
 use Rattle.trio_mendel.proofs.MendelLaws.{together, told, eitherWay, same-ordered}
 use Rattle.trio_mendel.proofs.ChildLaws.{child-among}
 use Rattle.trio_mendel.proofs.CountLaws.{one, count-by, shared-by, eqb-comm, pairs-made}
-use Rattle.trio_laws.specs.Couples.{Couple, lineFor, couples}
+use Rattle.trio_laws.specs.Couples.{lineFor, couples}
 
 -- ---- the term, in the notebook's words
 
@@ -39,30 +39,13 @@ equal-strangers c d f m p q = rw (term-by-notebook c f m, term-by-notebook d f m
 
 -- ---- each line has a couple
 
-abbrev lineOfCouple : Couple → Line
-lineOfCouple c = lineFor (c .father) (c .mother)
-
-abbrev pairsOfCouple : Couple → List Pair
-pairsOfCouple c = childPairs (c .father) (c .mother)
-
-pub couples-lines : map lineOfCouple couples ≡ notebook
+pub couples-lines : map (λ c. lineFor (c .father) (c .mother)) couples ≡ notebook
 unfolding alleleCount sharedCount childPairs
 couples-lines = refl
 
--- the pairs that they can make
-pub couples-pairs : map pairsOfCouple couples
-    ≡ (pair 0 1 ∷ [])
-    ∷ (pair 0 0 ∷ [])
-    ∷ (pair 0 1 ∷ pair 0 2 ∷ [])
-    ∷ (pair 0 0 ∷ pair 0 1 ∷ [])
-    ∷ (pair 0 2 ∷ pair 1 2 ∷ [])
-    ∷ (pair 0 0 ∷ pair 0 1 ∷ [])
-    ∷ (pair 0 2 ∷ pair 0 3 ∷ pair 1 2 ∷ pair 1 3 ∷ [])
-    ∷ (pair 0 0 ∷ pair 0 2 ∷ pair 0 1 ∷ pair 1 2 ∷ [])
-    ∷ (pair 0 0 ∷ pair 0 1 ∷ pair 1 1 ∷ [])
-    ∷ []
+pub couples-children : map (λ c. childPairs (c .father) (c .mother)) couples ≡ map (λ c. c .children) couples
 unfolding childPairs
-couples-pairs = refl
+couples-children = refl
 
 -- ---- every couple has one line
 
@@ -74,9 +57,6 @@ module _ (a b k l : ℕ) where
 
   abbrev countBy : Bool → ℕ
   countBy same = cond same 1 2
-
-  abbrev father : Pair
-  father = pair a b
 
   abbrev mother : Pair
   mother = pair k l
@@ -94,8 +74,8 @@ module _ (a b k l : ℕ) where
           go false false e d h = absurd (false≢true h)
 
   one-of-nine : (ab kl low high : Bool) → eqb a b ≡ ab → eqb k l ≡ kl → carries mother a ≡ low → carries mother b ≡ high
-      → passing (lineOf (countBy ab) (countBy kl) (sharedBy ab low high)) notebook
-      ≡ line (countBy ab) (countBy kl) (sharedBy ab low high) (pairsMade (countBy ab) (countBy kl) (sharedBy ab low high)) ∷ []
+      → passing (hasCounts (countBy ab) (countBy kl) (sharedBy ab low high)) notebook
+      ≡ noted (countBy ab) (countBy kl) (sharedBy ab low high) (pairsMade (countBy ab) (countBy kl) (sharedBy ab low high)) ∷ []
   unfolding pairsMade
   one-of-nine true true true high p q r s = refl
   one-of-nine true true false high p q r s = refl
@@ -111,7 +91,7 @@ module _ (a b k l : ℕ) where
   one-of-nine false false false false p q r s = refl
 
 -- of the nine lines exactly one has a couple's counts, and it says how many different pairs the couple can make
-pub one-line : (f m : Pair) → passing (lineOf (alleleCount f) (alleleCount m) (sharedCount f m)) notebook ≡ lineFor f m ∷ []
+pub one-line : (f m : Pair) → passing (hasCounts (alleleCount f) (alleleCount m) (sharedCount f m)) notebook ≡ lineFor f m ∷ []
 one-line f m =
     let a = f .low in
     let b = f .high in

@@ -59,8 +59,8 @@ module _ (a b k l : ℕ) where
       counted (((ab && kl) || (la && kb)) || (((ab && true) || (la && lb)) || ((kl || (lb && kb)) || false)))
       (counted (((ab && true) || (ka && kb)) || (((ab && kl) || (ka && lb)) || false)) (counted ((kl || (la && ka)) || false) 1))
 
-  abbrev noted : Bool → Bool → Bool → Bool → Bool → Bool → ℕ
-  noted ab kl ka la kb lb = pairsMade (cond ab 1 2) (cond kl 1 2) (cond ab (one (ka || la)) (one (ka || la) + one (kb || lb)))
+  abbrev byNotebook : Bool → Bool → Bool → Bool → Bool → Bool → ℕ
+  byNotebook ab kl ka la kb lb = pairsMade (cond ab 1 2) (cond kl 1 2) (cond ab (one (ka || la)) (one (ka || la) + one (kb || lb)))
 
   four-listed : length (distinct (combinations (pair a b) (pair k l)))
       ≡ listed (eqb a b) (eqb k l) (eqb k a) (eqb l a) (eqb k b) (eqb l b)
@@ -77,7 +77,7 @@ module _ (a b k l : ℕ) where
       (rw (eq-eqb a a refl, eq-eqb b b refl, eq-eqb k k refl, eq-eqb l l refl, eqb-comm a l, eqb-comm a k, eqb-comm b l, eqb-comm l k))
 
   agree : (ab kl ka la kb lb : Bool) → eqb a b ≡ ab → eqb k l ≡ kl → eqb k a ≡ ka → eqb l a ≡ la → eqb k b ≡ kb → eqb l b ≡ lb
-      → listed ab kl ka la kb lb ≡ noted ab kl ka la kb lb
+      → listed ab kl ka la kb lb ≡ byNotebook ab kl ka la kb lb
   unfolding pairsMade
   -- one allele each
   agree true true true la kb lb p q r s t w = refl

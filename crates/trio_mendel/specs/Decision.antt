@@ -1,6 +1,6 @@
--- For the code: how many different pairs two parents can make, by how many alleles each has and how many they share, and whether a child can
--- be theirs. None of it has to be believed: the notebook counts `childPairs` (`pairs-made`, trio_mendel/proofs/CountLaws.antt), and the test
--- finds the child among them (`child-among`, ChildLaws.antt beside it). Definitions only (RULES.md, T3; MENDEL.md).
+-- For the code: how many different pairs two parents can make, by how many alleles each has and how many they share, and whether a child
+-- can be theirs. None of it has to be believed: the notebook counts `childPairs` (`pairs-made`, trio_mendel/proofs/CountLaws.antt), and the
+-- test finds the child among them (`child-among`, ChildLaws.antt beside it). Definitions only (RULES.md, T3; MENDEL.md).
 use Prim.Native.Nat.{ℕ}
 use mathlib.Core.Bool.{Bool, cond, _&&_, _||_}
 use mathlib.Core.List.{List, [], _∷_}
@@ -26,37 +26,37 @@ unfoldable pub sharedCount : Pair → Pair → ℕ
 sharedCount f m = length (passing (carries m) (alleles f))
 
 -- T3: a line of the notebook: how many alleles the father has, the mother has, both have; and how many different pairs their child can have
-pub record Line : Type 0 where
+pub record NotebookLine : Type 0 where
   pub father : ℕ
   pub mother : ℕ
   pub shared : ℕ
   pub pairs : ℕ
 
-abbrev pub line : ℕ → ℕ → ℕ → ℕ → Line
-line f m s d = record { father = f; mother = m; shared = s; pairs = d }
+abbrev pub noted : ℕ → ℕ → ℕ → ℕ → NotebookLine
+noted f m s d = record { father = f; mother = m; shared = s; pairs = d }
 
 -- T3: the notebook, for any two parents
-abbrev pub notebook : List Line
+abbrev pub notebook : List NotebookLine
 notebook =
-    line 1 1 0 1
-    ∷ line 1 1 1 1
-    ∷ line 1 2 0 2
-    ∷ line 1 2 1 2
-    ∷ line 2 1 0 2
-    ∷ line 2 1 1 2
-    ∷ line 2 2 0 4
-    ∷ line 2 2 1 4
-    ∷ line 2 2 2 3
+    noted 1 1 0 1
+    ∷ noted 1 1 1 1
+    ∷ noted 1 2 0 2
+    ∷ noted 1 2 1 2
+    ∷ noted 2 1 0 2
+    ∷ noted 2 1 1 2
+    ∷ noted 2 2 0 4
+    ∷ noted 2 2 1 4
+    ∷ noted 2 2 2 3
     ∷ []
 
--- T3: is the line that of these three counts?
-abbrev pub lineOf : ℕ → ℕ → ℕ → Line → Bool
-lineOf f m s l = eqb f (l .father) && (eqb m (l .mother) && eqb s (l .shared))
+-- T3: has a line these three counts?
+abbrev pub hasCounts : ℕ → ℕ → ℕ → NotebookLine → Bool
+hasCounts f m s l = eqb f (l .father) && (eqb m (l .mother) && eqb s (l .shared))
 
 -- T3: what the first line of these counts says; 0 where there is none
-abbrev pub pairsBy : ℕ → ℕ → ℕ → List Line → ℕ
+abbrev pub pairsBy : ℕ → ℕ → ℕ → List NotebookLine → ℕ
 pairsBy f m s [] = 0
-pairsBy f m s (l ∷ ls) = cond (lineOf f m s l) (l .pairs) (pairsBy f m s ls)
+pairsBy f m s (l ∷ ls) = cond (hasCounts f m s l) (l .pairs) (pairsBy f m s ls)
 
 -- T3: what the notebook says of three counts
 unfoldable pub pairsMade : ℕ → ℕ → ℕ → ℕ
