@@ -16,6 +16,7 @@ pub record Couple : Type 0 where
   pub mother : Pair
   pub children : List Pair
 
+-- T3: such a couple
 abbrev couple : Pair → Pair → List Pair → Couple
 couple f m l = record { father = f; mother = m; children = l }
 

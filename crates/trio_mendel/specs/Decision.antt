@@ -1,6 +1,6 @@
 -- For the code: how many different pairs two parents can make, by how many alleles each has and how many they share, and whether a child
--- can be theirs. None of it has to be believed: the notebook counts `childPairs` (`pairs-made`, trio_mendel/proofs/CountLaws.antt), and the
--- test finds the child among them (`child-among`, ChildLaws.antt beside it). Definitions only (RULES.md, T3; MENDEL.md).
+-- can be theirs. No public contract speaks of it: that the notebook counts `childPairs` is proved (`pairs-made`, proofs/CountLaws.antt),
+-- and that the test finds the child among them (`child-among`, proofs/ChildLaws.antt). Definitions only (RULES.md, T3; MENDEL.md).
 use Prim.Native.Nat.{ℕ}
 use mathlib.Core.Bool.{Bool, cond, _&&_, _||_}
 use mathlib.Core.List.{List, [], _∷_}
@@ -32,6 +32,7 @@ pub record NotebookLine : Type 0 where
   pub shared : ℕ
   pub pairs : ℕ
 
+-- T3: such a line
 abbrev pub noted : ℕ → ℕ → ℕ → ℕ → NotebookLine
 noted f m s d = record { father = f; mother = m; shared = s; pairs = d }
 
