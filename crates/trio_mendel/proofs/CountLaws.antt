@@ -16,6 +16,7 @@ use Rattle.trio_mendel.proofs.MendelLaws.{same-ordered, counted, four-c
 
 -- ---- the alleles, as the code counts them
 
+-- one for what is there
 abbrev pub one : Bool → ℕ
 one there = cond there 1 0
 
@@ -53,7 +54,8 @@ eqb-comm a b = go (eqb b a) refl
 
 -- the father has a and b, the mother k and l
 module _ (a b k l : ℕ) where
-  -- the length of the list, and the notebook's number, by which of the four are equal
+  -- by which of the four are equal, `ab` saying whether a is b and so on: the length of the list, one more for each combination that is not
+  -- the same as one before it, and the notebook's number
   abbrev listed : Bool → Bool → Bool → Bool → Bool → Bool → ℕ
   listed ab kl ka la kb lb =
       counted (((ab && kl) || (la && kb)) || (((ab && true) || (la && lb)) || ((kl || (lb && kb)) || false)))
