@@ -1,13 +1,14 @@
 -- What a geneticist may rely on (MENDEL.md; RULES.md, T3): the term is what the notebook and the child's test say, no pair weighs more than
 -- another, each line of the notebook has a couple and every couple one line, and it does not matter which parent is called the father.
 -- Assumes nothing.
-use Prim.Native.Nat.{ℕ, _+_}
+use Prim.Native.Nat.{ℕ, _+_, _<_}
 use mathlib.Core.Path.{_≡_, refl, sym, _∙_}
 use mathlib.Core.Bool.{Bool, true, false, cond, _||_, and-comm, or-comm, false≢true}
 use mathlib.Core.List.{[], _∷_, map}
 use native.Mathlib.Omega.{arith}
 use borrow.Author.Tests.{eqb-true, eqb-false, eq-eqb}
 use lib.Dec.{eqb}
+use lib.ListN.{length}
 use Rattle.lists.specs.Lists.{passing}
 use Rattle.floats.specs.F64.{_⊘_, nat, decimal}
 use Rattle.kernels.specs.Ln.{lnOf}
@@ -15,9 +16,9 @@ use Rattle.trio_family.specs.declared.pair.Pair.{Pair}
 use Rattle.trio_family.specs.Genotypes.{pair}
 use Rattle.trio_mendel.specs.Mendel.{ordered, samePair, childPairs, mendelTerm}
 use Rattle.trio_mendel.specs.Decision.{carries, alleleCount, sharedCount, noted, notebook, hasCounts, pairsMade, fromEach, inherits}
-use Rattle.trio_mendel.proofs.MendelLaws.{together, told, eitherWay, same-ordered}
+use Rattle.trio_mendel.proofs.MendelLaws.{together, together-is, matchedPairs, same-ordered}
 use Rattle.trio_mendel.proofs.ChildLaws.{child-among}
-use Rattle.trio_mendel.proofs.CountLaws.{one, count-by, shared-by, eqb-comm, pairs-made}
+use Rattle.trio_mendel.proofs.CountLaws.{oneIf, countBy, sharedBy, count-by, shared-by, eqb-comm, pairs-made}
 use Rattle.trio_laws.specs.Couples.{lineFor, couples}
 
 -- ---- the term, in the notebook's words
@@ -51,19 +52,12 @@ couples-children = refl
 
 -- the father has a and b, the mother k and l
 module _ (a b k l : ℕ) where
-  -- the counts by which of the four are equal
-  abbrev sharedBy : Bool → Bool → Bool → ℕ
-  sharedBy same low high = cond same (one low) (one low + one high)
-
-  abbrev countBy : Bool → ℕ
-  countBy same = cond same 1 2
-
   abbrev mother : Pair
   mother = pair k l
 
   -- a mother of one allele has not both of a father's two
-  only-one : eqb a b ≡ false → eqb k l ≡ true → carries mother a ≡ true → carries mother b ≡ true → ⊥
-  only-one p q low high = eqb-false a b p (has a low ∙ sym (has b high))
+  one-allele-only : eqb a b ≡ false → eqb k l ≡ true → carries mother a ≡ true → carries mother b ≡ true → ⊥
+  one-allele-only p q low high = eqb-false a b p (has a low ∙ sym (has b high))
     where
       has : (x : ℕ) → carries mother x ≡ true → x ≡ k
       has x h = go (eqb k x) (eqb l x) refl refl h
@@ -81,7 +75,7 @@ module _ (a b k l : ℕ) where
   one-of-nine true true false high p q r s = refl
   one-of-nine true false true high p q r s = refl
   one-of-nine true false false high p q r s = refl
-  one-of-nine false true true true p q r s = absurd (only-one p q r s)
+  one-of-nine false true true true p q r s = absurd (one-allele-only p q r s)
   one-of-nine false true true false p q r s = refl
   one-of-nine false true false true p q r s = refl
   one-of-nine false true false false p q r s = refl
@@ -101,12 +95,11 @@ one-line f m =
 -- ---- which parent is called the father makes no difference
 
 -- an allele that a parent has is one of its different alleles, and one alone
-one-carried : (p : Pair) (x : ℕ) → let low = one (eqb (p .low) x) in
-    one (carries p x) ≡ cond (eqb (p .low) (p .high)) low (low + one (eqb (p .high) x))
+one-carried : (p : Pair) (x : ℕ) → oneIf (carries p x) ≡ sharedBy (eqb (p .low) (p .high)) (eqb (p .low) x) (eqb (p .high) x)
 one-carried p x = go (eqb (p .low) (p .high)) (eqb (p .low) x) (eqb (p .high) x) refl refl refl
   where
     go : (same low high : Bool) → eqb (p .low) (p .high) ≡ same → eqb (p .low) x ≡ low → eqb (p .high) x ≡ high
-        → one (low || high) ≡ cond same (one low) (one low + one high)
+        → oneIf (low || high) ≡ sharedBy same low high
     go true true high e d h = refl
     go true false true e d h = absurd (eqb-false (p .low) x d (eqb-true (p .low) (p .high) e ∙ eqb-true (p .high) x h))
     go true false false e d h = refl
@@ -124,7 +117,7 @@ shared-both-ways f m =
     let l = m .high in
     rw (shared-by f m, shared-by m f, one-carried m a, one-carried m b, one-carried f k, one-carried f l)
     (rw (eqb-comm a k, eqb-comm a l, eqb-comm b k, eqb-comm b l)
-    (go (eqb a b) (eqb k l) (one (eqb k a)) (one (eqb l a)) (one (eqb k b)) (one (eqb l b))))
+    (go (eqb a b) (eqb k l) (oneIf (eqb k a)) (oneIf (eqb l a)) (oneIf (eqb k b)) (oneIf (eqb l b))))
   where
     go : (ab kl : Bool) (ka la kb lb : ℕ) →
         cond ab (cond kl ka (ka + la)) (cond kl ka (ka + la) + cond kl kb (kb + lb))
@@ -138,7 +131,7 @@ pairs-exchanged : (f m : Pair) (s : ℕ) → pairsMade (alleleCount f) (alleleCo
 unfolding pairsMade
 pairs-exchanged f m s = rw (count-by f, count-by m) (go (eqb (f .low) (f .high)) (eqb (m .low) (m .high)))
   where
-    go : (x y : Bool) → pairsMade (cond x 1 2) (cond y 1 2) s ≡ pairsMade (cond y 1 2) (cond x 1 2) s
+    go : (x y : Bool) → pairsMade (countBy x) (countBy y) s ≡ pairsMade (countBy y) (countBy x) s
     go true true = refl
     go true false = refl
     go false true = refl
@@ -150,30 +143,31 @@ inherits-exchanged c f m =
     rw (and-comm (carries f (c .low)) (carries m (c .high)), and-comm (carries f (c .high)) (carries m (c .low)))
     (or-comm (fromEach (c .high) (c .low) m f) (fromEach (c .low) (c .high) m f))
 
-pub parents-exchanged : (c f m : Pair) → mendelTerm c f m ≡ mendelTerm c m f
-parents-exchanged c f m =
-    rw (
-      term-by-notebook c f m,
-      term-by-notebook c m f,
-      inherits-exchanged c f m,
-      shared-both-ways f m,
-      pairs-exchanged f m (sharedCount m f),
-    )
+-- they make as many pairs
+pub count-exchanged : (f m : Pair) → length (childPairs f m) ≡ length (childPairs m f)
+count-exchanged f m = rw (← pairs-made f m, ← pairs-made m f, shared-both-ways f m) (pairs-exchanged f m (sharedCount m f))
 
--- ---- why two alike heterozygous parents make three pairs and not two
+-- and the term is the same
+pub parents-exchanged : (c f m : Pair) → mendelTerm c f m ≡ mendelTerm c m f
+unfolding mendelTerm
+parents-exchanged c f m =
+    rw (child-among c f m, child-among c m f, inherits-exchanged c f m, count-exchanged f m)
+
+-- ---- which of the four combinations can be the same; of one row or one column see `same-row` and `same-column`
+-- (trio_mendel/proofs/MendelLaws.antt)
 
 -- two pairs that are the same, and their first numbers are not: they match crosswise
-crossed : (x y u v : ℕ) → (x ≡ u → ⊥) → eitherWay x y u v ≡ true → (x ≡ v) × (y ≡ u)
-crossed x y u v other = go (together x u y v) refl
+match-crosswise : (x y u v : ℕ) → (x ≡ u → ⊥) → matchedPairs x y u v ≡ true → (x ≡ v) × (y ≡ u)
+match-crosswise x y u v other = go (together x u y v) refl
   where
     go : (straight : Bool) → together x u y v ≡ straight → (straight || together x v y u) ≡ true → (x ≡ v) × (y ≡ u)
-    go true e h = absurd (other (told x u y v e .0))
-    go false e h = told x v y u h
+    go true e h = absurd (other (together-is x u y v e .0))
+    go false e h = together-is x v y u h
 
 two-differ : (p : Pair) → alleleCount p ≡ 2 → p .low ≡ p .high → ⊥
 two-differ p two e = let h : _≡_ {A = ℕ} 1 2 = rw (eq-eqb (p .low) (p .high) e) at (sym (count-by p) ∙ two) in omega arith
 
--- a father of two alleles: of the four combinations the first and the last can be the same, or the middle two, and never both
+-- a father of two alleles: the first and the last of the four combinations are not the same, or the middle two are not
 pub never-both : (f m : Pair) → alleleCount f ≡ 2
     → samePair (ordered (f .low) (m .low)) (ordered (f .high) (m .high)) ≡ true
     → samePair (ordered (f .low) (m .high)) (ordered (f .high) (m .low)) ≡ true
@@ -184,6 +178,17 @@ never-both f m two ends middle =
     let k = m .low in
     let l = m .high in
     let differ = two-differ f two in
-    let first-last = crossed a k b l differ (sym (same-ordered a k b l) ∙ ends) in
-    let middle-two = crossed a l b k differ (sym (same-ordered a l b k) ∙ middle) in
+    let first-last = match-crosswise a k b l differ (sym (same-ordered a k b l) ∙ ends) in
+    let middle-two = match-crosswise a l b k differ (sym (same-ordered a l b k) ∙ middle) in
     differ (middle-two .0 ∙ first-last .1)
+
+-- where both parents are written lower number first the first and the last differ
+pub ends-differ : (f m : Pair) → f .low < f .high → m .low < m .high
+    → samePair (ordered (f .low) (m .low)) (ordered (f .high) (m .high)) ≡ true → ⊥
+ends-differ f m p q ends =
+    let a = f .low in
+    let b = f .high in
+    let k = m .low in
+    let l = m .high in
+    let first-last = match-crosswise a k b l (λ e. omega arith) (sym (same-ordered a k b l) ∙ ends) in
+    omega arith

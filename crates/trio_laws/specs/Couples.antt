@@ -16,7 +16,7 @@ pub record Couple : Type 0 where
   pub mother : Pair
   pub children : List Pair
 
--- T3: such a couple
+-- T3: a couple, in this order
 abbrev couple : Pair → Pair → List Pair → Couple
 couple f m l = record { father = f; mother = m; children = l }
 

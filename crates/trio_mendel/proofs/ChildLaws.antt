@@ -1,14 +1,12 @@
--- The test of the child tells whether its pair is among those that its parents can make, for every child and every two parents, also where a
--- pair has its higher number in front. Assumes nothing.
-use Prim.Native.Nat.{ℕ}
+-- The test of the child tells whether its pair is among those that its parents can make, for every child and every two parents, also where
+-- a pair has its higher number in front. Assumes nothing.
 use mathlib.Core.Path.{_≡_, refl, ap, _∙_}
 use mathlib.Core.Bool.{Bool, true, false, _&&_, _||_, or-false}
 use lib.Dec.{eqb}
 use Rattle.trio_family.specs.declared.pair.Pair.{Pair}
-use Rattle.trio_family.specs.Genotypes.{pair}
 use Rattle.trio_mendel.specs.Mendel.{ordered, among, combinations, childPairs}
 use Rattle.trio_mendel.specs.Decision.{inherits}
-use Rattle.trio_mendel.proofs.MendelLaws.{together, eitherWay, same-ordered, distinct-same}
+use Rattle.trio_mendel.proofs.MendelLaws.{together, matchedPairs, same-ordered, distinct-same}
 
 -- an `or` of two `or`s, by columns
 columns : (p q r s : Bool) → ((p || q) || (r || s)) ≡ ((p || r) || (q || s))
@@ -35,12 +33,17 @@ one-each true false false false = refl
 one-each false true c d = refl
 one-each false false c d = refl
 
--- the child has u and v, the father a and b, the mother k and l
-among-four : (u v a b k l : ℕ) →
-    among (ordered u v) (combinations (pair a b) (pair k l)) ≡ inherits (pair u v) (pair a b) (pair k l)
+-- a child's pair is one of the four combinations exactly when it has one allele from each parent, either way round
+pub child-combined : (c f m : Pair) → among (ordered (c .low) (c .high)) (combinations f m) ≡ inherits c f m
 unfolding inherits
-among-four u v a b k l =
-    rw (same-ordered a k u v, same-ordered a l u v, same-ordered b k u v, same-ordered b l u v, or-false (eitherWay b l u v))
+child-combined c f m =
+    let u = c .low in
+    let v = c .high in
+    let a = f .low in
+    let b = f .high in
+    let k = m .low in
+    let l = m .high in
+    rw (same-ordered a k u v, same-ordered a l u v, same-ordered b k u v, same-ordered b l u v, or-false (matchedPairs b l u v))
     (four-columns
     (together a u k v) (together a v k u)
     (together a u l v) (together a v l u)
@@ -48,9 +51,7 @@ among-four u v a b k l =
     (together b u l v) (together b v l u)
     ∙ rw (one-each (eqb a u) (eqb b u) (eqb k v) (eqb l v), one-each (eqb a v) (eqb b v) (eqb k u) (eqb l u)))
 
--- a child's pair is one that its parents can make exactly when it has one allele from each, either way round
+-- and so it is one of the different pairs
 pub child-among : (c f m : Pair) → among (ordered (c .low) (c .high)) (childPairs f m) ≡ inherits c f m
 unfolding childPairs
-child-among c f m =
-    distinct-same (ordered (c .low) (c .high)) (combinations f m)
-    ∙ among-four (c .low) (c .high) (f .low) (f .high) (m .low) (m .high)
+child-among c f m = distinct-same (ordered (c .low) (c .high)) (combinations f m) ∙ child-combined c f m

@@ -12,30 +12,36 @@ use Rattle.trio_family.specs.declared.pair.Pair.{Pair}
 use Rattle.trio_family.specs.Genotypes.{pair}
 use Rattle.trio_mendel.specs.Mendel.{ordered, distinct, combinations, childPairs}
 use Rattle.trio_mendel.specs.Decision.{carries, alleleCount, sharedCount, pairsMade}
-use Rattle.trio_mendel.proofs.MendelLaws.{same-ordered, counted, four-count}
+use Rattle.trio_mendel.proofs.MendelLaws.{same-ordered, same-row, same-column, oneMoreUnless, four-count}
 
 -- ---- the alleles, as the code counts them
 
 -- one for what is there
-abbrev pub one : Bool → ℕ
-one there = cond there 1 0
+abbrev pub oneIf : Bool → ℕ
+oneIf there = cond there 1 0
 
-pub count-by : (p : Pair) → alleleCount p ≡ cond (eqb (p .low) (p .high)) 1 2
+-- the alleles of a pair, by whether its two numbers are the same
+abbrev pub countBy : Bool → ℕ
+countBy same = cond same 1 2
+
+-- how many of them somebody else has, by whether he has the lower and the higher
+abbrev pub sharedBy : Bool → Bool → Bool → ℕ
+sharedBy same low high = cond same (oneIf low) (oneIf low + oneIf high)
+
+pub count-by : (p : Pair) → alleleCount p ≡ countBy (eqb (p .low) (p .high))
 unfolding alleleCount
 count-by p = go (eqb (p .low) (p .high))
   where
-    go : (same : Bool) → length (p .low ∷ cond (not same) (p .high ∷ []) []) ≡ cond same 1 2
+    go : (same : Bool) → length (p .low ∷ cond (not same) (p .high ∷ []) []) ≡ countBy same
     go true = refl
     go false = refl
 
--- the father's lower allele, and the higher if it is another
-pub shared-by : (f m : Pair) →
-    sharedCount f m ≡ cond (eqb (f .low) (f .high)) (one (carries m (f .low))) (one (carries m (f .low)) + one (carries m (f .high)))
+pub shared-by : (f m : Pair) → sharedCount f m ≡ sharedBy (eqb (f .low) (f .high)) (carries m (f .low)) (carries m (f .high))
 unfolding sharedCount
 shared-by f m = go (eqb (f .low) (f .high)) (carries m (f .low)) (carries m (f .high)) refl refl
   where
     go : (same low high : Bool) → carries m (f .low) ≡ low → carries m (f .high) ≡ high
-        → length (passing (carries m) (f .low ∷ cond (not same) (f .high ∷ []) [])) ≡ cond same (one low) (one low + one high)
+        → length (passing (carries m) (f .low ∷ cond (not same) (f .high ∷ []) [])) ≡ sharedBy same low high
     go true true high p q = rw p
     go true false high p q = rw p
     go false true true p q = rw (p, q)
@@ -45,6 +51,7 @@ shared-by f m = go (eqb (f .low) (f .high)) (carries m (f .low)) (carries m (f .
 
 -- ---- the number of pairs
 
+-- the test of two numbers, either way round
 pub eqb-comm : (a b : ℕ) → eqb a b ≡ eqb b a
 eqb-comm a b = go (eqb b a) refl
   where
@@ -56,30 +63,24 @@ eqb-comm a b = go (eqb b a) refl
 module _ (a b k l : ℕ) where
   -- by which of the four are equal, `ab` saying whether a is b and so on: the length of the list, one more for each combination that is not
   -- the same as one before it, and the notebook's number
-  abbrev listed : Bool → Bool → Bool → Bool → Bool → Bool → ℕ
-  listed ab kl ka la kb lb =
-      counted (((ab && kl) || (la && kb)) || (((ab && true) || (la && lb)) || ((kl || (lb && kb)) || false)))
-      (counted (((ab && true) || (ka && kb)) || (((ab && kl) || (ka && lb)) || false)) (counted ((kl || (la && ka)) || false) 1))
+  abbrev byList : Bool → Bool → Bool → Bool → Bool → Bool → ℕ
+  byList ab kl ka la kb lb =
+      let ends = (ab && kl) || (la && kb) in
+      let middle = (ab && kl) || (ka && lb) in
+      oneMoreUnless (ends || (ab || (kl || false))) (oneMoreUnless (ab || (middle || false)) (oneMoreUnless (kl || false) 1))
 
   abbrev byNotebook : Bool → Bool → Bool → Bool → Bool → Bool → ℕ
-  byNotebook ab kl ka la kb lb = pairsMade (cond ab 1 2) (cond kl 1 2) (cond ab (one (ka || la)) (one (ka || la) + one (kb || lb)))
+  byNotebook ab kl ka la kb lb = pairsMade (countBy ab) (countBy kl) (sharedBy ab (ka || la) (kb || lb))
 
-  four-listed : length (distinct (combinations (pair a b) (pair k l)))
-      ≡ listed (eqb a b) (eqb k l) (eqb k a) (eqb l a) (eqb k b) (eqb l b)
-  four-listed =
+  four-by-list : length (distinct (combinations (pair a b) (pair k l)))
+      ≡ byList (eqb a b) (eqb k l) (eqb k a) (eqb l a) (eqb k b) (eqb l b)
+  four-by-list =
       four-count (ordered a k) (ordered a l) (ordered b k) (ordered b l)
-      ∙ rw (
-        same-ordered a k b l,
-        same-ordered a l b l,
-        same-ordered b k b l,
-        same-ordered a k b k,
-        same-ordered a l b k,
-        same-ordered a k a l,
-      )
-      (rw (eq-eqb a a refl, eq-eqb b b refl, eq-eqb k k refl, eq-eqb l l refl, eqb-comm a l, eqb-comm a k, eqb-comm b l, eqb-comm l k))
+      ∙ rw (same-ordered a k b l, same-column a b l, same-row b k l, same-column a b k, same-ordered a l b k, same-row a k l)
+      (rw (eqb-comm a l, eqb-comm a k, eqb-comm l k))
 
   agree : (ab kl ka la kb lb : Bool) → eqb a b ≡ ab → eqb k l ≡ kl → eqb k a ≡ ka → eqb l a ≡ la → eqb k b ≡ kb → eqb l b ≡ lb
-      → listed ab kl ka la kb lb ≡ byNotebook ab kl ka la kb lb
+      → byList ab kl ka la kb lb ≡ byNotebook ab kl ka la kb lb
   unfolding pairsMade
   -- one allele each
   agree true true true la kb lb p q r s t w = refl
@@ -124,4 +125,4 @@ pairs-made f m =
     let k = m .low in
     let l = m .high in
     let by-equalities = agree a b k l (eqb a b) (eqb k l) (eqb k a) (eqb l a) (eqb k b) (eqb l b) refl refl refl refl refl refl in
-    rw (count-by f, count-by m, shared-by f m) (sym (four-listed a b k l ∙ by-equalities))
+    rw (count-by f, count-by m, shared-by f m) (sym (four-by-list a b k l ∙ by-equalities))

@@ -1,7 +1,7 @@
 -- Pairs: when two are the same; what is among the different ones of a list, and how many they are. Assumes nothing.
 use Prim.Native.Nat.{ℕ, suc}
 use mathlib.Core.Path.{_≡_, refl, sym, ap, _∙_}
-use mathlib.Core.Bool.{Bool, true, false, not, cond, _&&_, _||_, and-comm, and-eq-true-iff}
+use mathlib.Core.Bool.{Bool, true, false, not, cond, _&&_, _||_, and-comm, and-true, and-eq-true-iff}
 use mathlib.Core.List.{List, [], _∷_, _++_, append-nil}
 use native.Mathlib.Omega.{arith}
 use borrow.Author.Tests.{eqb-true, eq-eqb, leb-true, leb-false}
@@ -35,18 +35,18 @@ or-right false t h = refl
 abbrev pub together : ℕ → ℕ → ℕ → ℕ → Bool
 together x u y v = eqb x u && eqb y v
 
-pub told : (x u y v : ℕ) → together x u y v ≡ true → (x ≡ u) × (y ≡ v)
-told x u y v h =
+pub together-is : (x u y v : ℕ) → together x u y v ≡ true → (x ≡ u) × (y ≡ v)
+together-is x u y v h =
     let parts = and-eq-true-iff (eqb x u) (eqb y v) .0 h in
     (eqb-true x u (parts .0), eqb-true y v (parts .1))
 
-holds : (x u y v : ℕ) → x ≡ u → y ≡ v → together x u y v ≡ true
-holds x u y v p q = rw (eq-eqb x u p, eq-eqb y v q)
+is-together : (x u y v : ℕ) → x ≡ u → y ≡ v → together x u y v ≡ true
+is-together x u y v p q = rw (eq-eqb x u p, eq-eqb y v q)
 
-abbrev pub eitherWay : ℕ → ℕ → ℕ → ℕ → Bool
-eitherWay x y u v = together x u y v || together x v y u
+abbrev pub matchedPairs : ℕ → ℕ → ℕ → ℕ → Bool
+matchedPairs x y u v = together x u y v || together x v y u
 
-pub same-ordered : (x y u v : ℕ) → samePair (ordered x y) (ordered u v) ≡ eitherWay x y u v
+pub same-ordered : (x y u v : ℕ) → samePair (ordered x y) (ordered u v) ≡ matchedPairs x y u v
 same-ordered x y u v = go (leb x y) (leb u v) refl refl
   where
     straight : Bool
@@ -56,21 +56,51 @@ same-ordered x y u v = go (leb x y) (leb u v) refl refl
     crossed = together x v y u
 
     go : (b c : Bool) → leb x y ≡ b → leb u v ≡ c
-        → samePair (cond b (pair x y) (pair y x)) (cond c (pair u v) (pair v u)) ≡ eitherWay x y u v
+        → samePair (cond b (pair x y) (pair y x)) (cond c (pair u v) (pair v u)) ≡ matchedPairs x y u v
     go true true p q =
         or-left straight crossed
-        (λ h. let e = told x v y u h in let l = leb-true x y p in let k = leb-true u v q in holds x u y v (omega arith) (omega arith))
+        (λ h.
+        let e = together-is x v y u h in
+        let l = leb-true x y p in
+        let k = leb-true u v q in
+        is-together x u y v (omega arith) (omega arith))
     go true false p q =
         or-right straight crossed
-        (λ h. let e = told x u y v h in let l = leb-true x y p in let k = leb-false u v q in holds x v y u (omega arith) (omega arith))
+        (λ h.
+        let e = together-is x u y v h in
+        let l = leb-true x y p in
+        let k = leb-false u v q in
+        is-together x v y u (omega arith) (omega arith))
     go false true p q =
         and-comm (eqb y u) (eqb x v)
         ∙ or-right straight crossed
-        (λ h. let e = told x u y v h in let l = leb-false x y p in let k = leb-true u v q in holds x v y u (omega arith) (omega arith))
+        (λ h.
+        let e = together-is x u y v h in
+        let l = leb-false x y p in
+        let k = leb-true u v q in
+        is-together x v y u (omega arith) (omega arith))
     go false false p q =
         and-comm (eqb y v) (eqb x u)
         ∙ or-left straight crossed
-        (λ h. let e = told x v y u h in let l = leb-false x y p in let k = leb-false u v q in holds x u y v (omega arith) (omega arith))
+        (λ h.
+        let e = together-is x v y u h in
+        let l = leb-false x y p in
+        let k = leb-false u v q in
+        is-together x u y v (omega arith) (omega arith))
+
+-- two combinations with one allele of the father, exactly when the mother's two are one
+pub same-row : (a k l : ℕ) → samePair (ordered a k) (ordered a l) ≡ eqb k l
+same-row a k l =
+    same-ordered a k a l
+    ∙ rw (eq-eqb a a refl)
+    (sym (or-left (eqb k l) (together a l k a) (λ h. let e = together-is a l k a h in eq-eqb k l (e .1 ∙ e .0))))
+
+-- two with one allele of the mother, exactly when the father's two are one
+pub same-column : (a b k : ℕ) → samePair (ordered a k) (ordered b k) ≡ eqb a b
+same-column a b k =
+    same-ordered a k b k
+    ∙ rw (eq-eqb k k refl, and-true (eqb a b))
+    (sym (or-left (eqb a b) (together a k k b) (λ h. let e = together-is a k k b h in eq-eqb a b (e .0 ∙ e .1))))
 
 -- ---- lists of pairs in which each stands once
 
@@ -124,21 +154,21 @@ distinct-more (q ∷ l) p =
 -- ---- how many
 
 -- one more pair counts unless it is among those before it
-abbrev pub counted : Bool → ℕ → ℕ
-counted there n = cond there n (suc n)
+abbrev pub oneMoreUnless : Bool → ℕ → ℕ
+oneMoreUnless there n = cond there n (suc n)
 
-length-more : (l : List Pair) (there : Bool) (p : Pair) → length (l ++ unlessThere there p) ≡ counted there (length l)
+length-more : (l : List Pair) (there : Bool) (p : Pair) → length (l ++ unlessThere there p) ≡ oneMoreUnless there (length l)
 length-more l true p = ap length (append-nil l)
 length-more l false p = omega (arith, length-append l (p ∷ []))
 
-count-more : (l : List Pair) (p : Pair) → length (distinct (l ++ (p ∷ []))) ≡ counted (among p l) (length (distinct l))
+count-more : (l : List Pair) (p : Pair) → length (distinct (l ++ (p ∷ []))) ≡ oneMoreUnless (among p l) (length (distinct l))
 count-more l p = ap length (distinct-more l p) ∙ length-more (distinct l) (among p l) p
 
 -- of four pairs
 pub four-count : (p q r s : Pair) →
     length (distinct (p ∷ q ∷ r ∷ s ∷ []))
-    ≡ counted (among s (p ∷ q ∷ r ∷ [])) (counted (among r (p ∷ q ∷ [])) (counted (among q (p ∷ [])) 1))
+    ≡ oneMoreUnless (among s (p ∷ q ∷ r ∷ [])) (oneMoreUnless (among r (p ∷ q ∷ [])) (oneMoreUnless (among q (p ∷ [])) 1))
 four-count p q r s =
     count-more (p ∷ q ∷ r ∷ []) s
-    ∙ ap (counted (among s (p ∷ q ∷ r ∷ [])))
-    (count-more (p ∷ q ∷ []) r ∙ ap (counted (among r (p ∷ q ∷ []))) (count-more (p ∷ []) q))
+    ∙ ap (oneMoreUnless (among s (p ∷ q ∷ r ∷ [])))
+    (count-more (p ∷ q ∷ []) r ∙ ap (oneMoreUnless (among r (p ∷ q ∷ []))) (count-more (p ∷ []) q))

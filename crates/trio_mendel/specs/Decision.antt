@@ -17,7 +17,7 @@ alleles p = distinctBy eqb (p .low ∷ p .high ∷ [])
 unfoldable pub alleleCount : Pair → ℕ
 alleleCount p = length (alleles p)
 
--- T3: is a one of them?
+-- T3: is the number a one of them?
 abbrev pub carries : Pair → ℕ → Bool
 carries p a = eqb (p .low) a || eqb (p .high) a
 
@@ -27,14 +27,14 @@ sharedCount f m = length (passing (carries m) (alleles f))
 
 -- T3: a line of the notebook: how many alleles the father has, the mother has, both have; and how many different pairs their child can have
 pub record NotebookLine : Type 0 where
-  pub father : ℕ
-  pub mother : ℕ
+  pub father-alleles : ℕ
+  pub mother-alleles : ℕ
   pub shared : ℕ
   pub pairs : ℕ
 
--- T3: such a line
+-- T3: a line, its four numbers in this order
 abbrev pub noted : ℕ → ℕ → ℕ → ℕ → NotebookLine
-noted f m s d = record { father = f; mother = m; shared = s; pairs = d }
+noted f m s d = record { father-alleles = f; mother-alleles = m; shared = s; pairs = d }
 
 -- T3: the notebook, for any two parents
 abbrev pub notebook : List NotebookLine
@@ -52,7 +52,7 @@ notebook =
 
 -- T3: has a line these three counts?
 abbrev pub hasCounts : ℕ → ℕ → ℕ → NotebookLine → Bool
-hasCounts f m s l = eqb f (l .father) && (eqb m (l .mother) && eqb s (l .shared))
+hasCounts f m s l = eqb f (l .father-alleles) && (eqb m (l .mother-alleles) && eqb s (l .shared))
 
 -- T3: what the first line of these counts says; 0 where there is none
 abbrev pub pairsBy : ℕ → ℕ → ℕ → List NotebookLine → ℕ

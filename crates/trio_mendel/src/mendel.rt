@@ -20,10 +20,7 @@ fn allele_count(p: Pair) -> u32
 fn carries(p: Pair, allele: u64) -> bool
     ensures { λ r. ⌜ r ≡ carries p allele ⌝ }
 {
-    if p.low == allele {
-        return true;
-    }
-    p.high == allele
+    p.low == allele || p.high == allele
 }
 
 // How many of the father's different alleles the mother has too: an allele that he has twice counts once.
@@ -37,13 +34,13 @@ fn shared_count(father: Pair, mother: Pair) -> u32
     low + carries(mother, father.high) as u32
 }
 
-// How many different pairs a child can have, by how many alleles each parent has and how many of them they share.
-// No parents have any other counts than those of the notebook: such arms answer 0.
-fn pairs_made(father: u32, mother: u32, shared: u32) -> u32
-    ensures { λ r. ⌜ r ≡ pairsMade father mother shared ⌝ }
+// How many different pairs a child can have, by how many alleles each parent has and how many of them they share: an arm for each line of
+// the notebook. No parents have any other counts; those arms answer 0.
+fn pairs_made(father_alleles: u32, mother_alleles: u32, shared: u32) -> u32
+    ensures { λ r. ⌜ r ≡ pairsMade «father_alleles» «mother_alleles» shared ⌝ }
 {
-    match father {
-        1 => match mother {
+    match father_alleles {
+        1 => match mother_alleles {
             1 => match shared {
                 0 => 1,
                 1 => 1,
@@ -56,7 +53,7 @@ fn pairs_made(father: u32, mother: u32, shared: u32) -> u32
             },
             _ => 0,
         },
-        2 => match mother {
+        2 => match mother_alleles {
             1 => match shared {
                 0 => 2,
                 1 => 2,
@@ -74,7 +71,7 @@ fn pairs_made(father: u32, mother: u32, shared: u32) -> u32
     }
 }
 
-// How many different pairs a child of these parents can have.
+// `distinct_pairs` as a u32, of which every number is an f64.
 fn child_pair_count(father: Pair, mother: Pair) -> u32
     ensures { λ r. ⌜ r ≡ length (childPairs father mother) ⌝ }
 {
@@ -89,20 +86,15 @@ fn child_pair_count(father: Pair, mother: Pair) -> u32
 fn from_each(a: u64, b: u64, father: Pair, mother: Pair) -> bool
     ensures { λ r. ⌜ r ≡ fromEach a b father mother ⌝ }
 {
-    if carries(father, a) {
-        return carries(mother, b);
-    }
-    false
+    carries(father, a) && carries(mother, b)
 }
 
 // Has the child one allele from each parent, either way round?
 fn inherits(child: Pair, father: Pair, mother: Pair) -> bool
     ensures { λ r. ⌜ r ≡ inherits child father mother ⌝ }
 {
-    if from_each(child.low, child.high, father, mother) {
-        return true;
-    }
-    from_each(child.high, child.low, father, mother)
+    from_each(child.low, child.high, father, mother)
+        || from_each(child.high, child.low, father, mother)
 }
 
 // How many different pairs a child of these parents can have.

@@ -25,7 +25,7 @@ returns-2 c =
     let asked = c .before in
     let args = asked .before .args in
     let there : carries (args .father) (args .a) ≡ false = sym (asked .carries .ensures) ∙ c .if1 .left in
-    rw there
+    rw (there, c .if1 .left)
 
 pub from-each-spec : {M : Type 1} → statement M
 from-each-spec = tie.close (tie.spec carries-requires carries-requires-2 returns returns-2)

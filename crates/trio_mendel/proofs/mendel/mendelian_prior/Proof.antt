@@ -10,10 +10,9 @@ use Rattle.trio_mendel.proofs.mendel.mendelian_prior.Tie as tie
 inherits-requires : tie.Need-inherits-requires
 inherits-requires c κs = search needs
 
--- what the test tells
-told : (c : tie.After-inherits) → let a = c .before .args in
+test-tells : (c : tie.After-inherits) → let a = c .before .args in
     among (ordered (a .child .low) (a .child .high)) (childPairs (a .father) (a .mother)) ≡ c .inherits .result
-told c = let a = c .before .args in child-among (a .child) (a .father) (a .mother) ∙ sym (c .inherits .ensures)
+test-tells c = let a = c .before .args in child-among (a .child) (a .father) (a .mother) ∙ sym (c .inherits .ensures)
 
 child-pair-count-requires : tie.Need-child-pair-count-requires
 child-pair-count-requires c κs = search needs
@@ -27,16 +26,17 @@ ln-requires c κs = search needs
 returns : tie.Need-returns
 unfolding mendelTerm round ofInt ofBits
 returns c =
-    let counted = c .before .before in
-    let tested = counted .before in
-    rw (told (tested .before) ∙ tested .if1 .taken, ← counted .child-pair-count .ensures) (c .ln .ensures)
+    let turned = c .before in
+    let count = turned .before in
+    let tested = count .before in
+    rw (test-tells (tested .before) ∙ tested .if1 .taken, ← count .child-pair-count .ensures) (c .ln .ensures)
 
 ln-requires-2 : tie.Need-ln-requires-2
 ln-requires-2 c κs = search needs
 
 returns-2 : tie.Need-returns-2
 unfolding mendelTerm round ofInt ofBits
-returns-2 c = let tested = c .before in rw (told (tested .before) ∙ tested .if1 .left) (c .ln2 .ensures)
+returns-2 c = let tested = c .before in rw (test-tells (tested .before) ∙ tested .if1 .left) (c .ln2 .ensures)
 
 pub mendelian-prior-spec : {M : Type 1} → statement M
 mendelian-prior-spec =

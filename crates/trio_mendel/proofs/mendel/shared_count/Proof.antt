@@ -7,12 +7,12 @@ use mir.Val.{boolByte}
 use borrow.Author.Needs.{needs}
 use borrow.Author.Tests.{eq-eqb, ne-eqb}
 use Rattle.trio_mendel.specs.Decision.{carries}
-use Rattle.trio_mendel.proofs.CountLaws.{one, shared-by}
+use Rattle.trio_mendel.proofs.CountLaws.{oneIf, shared-by}
 use Rattle.trio_mendel.proofs.mendel.shared_count.Statement.{statement}
 use Rattle.trio_mendel.proofs.mendel.shared_count.Tie as tie
 
 -- a bool as a number
-as-number : (b : Bool) → boolByte b ≡ one b
+as-number : (b : Bool) → boolByte b ≡ oneIf b
 as-number true = refl
 as-number false = refl
 
@@ -27,12 +27,13 @@ cast-low : tie.Need-cast-low
 cast-low c = search needs
 
 -- the father's lower allele, 1 where the mother has it
-lower : (c : tie.After-carries) → let a = c .before .args in boolByte (c .carries .result) ≡ one (carries (a .mother) (a .father .low))
-lower c = as-number (c .carries .result) ∙ ap one (c .carries .ensures)
+lower : (c : tie.After-carries) → let a = c .before .args in boolByte (c .carries .result) ≡ oneIf (carries (a .mother) (a .father .low))
+lower c = as-number (c .carries .result) ∙ ap oneIf (c .carries .ensures)
 
 returns : tie.Need-returns
 returns c =
-    let asked = c .before .before in
+    let known = c .before in
+    let asked = known .before in
     let a = asked .before .args in
     rw (shared-by (a .father) (a .mother), eq-eqb (a .father .low) (a .father .high) (c .if1 .taken), lower asked)
 
@@ -44,7 +45,9 @@ cast-result c = search needs
 
 add-result : tie.Need-add-result
 add-result c =
-    let asked = c .before .before .before in
+    let other = c .before in
+    let known = other .before in
+    let asked = known .before in
     let low = one-at-most (asked .carries .result) in
     let high = one-at-most (c .carries2 .result) in
     omega arith
@@ -52,7 +55,8 @@ add-result c =
 returns-2 : tie.Need-returns-2
 returns-2 c =
     let other = c .before in
-    let asked = other .before .before in
+    let known = other .before in
+    let asked = known .before in
     let a = asked .before .args in
     rw (
       shared-by (a .father) (a .mother),
