@@ -1,5 +1,5 @@
--- The pairs that a child can have: in `distinct` none stands twice, and d is 1 to 4 (RULES.md, T3, X3 to X6). That every pair of the list
--- stands in it: `distinct-same` (trio_mendel/proofs/MendelLaws.antt). Assumes nothing.
+-- The pairs that a child can have: in `distinct` none stands twice, and d is 1 to 4 (RULES.md, T3, X3 to X6). That the same pairs
+-- are in it: `distinct-same` (trio_mendel/proofs/MendelLaws.antt). Assumes nothing.
 use Prim.Native.Nat.{_≤_, suc-le-suc, zero-le}
 use mathlib.Core.Path.{_≡_, refl, sym, ap, _∙_}
 use mathlib.Core.Bool.{Bool, true, false, cond, not, _||_, and-eq-true-iff}

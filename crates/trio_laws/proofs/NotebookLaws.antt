@@ -1,9 +1,9 @@
 -- What a geneticist may rely on (MENDEL.md; RULES.md, T3): the term is what the notebook and the child's test say, no pair weighs more than
--- another, each line of the notebook has a couple and every couple one line, and it does not matter which parent is called the father.
--- Assumes nothing.
-use Prim.Native.Nat.{ℕ, _+_, _<_}
+-- another, each line of the notebook has a couple and every couple one line, it does not matter which parent is called the father; and
+-- which of the four combinations can be the same. Assumes nothing.
+use Prim.Native.Nat.{ℕ, _+_, _≤_, _<_}
 use mathlib.Core.Path.{_≡_, refl, sym, _∙_}
-use mathlib.Core.Bool.{Bool, true, false, cond, _||_, and-comm, or-comm, false≢true}
+use mathlib.Core.Bool.{Bool, true, false, cond, _||_, and-comm, or-comm, or-true, false≢true}
 use mathlib.Core.List.{[], _∷_, map}
 use native.Mathlib.Omega.{arith}
 use borrow.Author.Tests.{eqb-true, eqb-false, eq-eqb}
@@ -16,7 +16,7 @@ use Rattle.trio_family.specs.declared.pair.Pair.{Pair}
 use Rattle.trio_family.specs.Genotypes.{pair}
 use Rattle.trio_mendel.specs.Mendel.{ordered, samePair, childPairs, mendelTerm}
 use Rattle.trio_mendel.specs.Decision.{carries, alleleCount, sharedCount, noted, notebook, hasCounts, pairsMade, fromEach, inherits}
-use Rattle.trio_mendel.proofs.MendelLaws.{together, together-is, matchedPairs, same-ordered}
+use Rattle.trio_mendel.proofs.MendelLaws.{same-is, together, together-is, matchedPairs, same-ordered}
 use Rattle.trio_mendel.proofs.ChildLaws.{child-among}
 use Rattle.trio_mendel.proofs.CountLaws.{oneIf, countBy, sharedBy, count-by, shared-by, eqb-comm, pairs-made}
 use Rattle.trio_laws.specs.Couples.{lineFor, couples}
@@ -34,7 +34,7 @@ term-by-notebook c f m = rw (child-among c f m, pairs-made f m)
 pub equal-weights : (c d f m : Pair) → inherits c f m ≡ true → inherits d f m ≡ true → mendelTerm c f m ≡ mendelTerm d f m
 equal-weights c d f m p q = rw (term-by-notebook c f m, term-by-notebook d f m, p, q)
 
--- nor one that they cannot
+-- nor one of those that they cannot make more than another of those
 pub equal-strangers : (c d f m : Pair) → inherits c f m ≡ false → inherits d f m ≡ false → mendelTerm c f m ≡ mendelTerm d f m
 equal-strangers c d f m p q = rw (term-by-notebook c f m, term-by-notebook d f m, p, q)
 
@@ -156,6 +156,11 @@ parents-exchanged c f m =
 -- ---- which of the four combinations can be the same; of one row or one column see `same-row` and `same-column`
 -- (trio_mendel/proofs/MendelLaws.antt)
 
+-- a pair is the same either way round
+pub either-order : (a b : ℕ) → ordered a b ≡ ordered b a
+either-order a b =
+    same-is (ordered a b) (ordered b a) (same-ordered a b b a ∙ rw (eq-eqb a a refl, eq-eqb b b refl) (or-true (together a b b a)))
+
 -- two pairs that are the same, and their first numbers are not: they match crosswise
 match-crosswise : (x y u v : ℕ) → (x ≡ u → ⊥) → matchedPairs x y u v ≡ true → (x ≡ v) × (y ≡ u)
 match-crosswise x y u v other = go (together x u y v) refl
@@ -182,8 +187,8 @@ never-both f m two ends middle =
     let middle-two = match-crosswise a l b k differ (sym (same-ordered a l b k) ∙ middle) in
     differ (middle-two .0 ∙ first-last .1)
 
--- where both parents are written lower number first the first and the last differ
-pub ends-differ : (f m : Pair) → f .low < f .high → m .low < m .high
+-- nor are the first and the last where the father's two alleles and the mother's numbers stand lower first
+pub ends-differ : (f m : Pair) → f .low < f .high → m .low ≤ m .high
     → samePair (ordered (f .low) (m .low)) (ordered (f .high) (m .high)) ≡ true → ⊥
 ends-differ f m p q ends =
     let a = f .low in

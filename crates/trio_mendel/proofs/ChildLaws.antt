@@ -51,7 +51,7 @@ child-combined c f m =
     (together b u l v) (together b v l u)
     ∙ rw (one-each (eqb a u) (eqb b u) (eqb k v) (eqb l v), one-each (eqb a v) (eqb b v) (eqb k u) (eqb l u)))
 
--- and so it is one of the different pairs
+-- and exactly then one of the different pairs
 pub child-among : (c f m : Pair) → among (ordered (c .low) (c .high)) (childPairs f m) ≡ inherits c f m
 unfolding childPairs
 child-among c f m = distinct-same (ordered (c .low) (c .high)) (combinations f m) ∙ child-combined c f m

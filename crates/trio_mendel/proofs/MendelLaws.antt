@@ -32,6 +32,7 @@ or-right : (s t : Bool) → (s ≡ true → t ≡ true) → t ≡ (s || t)
 or-right true t h = h refl
 or-right false t h = refl
 
+-- x is u, and y is v
 abbrev pub together : ℕ → ℕ → ℕ → ℕ → Bool
 together x u y v = eqb x u && eqb y v
 
@@ -43,6 +44,7 @@ together-is x u y v h =
 is-together : (x u y v : ℕ) → x ≡ u → y ≡ v → together x u y v ≡ true
 is-together x u y v p q = rw (eq-eqb x u p, eq-eqb y v q)
 
+-- x and y are u and v, one way round or the other
 abbrev pub matchedPairs : ℕ → ℕ → ℕ → ℕ → Bool
 matchedPairs x y u v = together x u y v || together x v y u
 
@@ -88,14 +90,14 @@ same-ordered x y u v = go (leb x y) (leb u v) refl refl
         let k = leb-false u v q in
         is-together x u y v (omega arith) (omega arith))
 
--- two combinations with one allele of the father, exactly when the mother's two are one
+-- two combinations with one allele of the father are the same exactly when the mother's two alleles are
 pub same-row : (a k l : ℕ) → samePair (ordered a k) (ordered a l) ≡ eqb k l
 same-row a k l =
     same-ordered a k a l
     ∙ rw (eq-eqb a a refl)
     (sym (or-left (eqb k l) (together a l k a) (λ h. let e = together-is a l k a h in eq-eqb k l (e .1 ∙ e .0))))
 
--- two with one allele of the mother, exactly when the father's two are one
+-- two with one allele of the mother, exactly when the father's two are
 pub same-column : (a b k : ℕ) → samePair (ordered a k) (ordered b k) ≡ eqb a b
 same-column a b k =
     same-ordered a k b k

@@ -1,6 +1,7 @@
 -- For the code: how many different pairs two parents can make, by how many alleles each has and how many they share, and whether a child
 -- can be theirs. No public contract speaks of it: that the notebook counts `childPairs` is proved (`pairs-made`, proofs/CountLaws.antt),
--- and that the test finds the child among them (`child-among`, proofs/ChildLaws.antt). Definitions only (RULES.md, T3; MENDEL.md).
+-- and that the test tells whether the child is among them (`child-among`, proofs/ChildLaws.antt). Definitions only (RULES.md, T3;
+-- MENDEL.md).
 use Prim.Native.Nat.{ℕ}
 use mathlib.Core.Bool.{Bool, cond, _&&_, _||_}
 use mathlib.Core.List.{List, [], _∷_}
@@ -17,7 +18,7 @@ alleles p = distinctBy eqb (p .low ∷ p .high ∷ [])
 unfoldable pub alleleCount : Pair → ℕ
 alleleCount p = length (alleles p)
 
--- T3: is the number a one of them?
+-- T3: is the number `a` one of them?
 abbrev pub carries : Pair → ℕ → Bool
 carries p a = eqb (p .low) a || eqb (p .high) a
 

@@ -35,7 +35,7 @@ fn shared_count(father: Pair, mother: Pair) -> u32
 }
 
 // How many different pairs a child can have, by how many alleles each parent has and how many of them they share: an arm for each line of
-// the notebook. No parents have any other counts; those arms answer 0.
+// the notebook. No parents have any other counts; the other arms answer 0.
 fn pairs_made(father_alleles: u32, mother_alleles: u32, shared: u32) -> u32
     ensures { λ r. ⌜ r ≡ pairsMade «father_alleles» «mother_alleles» shared ⌝ }
 {
