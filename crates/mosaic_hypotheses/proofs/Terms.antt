@@ -223,4 +223,5 @@ module _ (p : Params) (counts : List ℕ) (few : length counts ≤ 8) (g : Germl
           (ap made (search-follows h .same))
       go false h =
           let s = progressStart counts g shared in
-          unfold progressAll progressStart startValue in (rw (none-offered (length counts) (any-over counts g ∙ h) s, h, likelihood-same s start-caches, prior-same s start-caches))
+          unfold progressAll progressStart startValue in
+          (rw (none-offered (length counts) (any-over counts g ∙ h) s, h, likelihood-same s start-caches, prior-same s start-caches))

@@ -118,8 +118,9 @@ module _ (p : Params) (allowed : paramsAllowed p ≡ true) where
   unfolding ofInt
   highest-within =
       let h = and-r B H (and-r A (B && H) all-of) in
-      within-range (p .highest) (record { is-finite = tt; small = lit≤ tt }) (record { is-finite = tt; small = lit≤ tt }) (and-l (le (nat 0) (p .highest)) (le (p .highest) (nat 1)) h)
-      (and-r (le (nat 0) (p .highest)) (le (p .highest) (nat 1)) h)
+      let low = and-l (le (nat 0) (p .highest)) (le (p .highest) (nat 1)) h in
+      let high = and-r (le (nat 0) (p .highest)) (le (p .highest) (nat 1)) h in
+      within-range (p .highest) (record { is-finite = tt; small = lit≤ tt }) (record { is-finite = tt; small = lit≤ tt }) low high
 
   pub highest-not-below : NotBelow (p .highest)
   unfolding ofInt

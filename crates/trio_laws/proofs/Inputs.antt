@@ -43,14 +43,17 @@ module _ (p : Part) (right : inputRight p ≡ true) (eight : length (p .weights)
   some-clusters = right
 
   places : (counts-test && weights-test) ≡ true
-  places = and-elim-right (leb n 8) (counts-test && weights-test) (and-elim-right (leb 1 n) (leb n 8 && (counts-test && weights-test)) some-clusters)
+  places =
+      let few-clusters = and-elim-right (leb 1 n) (leb n 8 && (counts-test && weights-test)) some-clusters in
+      and-elim-right (leb n 8) (counts-test && weights-test) few-clusters
 
   count-at : (i : ℕ) → i < 3 * n → countAllowed (getD (p .counts) i 0) ≡ true
   count-at i h = go (ltb i (length (p .counts))) refl
     where
       go : (t : Bool) → ltb i (length (p .counts)) ≡ t → countAllowed (getD (p .counts) i 0) ≡ true
       go true e =
-          place-passed countAllowed noCount 0 (3 * n) (p .counts) i (and-elim-left counts-test weights-test places) h (ltb-true i (length (p .counts)) e)
+          let right = and-elim-left counts-test weights-test places in
+          place-passed countAllowed noCount 0 (3 * n) (p .counts) i right h (ltb-true i (length (p .counts)) e)
       go false e = ap countAllowed (List·getD-eq-default (p .counts) 0 (ltb-false i (length (p .counts)) e))
 
   pub input-accepted : AcceptedTrio n (p .counts) (p .weights)

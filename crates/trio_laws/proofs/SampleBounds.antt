@@ -1,5 +1,5 @@
--- Within the limits an animal with reads has a finite score under every genotype, at most 2 ^ 40 in size; one without reads has minus infinity.
--- Assumes nothing.
+-- Within the limits an animal with reads has a finite score under every genotype, at most 2 ^ 40 in size; one without reads has minus
+-- infinity. Assumes nothing.
 use Prim.Native.Nat.{ℕ, zero, suc, _+_, _-_, _*_, _^_, _≤_, _<_}
 use native.Mathlib.Nat.{add-zero, zero-mul, suc-mul, le-refl, lt-irrefl, eq-or-lt-of-le, eq-zero-or-pos}
 use native.Mathlib.Omega.{arith}
@@ -29,8 +29,8 @@ use Rattle.trio_family.specs.Numbers.{sampleNumber}
 use Rattle.trio_family.specs.Genotypes.{pairsWith, pairsFrom, genotypes, pair}
 use Rattle.trio_triples.specs.Genotypes.{genotypeAt}
 use Rattle.lists.specs.Lists.{numbers}
-use Rattle.trio_samples.specs.Samples.{upToEight, clusters, reads, sum, columnTotal, logBinomial, expectation, expectationTotal, clusterTerm}
-use Rattle.trio_samples.specs.Samples.{sampleScore}
+use Rattle.trio_samples.specs.Samples.{upToEight, clusters, reads, sum, columnTotal, logBinomial}
+use Rattle.trio_samples.specs.Samples.{expectation, expectationTotal, clusterTerm, sampleScore}
 use Rattle.trio_parts.specs.Part.{weightAllowed}
 use Rattle.trio_samples.proofs.SampleLaws.{in-use, sample-below, count-at-most}
 use Rattle.trio_laws.specs.Accepted.{AcceptedTrio}
@@ -63,14 +63,16 @@ all-inside = tt
 every-genotype : (f : Pair → Bool) (n k : ℕ) → 1 ≤ n → T (every f (genotypes n)) → T (f (genotypeAt n k))
 unfolding genotypeAt
 every-genotype f zero k l h = absurd (lt-irrefl 0 l)
-every-genotype f (suc n) k l h = every-at f (genotypes (suc n)) k (pair 0 0) h (λ _. and-l (f (pair 0 0)) (every f (pairsWith 0 1 n ++ pairsFrom 1 n)) h)
+every-genotype f (suc n) k l h =
+    every-at f (genotypes (suc n)) k (pair 0 0) h (λ _. and-l (f (pair 0 0)) (every f (pairsWith 0 1 n ++ pairsFrom 1 n)) h)
 
 share-inside : (n k c : ℕ) → 2 ≤ n → n ≤ 8 → c < n → T (inside (share n (genotypeAt n k) c))
 share-inside n k c l u h =
     let some : 1 ≤ n = omega arith in
     let each = every-between (λ (m : ℕ). every (sharesInside m) (genotypes m)) 2 7 n all-inside l (omega arith) in
     let used : c < upToEight n = rw (in-use n u) h in
-    every-between (λ (d : ℕ). inside (share n (genotypeAt n k) d)) 0 (upToEight n) c (every-genotype (sharesInside n) n k some each) (omega arith) (omega arith)
+    let all = every-genotype (sharesInside n) n k some each in
+    every-between (λ (d : ℕ). inside (share n (genotypeAt n k) d)) 0 (upToEight n) c all (omega arith) (omega arith)
 
 -- and with one cluster it is 1
 
@@ -125,7 +127,9 @@ weight-within w h =
     let t : T (weightAllowed w) = subst T (sym h) tt in
     let low = and-l (le (nat 0) w) (le w (nat 1000)) t in
     let high = and-r (le (nat 0) w) (le w (nat 1000)) t in
-    let within = within-range w (within-whole (pos 0) 1000 (lit≤ tt) (lit≤ tt)) (within-whole (pos 1000) 1000 (lit≤ tt) (lit≤ tt)) low high in
+    let none = within-whole (pos 0) 1000 (lit≤ tt) (lit≤ tt) in
+    let most = within-whole (pos 1000) 1000 (lit≤ tt) (lit≤ tt) in
+    let within = within-range w none most low high in
     let total = within-add within (within-fraction 1 (10 ^ 3) 1 (lit< tt) (lit≤ tt) (lit≤ tt)) (lit≤ tt) in
     let above =
     above-add (at-least-zero w (within .is-finite) low)
@@ -146,7 +150,8 @@ summed : (f : ℕ → Float) (b n a i m : ℕ) {x : Float} → ((c : ℕ) → c 
 summed f b n a i zero each l w s = rw (zero-mul, add-zero) w
 summed f b n a i (suc m) each l w s =
     let e : a + suc m * b ≡ a + b + m * b = rw suc-mul (omega arith) in
-    rw e (summed f b n (a + b) (suc i) m each (omega arith) (within-add w (each i (omega arith)) (omega (arith, suc-mul m b))) (omega arith))
+    let next = within-add w (each i (omega arith)) (omega (arith, suc-mul m b)) in
+    rw e (summed f b n (a + b) (suc i) m each (omega arith) next (omega arith))
 
 -- ---- the score of an animal
 
@@ -158,21 +163,26 @@ sample-least n counts weights s h z = rw z
 
 module _ (n : ℕ) (counts : List ℕ) (weights : List Float) (a : AcceptedTrio n counts weights) (s : Sample) where
   count-small : (c : ℕ) → c < n → reads counts (sampleNumber s) c ≤ 1000000
-  count-small c h = leb-true (reads counts (sampleNumber s) c) 1000000 (a .count-allowed (3 * c + sampleNumber s) (omega (arith, sample-below s)))
+  count-small c h =
+      leb-true (reads counts (sampleNumber s) c) 1000000 (a .count-allowed (3 * c + sampleNumber s) (omega (arith, sample-below s)))
 
   total-small : columnTotal n counts s < 2 ^ 23
   unfolding columnTotal
-  total-small = rw (in-use n (a .few)) (omega (arith, counted (reads counts (sampleNumber s)) 1000000 n 0 n count-small (omega arith), a .few))
+  total-small =
+      let most = counted (reads counts (sampleNumber s)) 1000000 n 0 n count-small (omega arith) in
+      rw (in-use n (a .few)) (omega (arith, most, a .few))
 
-  binomial-within : (k c : ℕ) → c < n → Within (2 ^ 36) (logBinomial (reads counts (sampleNumber s) c) (columnTotal n counts s) (share n (genotypeAt n k) c))
+  -- of one cluster, of m clusters
+  abbrev binomialOf : ℕ → ℕ → ℕ → Float
+  binomialOf m k c = logBinomial (reads counts (sampleNumber s) c) (columnTotal m counts s) (share m (genotypeAt m k) c)
+
+  binomial-within : (k c : ℕ) → c < n → Within (2 ^ 36) (binomialOf n k c)
   binomial-within k c h = ⊎-elim one more (eq-or-lt-of-le (a .some))
     where
-      one : 1 ≡ n → Within (2 ^ 36) (logBinomial (reads counts (sampleNumber s) c) (columnTotal n counts s) (share n (genotypeAt n k) c))
-      one e =
-          subst (λ (m : ℕ). c < m → Within (2 ^ 36) (logBinomial (reads counts (sampleNumber s) c) (columnTotal m counts s) (share m (genotypeAt m k) c)))
-          e (one-cluster-within counts s k c) h
+      one : 1 ≡ n → Within (2 ^ 36) (binomialOf n k c)
+      one e = subst (λ (m : ℕ). c < m → Within (2 ^ 36) (binomialOf m k c)) e (one-cluster-within counts s k c) h
 
-      more : 1 < n → Within (2 ^ 36) (logBinomial (reads counts (sampleNumber s) c) (columnTotal n counts s) (share n (genotypeAt n k) c))
+      more : 1 < n → Within (2 ^ 36) (binomialOf n k c)
       more l =
           let h′ = genotypeAt n k in
           inside-within (reads counts (sampleNumber s) c) (columnTotal n counts s) (share n h′ c)
@@ -181,7 +191,9 @@ module _ (n : ℕ) (counts : List ℕ) (weights : List Float) (a : AcceptedTrio 
 
   cluster-within : (k c : ℕ) → c < n → Within (2 ^ 37) (clusterTerm n counts weights s (genotypeAt n k) c)
   unfolding clusterTerm
-  cluster-within k c h = within-more (within-add (binomial-within k c h) (weight-within (getD weights c nan) (a .weight-allowed c h)) (lit≤ tt)) (lit≤ tt)
+  cluster-within k c h =
+      let weight = weight-within (getD weights c nan) (a .weight-allowed c h) in
+      within-more (within-add (binomial-within k c h) weight (lit≤ tt)) (lit≤ tt)
 
   -- with reads
   pub sample-within : (k : ℕ) → 0 < columnTotal n counts s → Within (2 ^ 40) (sampleScore n counts weights s (genotypeAt n k))

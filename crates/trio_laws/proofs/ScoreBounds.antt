@@ -1,5 +1,5 @@
--- T4: within the limits no score is a NaN or plus infinity: it is finite where every animal has reads, and minus infinity where one has none.
--- Assumes nothing.
+-- T4: within the limits no score is a NaN or plus infinity: it is finite where every animal has reads, and minus infinity where one has
+-- none. Assumes nothing.
 use Prim.Native.Nat.{ℕ, suc-le-suc, _/_, _%_, _^_, _<_}
 use native.Mathlib.Omega.{arith}
 use mathlib.Core.Path.{_≡_, ap, subst, _∙_}
@@ -117,5 +117,9 @@ module _ (n : ℕ) (counts : List ℕ) (weights : List Float) (a : AcceptedTrio 
   -- some animal has none: the sums swallow the rest
   pub unread-least : (s : Sample) → columnTotal n counts s ≡ 0 → scoreOf n counts weights p ≡ inf true
   unread-least Child z = score-is ∙ rw (none Child child z, low-least parents-low, least-low (finite-low heredity))
-  unread-least Father z = score-is ∙ rw (none Father father z, least-low (low Mother mother), least-low (low Child child), least-low (finite-low heredity))
-  unread-least Mother z = score-is ∙ rw (none Mother mother z, low-least (low Father father), least-low (low Child child), least-low (finite-low heredity))
+  unread-least Father z =
+      score-is
+      ∙ rw (none Father father z, least-low (low Mother mother), least-low (low Child child), least-low (finite-low heredity))
+  unread-least Mother z =
+      score-is
+      ∙ rw (none Mother mother z, low-least (low Father father), least-low (low Child child), least-low (finite-low heredity))

@@ -113,7 +113,8 @@ module _ (n : ℕ) where
 
   -- father f, mother m and child c stand at f·G·G + m·G + c
   pub triple-position : (f m c : ℕ) → m < genotypeCount n → c < genotypeCount n
-      → tripleAt n (f * rowWidth n + m * genotypeCount n + c) ≡ record { child = genotypeAt n c; father = genotypeAt n f; mother = genotypeAt n m }
+      → tripleAt n (f * rowWidth n + m * genotypeCount n + c)
+      ≡ record { child = genotypeAt n c; father = genotypeAt n f; mother = genotypeAt n m }
   unfolding tripleAt
   triple-position f m c hm hc = let g = genotypeCount n in rw (child-of g f m c hm hc, father-of g f m c hm hc, mother-of g f m c hm hc)
 

@@ -28,13 +28,19 @@ with-point-requires : tie.Need-with-point-requires
 with-point-requires c κs = search needs
 
 returns : tie.Need-returns
-returns c = c .with-point .ensures ∙ by-point (c .before .before .before .before .before .before .args .field .now) (c .before .before .before .before .field-end .result) (c .before .before .before .before .field-end .ensures) (search needs)
+returns c =
+    let point = c .before .before .before .before in
+    let text = point .before .before .args .field .now in
+    c .with-point .ensures ∙ by-point text (point .field-end .result) (point .field-end .ensures) (search needs)
 
 plain-requires : tie.Need-plain-requires
 plain-requires c κs = search needs
 
 returns-2 : tie.Need-returns-2
-returns-2 c = c .plain .ensures ∙ by-none (c .before .before .before .before .args .field .now) (c .before .before .field-end .result) (c .before .before .field-end .ensures) (search needs)
+returns-2 c =
+    let point = c .before .before in
+    let text = point .before .before .args .field .now in
+    c .plain .ensures ∙ by-none text (point .field-end .result) (point .field-end .ensures) (search needs)
 
 pub read-decimal-spec : {M : Type 1} → statement M
 read-decimal-spec =

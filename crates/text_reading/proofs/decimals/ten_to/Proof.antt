@@ -16,7 +16,10 @@ loop-holds : tie.Need-loop-holds Inv-loop μ-loop
 loop-holds c = search needs
 
 mul-power : tie.Need-mul-power Inv-loop μ-loop
-mul-power c = record { fits = rw (c .before .loop .inv .1) (ten-more (c .before .loop .i) (c .before .before .args .k) (search needs) (search needs)) }
+mul-power c =
+    let s = c .before .loop in
+    let k = c .before .before .args .k in
+    record { fits = rw (s .inv .1) (ten-more (s .i) k (search needs) (search needs)) }
 
 add-i : tie.Need-add-i Inv-loop μ-loop
 add-i c = search needs

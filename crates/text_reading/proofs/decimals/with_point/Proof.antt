@@ -16,7 +16,9 @@ sub-if2 : tie.Need-sub-if2
 sub-if2 c = search needs
 
 returns-2 : tie.Need-returns-2
-returns-2 c = point-long (c .before .before .before .before .args .whole .now) (c .before .before .before .before .args .part .now) (omega arith)
+returns-2 c =
+    let a = c .before .before .before .before .args in
+    point-long (a .whole .now) (a .part .now) (omega arith)
 
 read-whole-requires : tie.Need-read-whole-requires
 read-whole-requires c κs = search needs
@@ -27,8 +29,15 @@ enum-known-n c = search needs
 enum-told : tie.Need-enum-told
 enum-told c = search needs
 
+-- the two texts, once they are known not to be too long
+abbrev texts : tie.Else2 → tie.Start
+texts c = c .before .before .before .before
+
 returns-3 : tie.Need-returns-3
-returns-3 c = point-left (c .before .before .before .before .before .before .before .args .whole .now) (c .before .before .before .before .before .before .before .args .part .now) (omega arith) (sym (c .before .before .read-whole .ensures) ∙ c .enum-told .given .1)
+returns-3 c =
+    let read = c .before .before in
+    let a = texts (read .before) .args in
+    point-left (a .whole .now) (a .part .now) (omega arith) (sym (read .read-whole .ensures) ∙ c .enum-told .given .1)
 
 read-whole-requires-2 : tie.Need-read-whole-requires-2
 read-whole-requires-2 c κs = search needs
@@ -40,15 +49,32 @@ enum-told-2 : tie.Need-enum-told-2
 enum-told-2 c = search needs
 
 returns-4 : tie.Need-returns-4
-returns-4 c = point-right (c .before .before .before .before .before .before .before .before .before .before .before .args .whole .now) (c .before .before .before .before .before .before .before .before .before .before .before .args .part .now) (omega arith) (sym (c .before .before .read-whole2 .ensures) ∙ c .enum-told2 .given .1)
+returns-4 c =
+    let read-second = c .before .before in
+    let read-first = read-second .before .before .before .before in
+    let a = texts (read-first .before) .args in
+    point-right (a .whole .now) (a .part .now) (omega arith) (sym (read-second .read-whole2 .ensures) ∙ c .enum-told2 .given .1)
 
 ten-to-requires : tie.Need-ten-to-requires
 ten-to-requires c κs = search needs
 
-all : (c : tie.After-ten-to) → Divided (c .before .before .before .before .before .before .before .before .before .before .before .before .before .args .whole .now) (c .before .before .before .before .before .before .before .before .before .before .before .before .before .args .part .now) (c .before .before .before .before .before .before .n .given .0 .0) (c .before .before .m .given .0 .0)
+-- the two numbers, once both have been read
+abbrev second : tie.After-ten-to → tie.After-m
+second c = c .before .before
+
+abbrev first : tie.After-ten-to → tie.After-n
+first c = second c .before .before .before .before
+
+all : (c : tie.After-ten-to) →
+    let a = texts (first c .before .before .before) .args in
+    Divided (a .whole .now) (a .part .now) (first c .n .given .0 .0) (second c .m .given .0 .0)
 all c =
-    divided (c .before .before .before .before .before .before .before .before .before .before .before .before .before .args .whole .now) (c .before .before .before .before .before .before .before .before .before .before .before .before .before .args .part .now) (c .before .before .before .before .before .before .n .given .0 .0) (c .before .before .m .given .0 .0) (omega arith)
-    (sym (c .before .before .before .before .before .before .before .before .read-whole .ensures) ∙ c .before .before .before .before .before .before .n .given .1) (sym (c .before .before .before .before .read-whole2 .ensures) ∙ c .before .before .m .given .1)
+    let read-first = first c .before .before in
+    let read-second = second c .before .before in
+    let a = texts (read-first .before) .args in
+    divided (a .whole .now) (a .part .now) (first c .n .given .0 .0) (second c .m .given .0 .0) (omega arith)
+    (sym (read-first .read-whole .ensures) ∙ first c .n .given .1)
+    (sym (read-second .read-whole2 .ensures) ∙ second c .m .given .1)
 
 mul-t12 : tie.Need-mul-t12
 mul-t12 c = rw (c .ten-to .ensures) (record { fits = omega (arith, all c .small) })

@@ -1,4 +1,5 @@
--- `text_reading::fields::field_end` meets its contract. The loop's invariant: the field from place i on ends where the field does. Assumes nothing.
+-- `text_reading::fields::field_end` meets its contract. The loop's invariant: the field from place i on ends where the field
+-- does. Assumes nothing.
 use mathlib.Core.Path.{_≡_, sym, _∙_}
 use Prim.Native.Nat.{_+_, _≤_, _-_}
 use borrow.Author.Needs.{needs}

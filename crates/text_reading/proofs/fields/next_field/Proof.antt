@@ -9,7 +9,9 @@ field-end-requires : tie.Need-field-end-requires
 field-end-requires c κs = search needs
 
 add-result : tie.Need-add-result
-add-result c = record { fits = omega (arith, end-inside (c .before .before .args .separator) (c .before .before .args .start) (c .before .before .args .line .now)) }
+add-result c =
+    let a = c .before .before .args in
+    record { fits = omega (arith, end-inside (a .separator) (a .start) (a .line .now)) }
 
 returns : tie.Need-returns
 returns c = search needs

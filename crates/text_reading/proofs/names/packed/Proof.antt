@@ -1,4 +1,5 @@
--- `text_reading::names::packed` meets its contract. The loop's invariant: the bytes so far make the number, and what is left decides. Assumes nothing.
+-- `text_reading::names::packed` meets its contract. The loop's invariant: the bytes so far make the number, and what is left
+-- decides. Assumes nothing.
 use mathlib.Core.Path.{refl}
 use native.Mathlib.Omega.{arith}
 use Prim.Native.Nat.{_-_}
@@ -25,13 +26,18 @@ shared-slice-read-if2 c = search needs
 
 returns-2 : tie.Need-returns-2 Inv-loop μ-loop
 returns-2 c =
-    let s = c .before .before .before .loop in
-    packed-no (c .before .before .before .before .before .before .args .name .now) (s .n) (s .i) (search needs) (s .inv) (search needs) (c .if2 .taken)
+    let looked = c .before .before .before in
+    let s = looked .loop in
+    let name = looked .before .before .before .args .name .now in
+    packed-no name (s .n) (s .i) (search needs) (s .inv) (search needs) (c .if2 .taken)
 
 mul-n : tie.Need-mul-n Inv-loop μ-loop
 mul-n c =
-    let s = c .before .before .before .loop in
-    record { fits = omega (arith, packed-fits (c .before .before .before .before .before .before .args .name .now) (s .n) (s .i) (search needs) (s .inv) (search needs) (c .before .shared-slice-known2 .given (s .i) .fits)) }
+    let looked = c .before .before .before in
+    let s = looked .loop in
+    let name = looked .before .before .before .args .name .now in
+    let byte = c .before .shared-slice-known2 .given (s .i) .fits in
+    record { fits = omega (arith, packed-fits name (s .n) (s .i) (search needs) (s .inv) (search needs) byte) }
 
 shared-slice-read-wide : tie.Need-shared-slice-read-wide Inv-loop μ-loop
 shared-slice-read-wide c = search needs
@@ -41,8 +47,11 @@ wide-requires c κs = search needs
 
 add-n : tie.Need-add-n Inv-loop μ-loop
 add-n c =
-    let s = c .before .before .before .before .before .loop in
-    rw (c .wide .ensures) (record { fits = packed-fits (c .before .before .before .before .before .before .before .before .args .name .now) (s .n) (s .i) (search needs) (s .inv) (search needs) (c .before .shared-slice-known3 .given (s .i) .fits) })
+    let looked = c .before .before .before .before .before in
+    let s = looked .loop in
+    let name = looked .before .before .before .args .name .now in
+    let byte = c .before .shared-slice-known3 .given (s .i) .fits in
+    rw (c .wide .ensures) (record { fits = packed-fits name (s .n) (s .i) (search needs) (s .inv) (search needs) byte })
 
 add-i : tie.Need-add-i Inv-loop μ-loop
 add-i c = search needs
@@ -52,8 +61,11 @@ loop-less c = search needs
 
 loop-again : tie.Need-loop-again Inv-loop μ-loop
 loop-again c =
-    let s = c .before .before .before .before .before .loop in
-    rw (c .wide .ensures) (packed-on (c .before .before .before .before .before .before .before .before .args .name .now) (s .n) (s .i) (search needs) (s .inv) (search needs) (c .before .shared-slice-known3 .given (s .i) .fits) (c .before .before .if2 .left))
+    let looked = c .before .before .before .before .before in
+    let s = looked .loop in
+    let name = looked .before .before .before .args .name .now in
+    let byte = c .before .shared-slice-known3 .given (s .i) .fits in
+    rw (c .wide .ensures) (packed-on name (s .n) (s .i) (search needs) (s .inv) (search needs) byte (c .before .before .if2 .left))
 
 returns-3 : tie.Need-returns-3 Inv-loop μ-loop
 returns-3 c =

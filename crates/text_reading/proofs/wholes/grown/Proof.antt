@@ -13,7 +13,9 @@ returns c = rw (lt-leb (c .before .args .d) 9 (c .if1 .taken))
 
 returns-2 : tie.Need-returns-2
 unfolding grownBy
-returns-2 c = rw (le-leb (c .before .before .args .d) 9 (search needs), le-ltb (c .before .before .args .n * 10 + c .before .before .args .d) (2 ^ 64) (omega arith))
+returns-2 c =
+    let a = c .before .before .args in
+    rw (le-leb (a .d) 9 (search needs), le-ltb (a .n * 10 + a .d) (2 ^ 64) (omega arith))
 
 mul-tens : tie.Need-mul-tens
 mul-tens c = search needs
@@ -23,14 +25,18 @@ sub-if3 c = search needs
 
 returns-3 : tie.Need-returns-3
 unfolding grownBy
-returns-3 c = rw (le-leb (c .before .before .before .args .d) 9 (search needs), le-ltb (c .before .before .before .args .n * 10 + c .before .before .before .args .d) (2 ^ 64) (omega arith))
+returns-3 c =
+    let a = c .before .before .before .args in
+    rw (le-leb (a .d) 9 (search needs), le-ltb (a .n * 10 + a .d) (2 ^ 64) (omega arith))
 
 add-t5 : tie.Need-add-t5
 add-t5 c = search needs
 
 returns-4 : tie.Need-returns-4
 unfolding grownBy
-returns-4 c = rw (le-leb (c .before .before .before .args .d) 9 (search needs), lt-ltb (c .before .before .before .args .n * 10 + c .before .before .before .args .d) (2 ^ 64) (omega arith))
+returns-4 c =
+    let a = c .before .before .before .args in
+    rw (le-leb (a .d) 9 (search needs), lt-ltb (a .n * 10 + a .d) (2 ^ 64) (omega arith))
 
 pub grown-spec : {M : Type 1} → statement M
 grown-spec = tie.close (tie.spec returns returns-2 mul-tens sub-if3 returns-3 add-t5 returns-4)

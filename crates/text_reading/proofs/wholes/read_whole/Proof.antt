@@ -1,4 +1,5 @@
--- `text_reading::wholes::read_whole` meets its contract. The loop's invariant: the digits so far write the number, and what is left decides. Assumes nothing.
+-- `text_reading::wholes::read_whole` meets its contract. The loop's invariant: the digits so far write the number, and what is
+-- left decides. Assumes nothing.
 use mathlib.Core.Path.{_≡_, refl, sym, ap, _∙_}
 use Prim.Native.Nat.{_-_}
 use lib.ListN.{length, getD}
@@ -42,7 +43,9 @@ returns-2 : tie.Need-returns-2 Inv-loop μ-loop
 returns-2 c =
     let s = c .before .before .before .before .before .before .loop in
     let l = c .before .before .before .before .before .before .before .before .before .args .field .now in
-    let e : grownBy (s .n) (digitOf (getD l (s .i) 0)) ≡ Unreadable = sym (c .before .before .grown .ensures ∙ ap (grownBy (s .n)) (c .before .before .before .digit .ensures)) ∙ c .enum-told .given .1 in
+    let grown = c .before .before in
+    let by-digit = grown .grown .ensures ∙ ap (grownBy (s .n)) (grown .before .digit .ensures) in
+    let e : grownBy (s .n) (digitOf (getD l (s .i) 0)) ≡ Unreadable = sym by-digit ∙ c .enum-told .given .1 in
     read-no l (s .n) (s .i) (s .inv) (search needs) e
 
 add-i : tie.Need-add-i Inv-loop μ-loop
@@ -56,7 +59,9 @@ loop-again c =
     let s = c .before .before .before .before .before .before .before .loop in
     let l = c .before .before .before .before .before .before .before .before .before .before .args .field .now in
     let m = c .before .m .given .0 .0 in
-    let e : grownBy (s .n) (digitOf (getD l (s .i) 0)) ≡ Is m = sym (c .before .before .before .grown .ensures ∙ ap (grownBy (s .n)) (c .before .before .before .before .digit .ensures)) ∙ c .before .m .given .1 in
+    let grown = c .before .before .before in
+    let by-digit = grown .grown .ensures ∙ ap (grownBy (s .n)) (grown .before .digit .ensures) in
+    let e : grownBy (s .n) (digitOf (getD l (s .i) 0)) ≡ Is m = sym by-digit ∙ c .before .m .given .1 in
     read-on l (s .n) (s .i) (s .inv) m (search needs) e
 
 returns-3 : tie.Need-returns-3 Inv-loop μ-loop
