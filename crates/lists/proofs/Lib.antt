@@ -1,4 +1,5 @@
 -- The laws of `lists`.
+pub mod NumberLaws
 pub mod PlaceLaws
 pub mod PassingLaws
 pub mod PaddedLaws

@@ -21,8 +21,9 @@ use Rattle.mosaic_hypotheses.specs.Likelihood.{alleleShare, likelihoodOf
 use Rattle.mosaic_shared.specs.Shared.{densityOf, forOne, forTwo, factorialsOf, startsOf, sharedOf}
 use Rattle.mosaic_hypotheses.specs.Prior.{gainOf, gainsOf, forGermline, priorOf}
 use Rattle.mosaic_hypotheses.specs.Search.{BestVafs, valueOf, tried, triedStep, searchedAllele, searchedAll, foundOf}
-use Rattle.mosaic_candidates.specs.Progress.{termAt, likelihoodBy, priorByOver, priorBy, likelihoodHere, priorHere, startValue, progressStart, progressWith}
-use Rattle.mosaic_candidates.specs.Progress.{progressTried, progressStep, progressAllele, progressOffered, progressAll, progressFound, foundOfEight}
+use Rattle.mosaic_candidates.specs.Progress.{termAt, likelihoodBy, priorByOver, priorBy, likelihoodHere, priorHere, startValue}
+use Rattle.mosaic_candidates.specs.Progress.{progressStart, progressWith, progressTried, progressStep, progressAllele, progressOffered}
+use Rattle.mosaic_candidates.specs.Progress.{progressAll, progressFound, foundOfEight}
 use Rattle.mosaic_params.specs.declared.params.Params.{Params}
 use Rattle.mosaic_alleles.specs.declared.pair.GermlinePair.{GermlinePair}
 use Rattle.mosaic_shared.specs.declared.shared.Shared.{Shared}
@@ -66,15 +67,19 @@ module _ (p : Params) (counts : List ℕ) (few : length counts ≤ 8) (g : Germl
     pub eight-vafs : length (k .vafs) ≡ 8
     pub eight-terms : length (k .terms) ≡ 8
     pub eight-gains : length (k .gains) ≡ 8
-    pub term-is : (i : ℕ) → i < length counts → somaticIn counts g i ≡ true → getD (k .terms) i nan ≡ nat (countAt counts i) ⊗ lnOf (vafAt (k .vafs) i)
+    pub term-is : (i : ℕ) → i < length counts → somaticIn counts g i ≡ true
+        → getD (k .terms) i nan ≡ nat (countAt counts i) ⊗ lnOf (vafAt (k .vafs) i)
     pub gain-is : (i : ℕ) → i < length counts → somaticIn counts g i ≡ true
         → getD (k .gains) i nan ≡ gainOf stirlingOf p (vafAt (k .vafs) i)
 
   factorial-at : (i : ℕ) → i < length counts → getD (factorialsOf counts) i nan ≡ lnFactorial stirlingOf (countAt counts i)
   unfolding factorialsOf
-  factorial-at i l = placed-at (replicate 8 (nat 0)) (λ i. lnFactorial stirlingOf (countAt counts i)) nan 8 (rw length-replicate (lit≤ tt)) i (omega arith)
+  factorial-at i l =
+      placed-at (replicate 8 (nat 0)) (λ i. lnFactorial stirlingOf (countAt counts i)) nan 8
+      (rw length-replicate (lit≤ tt)) i (omega arith)
 
-  likelihood-same : (k : Progress) → Caches k → likelihoodHere counts g shared (k .vafs) (k .terms) ≡ likelihoodOf firstEdition counts g (k .vafs)
+  likelihood-same : (k : Progress) → Caches k
+      → likelihoodHere counts g shared (k .vafs) (k .terms) ≡ likelihoodOf firstEdition counts g (k .vafs)
   unfolding sharedOf likelihoodBy likelihoodOf termAt
   likelihood-same k h =
       over-same
@@ -110,7 +115,8 @@ module _ (p : Params) (counts : List ℕ) (few : length counts ≤ 8) (g : Germl
     pub caches : Caches k
 
   -- a function of the VAF at each place, kept in a list of its own, after a store in both
-  set-both : (f : ℕ → Float → Float) (l m : List Float) (i j : ℕ) (x : Float) → i < length l → i < length m → getD m j nan ≡ f j (getD l j nan)
+  set-both : (f : ℕ → Float → Float) (l m : List Float) (i j : ℕ) (x : Float) → i < length l → i < length m
+      → getD m j nan ≡ f j (getD l j nan)
       → getD (set m i (f i x)) j nan ≡ f j (getD (set l i x) j nan)
   set-both f l m i j x hl hm e =
       at-set m i j (f i x) nan hm (eqb j i) refl (λ y. y ≡ f j (getD (set l i x) j nan))
@@ -158,7 +164,8 @@ module _ (p : Params) (counts : List ℕ) (few : length counts ≤ 8) (g : Germl
   unfolding sharedOf progressStep
   step-follows i l s k b h =
       let x = stepOf (p .highest) s in
-      follows-cond (lt (decimal 1 3) x) (progressTried counts g shared k i x) k (tried firstEdition p counts g i x b) b (attempt-follows i l x k b h) h
+      follows-cond (lt (decimal 1 3) x) (progressTried counts g shared k i x) k (tried firstEdition p counts g i x b) b
+      (attempt-follows i l x k b h) h
 
   allele-follows : (i : ℕ) → i < length counts → (k : Progress) (b : BestVafs) → Follows k b
       → Follows (progressAllele counts g shared i k) (searchedAllele firstEdition p counts g i b)
@@ -174,27 +181,33 @@ module _ (p : Params) (counts : List ℕ) (few : length counts ≤ 8) (g : Germl
       → Follows (progressOffered counts g shared i k) (cond (somaticIn counts g i) (searchedAllele firstEdition p counts g i b) b)
   unfolding progressOffered
   offer-follows i l k b h =
-      follows-cond (somaticIn counts g i) (progressAllele counts g shared i k) k (searchedAllele firstEdition p counts g i b) b (allele-follows i l k b h) h
+      follows-cond (somaticIn counts g i) (progressAllele counts g shared i k) k (searchedAllele firstEdition p counts g i b) b
+      (allele-follows i l k b h) h
 
   pub start-at : (i : ℕ) → i < length counts → somaticIn counts g i ≡ true → vafAt (startVafs counts g) i ≡ decimal 5 2
   unfolding startVafs
   start-at i l s =
-      placed-at (replicate 8 (nat 0)) (λ i. cond (somaticIn counts g i) (decimal 5 2) (nat 0)) nan (length counts) (rw length-replicate few) i l ∙ rw s
+      placed-at (replicate 8 (nat 0)) (λ i. cond (somaticIn counts g i) (decimal 5 2) (nat 0)) nan (length counts)
+      (rw length-replicate few) i l
+      ∙ rw s
 
   start-caches : Caches (progressStart counts g shared)
   unfolding progressStart sharedOf startsOf
   start-caches = record {
-    eight-vafs = unfold startVafs in (length-placed (replicate 8 (nat 0)) (λ i. cond (somaticIn counts g i) (decimal 5 2) (nat 0)) (length counts));
+    eight-vafs = unfold startVafs in
+        (length-placed (replicate 8 (nat 0)) (λ i. cond (somaticIn counts g i) (decimal 5 2) (nat 0)) (length counts));
     eight-terms = length-placed (replicate 8 (nat 0)) (λ i. nat (countAt counts i) ⊗ lnOf (decimal 5 2)) 8;
     eight-gains = refl;
     term-is = λ i l s. rw (start-at i l s)
-        (placed-at (replicate 8 (nat 0)) (λ i. nat (countAt counts i) ⊗ lnOf (decimal 5 2)) nan 8 (rw length-replicate (lit≤ tt)) i (omega arith));
+        (placed-at (replicate 8 (nat 0)) (λ i. nat (countAt counts i) ⊗ lnOf (decimal 5 2)) nan 8
+        (rw length-replicate (lit≤ tt)) i (omega arith));
     gain-is = λ i l s.
         rw (start-at i l s)
         (getD-replicate 8 i (gainBy (densityOf stirlingOf p) (decimal 5 2)) nan (omega arith) ∙ gain-by stirlingOf p (decimal 5 2));
   }
 
-  search-follows : anySomatic counts g ≡ true → Follows (progressAll counts g shared (progressStart counts g shared)) (searchedAll firstEdition p counts g)
+  search-follows : anySomatic counts g ≡ true
+      → Follows (progressAll counts g shared (progressStart counts g shared)) (searchedAll firstEdition p counts g)
   unfolding progressStart startValue progressAll searchedAll
   search-follows h =
       over-related Follows (progressOffered counts g shared)

@@ -37,9 +37,8 @@ use Rattle.mosaic_laws.specs.Found.{Vaf}
 
 half-pi-within : Within (2 ^ 13) (ratio 1 2 ⊗ lnOf (nat 2 ⊗ pi))
 half-pi-within =
-    within-more
-    (within-mul (within-reciprocal 2 (lit< tt)) (within-ln (nat 2 ⊗ pi) (mul-fits binary64 (nat 2) pi) (unfold mul round ofInt in tt)) (lit≤ tt))
-    (lit≤ tt)
+    let of-two-pi = within-ln (nat 2 ⊗ pi) (mul-fits binary64 (nat 2) pi) (unfold mul round ofInt in tt) in
+    within-more (within-mul (within-reciprocal 2 (lit< tt)) of-two-pi (lit≤ tt)) (lit≤ tt)
 
 from-one-within : (x : Float) → T (fits binary64 x) → T (positive x) → Within (2 ^ 24) x → Within (2 ^ 37) (stirlingFromOne x)
 unfolding stirlingFromOne
@@ -114,18 +113,21 @@ module _ (p : Params) (allowed : paramsAllowed p ≡ true) where
   beta-prior : Prior (p .beta)
   beta-prior = prior (p .beta) (and-l B H (and-r A (B && H) all-of))
 
+  highest-allowed : T H
+  highest-allowed = and-r B H (and-r A (B && H) all-of)
+
+  highest-from : T (le (nat 0) (p .highest))
+  highest-from = and-l (le (nat 0) (p .highest)) (le (p .highest) (nat 1)) highest-allowed
+
   pub highest-within : Within 1 (p .highest)
   unfolding ofInt
   highest-within =
-      let h = and-r B H (and-r A (B && H) all-of) in
-      let low = and-l (le (nat 0) (p .highest)) (le (p .highest) (nat 1)) h in
-      let high = and-r (le (nat 0) (p .highest)) (le (p .highest) (nat 1)) h in
-      within-range (p .highest) (record { is-finite = tt; small = lit≤ tt }) (record { is-finite = tt; small = lit≤ tt }) low high
+      let high = and-r (le (nat 0) (p .highest)) (le (p .highest) (nat 1)) highest-allowed in
+      within-range (p .highest) (record { is-finite = tt; small = lit≤ tt }) (record { is-finite = tt; small = lit≤ tt }) highest-from high
 
   pub highest-not-below : NotBelow (p .highest)
   unfolding ofInt
-  highest-not-below =
-      not-below-zero (p .highest) (highest-within .is-finite) (and-l (le (nat 0) (p .highest)) (le (p .highest) (nat 1)) (and-r B H (and-r A (B && H) all-of)))
+  highest-not-below = not-below-zero (p .highest) (highest-within .is-finite) highest-from
 
 -- what the density takes from the parameters, none beyond 2 ^ 38
 pub record Dense (p : Params) : Type 0 where
@@ -170,11 +172,13 @@ pub gain-within : (p : Params) → Dense p → (v : Float) → Vaf v → lt v (n
 unfolding gainOf
 gain-within p h v k l =
     let rest = within-sub (within-whole (pos 1) 1 (lit≤ tt) (lit≤ tt)) (k .within) (lit≤ tt) in
-    let up = difference-above v (nat 1) (positive-not-below v (k .above-zero)) one-at (k .is-f64) (ofInt-fits binary64 (pos 1)) l (rest .is-finite) in
+    let not-below = positive-not-below v (k .above-zero) in
+    let up = difference-above v (nat 1) not-below one-at (k .is-f64) (ofInt-fits binary64 (pos 1)) l (rest .is-finite) in
     let of-v = within-mul (h .alpha-less) (ln-within v k) (lit≤ tt) in
     let of-rest = within-mul (h .beta-less) (within-ln (nat 1 ⊖ v) (sub-fits binary64 (nat 1) v) (up .is-positive)) (lit≤ tt) in
     let first-two = within-add of-v of-rest (lit≤ tt) in
-    let all = within-add (within-sub (within-sub first-two (h .alpha-within) (lit≤ tt)) (h .beta-within) (lit≤ tt)) (h .sum-within) (lit≤ tt) in
+    let less-both = within-sub (within-sub first-two (h .alpha-within) (lit≤ tt)) (h .beta-within) (lit≤ tt) in
+    let all = within-add less-both (h .sum-within) (lit≤ tt) in
     rw (not-most v (k .above-zero) l, zero-below v (k .above-zero)) (within-more all (lit≤ tt))
 
 -- from 1 on it has none, and the whole is minus infinity
@@ -209,7 +213,8 @@ share-ln-within g mass w =
     let x = larger (nat 1 ⊖ mass) (decimal 1 2) in
     let two = above-whole 2 (lit< tt) (lit≤ tt) in
     let half = within-div (r .within) two (lit≤ tt) in
-    let up = above-div {x = x} {y = nat 2} 1 (r .is-above) (within-whole (pos 2) (2 ^ 1) (lit≤ tt) (lit≤ tt)) (two .is-positive) (lit≤ tt) (half .is-finite) in
+    let two-within = within-whole (pos 2) (2 ^ 1) (lit≤ tt) (lit≤ tt) in
+    let up = above-div {x = x} {y = nat 2} 1 (r .is-above) two-within (two .is-positive) (lit≤ tt) (half .is-finite) in
     either (λ v. Within (2 ^ 12) (lnOf v)) (alone g) x (x ⊘ nat 2)
     (λ e. within-ln x (r .is-f64) (r .is-above .is-positive))
     (λ e. within-ln (x ⊘ nat 2) (div-fits binary64 x (nat 2)) (up .is-positive))

@@ -50,8 +50,8 @@ groundOf n counts h = groundBy (unread n counts) h
 abbrev pub Quality : Type 0
 Quality = Bool → Bool → Float → Float → ℕ
 
--- T9: the best triple with its score, and the runner-up, or that there is none; its ground; and the quality that the given function makes of
--- the reads and the two scores. That nothing else depends on that function: `any-quality` (trio_meanings/proofs/QualityMeans.antt)
+-- T9: the best triple with its score, and the runner-up, or that there is none; its ground; and the quality that the given function makes
+-- of the reads and the two scores. That nothing else depends on that function: `any-quality` (trio_meanings/proofs/QualityMeans.antt)
 abbrev pub closedBy : Quality → Part → Closed
 closedBy quality-by p =
     let h = p .held in

@@ -5,9 +5,10 @@ use mathlib.Core.List.{List, [], _∷_, map}
 use mathlib.Core.Path.{_≡_, refl, sym, ap, ap₂, subst, _∙_}
 use mathlib.Mathlib.Data.Bool.Basic.{and-intro, and-elim-right}
 use native.Mathlib.Nat.{mul-pos}
-use borrow.Author.Tests.{ltb-true, eqb-true, eqb-false, eq-eqb, ne-eqb}
+use borrow.Author.Tests.{ltb-true, eq-eqb, ne-eqb}
 use lib.Dec.{T, eqb, ltb}
 use lib.Ieee.{Float, binary64, isNan, toBits}
+use Rattle.lists.proofs.NumberLaws.{eqb-swap}
 use Rattle.refusals.specs.declared.Refusal.the-variants.{Done, Row, OtherTrio, NotComplete, BadPart}
 use Rattle.trio_entries.specs.Best.{Best}
 use Rattle.trio_entries.specs.Held.{heldList}
@@ -36,13 +37,6 @@ use Rattle.trio_desks.specs.History.{then-worked, then-merged, merged-in
 same-self : (a : List ℕ) → sameNumbers a a ≡ true
 same-self [] = refl
 same-self (x ∷ a) = rw (eq-eqb x x refl) (same-self a)
-
-eqb-swap : (x y : ℕ) → eqb x y ≡ eqb y x
-eqb-swap x y = go (eqb x y) refl
-  where
-    go : (t : Bool) → eqb x y ≡ t → t ≡ eqb y x
-    go true e = sym (eq-eqb y x (sym (eqb-true x y e)))
-    go false e = sym (ne-eqb y x (λ c. eqb-false x y e (sym c)))
 
 same-swap : (a b : List ℕ) → sameNumbers a b ≡ sameNumbers b a
 same-swap [] [] = refl

@@ -8,6 +8,7 @@ use native.Mathlib.Nat.{le-trans}
 use borrow.Author.Tests.{not-true}
 use lib.ListN.{length}
 use Rattle.lists.proofs.PassingLaws.{passing-length}
+use Rattle.lists.proofs.NumberLaws.{eqb-swap}
 use Rattle.trio_family.specs.declared.pair.Pair.{Pair}
 use Rattle.trio_family.specs.Genotypes.{pair}
 use Rattle.trio_mendel.specs.Mendel.{samePair, among, distinct, combinations, childPairs}
@@ -17,11 +18,7 @@ use Rattle.trio_laws.specs.ChildPairs.{noRepeat}
 -- ---- none stands twice
 
 differ : (p q : Pair) → samePair p q ≡ false → samePair q p ≡ false
-differ p q h = go (samePair q p) refl
-  where
-    go : (b : Bool) → samePair q p ≡ b → b ≡ false
-    go true e = let r = same-is q p e in sym e ∙ ap (λ x. samePair x p) r ∙ sym (ap (samePair p) r) ∙ h
-    go false e = refl
+differ p q h = rw (eqb-swap (q .low) (p .low), eqb-swap (q .high) (p .high)) h
 
 gone : (p : Pair) (l : List Pair) → among p (withoutPair p l) ≡ false
 gone p [] = refl

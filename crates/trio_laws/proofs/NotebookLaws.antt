@@ -10,6 +10,7 @@ use borrow.Author.Tests.{eqb-true, eqb-false, eq-eqb}
 use lib.Dec.{eqb}
 use lib.ListN.{length}
 use Rattle.lists.specs.Lists.{passing}
+use Rattle.lists.proofs.NumberLaws.{eqb-swap}
 use Rattle.floats.specs.F64.{_⊘_, nat, decimal}
 use Rattle.kernels.specs.Ln.{lnOf}
 use Rattle.trio_family.specs.declared.pair.Pair.{Pair}
@@ -18,7 +19,7 @@ use Rattle.trio_mendel.specs.Mendel.{ordered, samePair, childPairs, mendelTerm}
 use Rattle.trio_mendel.specs.Decision.{carries, alleleCount, sharedCount, noted, notebook, hasCounts, pairsMade, fromEach, inherits}
 use Rattle.trio_mendel.proofs.MendelLaws.{same-is, together, together-is, matchedPairs, same-ordered}
 use Rattle.trio_mendel.proofs.ChildLaws.{child-among}
-use Rattle.trio_mendel.proofs.CountLaws.{oneIf, countBy, sharedBy, count-by, shared-by, eqb-comm, pairs-made}
+use Rattle.trio_mendel.proofs.CountLaws.{oneIf, countBy, sharedBy, count-by, shared-by, pairs-made}
 use Rattle.trio_laws.specs.Couples.{lineFor, couples}
 
 -- ---- the term, in the notebook's words
@@ -116,7 +117,7 @@ shared-both-ways f m =
     let k = m .low in
     let l = m .high in
     rw (shared-by f m, shared-by m f, one-carried m a, one-carried m b, one-carried f k, one-carried f l)
-    (rw (eqb-comm a k, eqb-comm a l, eqb-comm b k, eqb-comm b l)
+    (rw (eqb-swap a k, eqb-swap a l, eqb-swap b k, eqb-swap b l)
     (go (eqb a b) (eqb k l) (oneIf (eqb k a)) (oneIf (eqb l a)) (oneIf (eqb k b)) (oneIf (eqb l b))))
   where
     go : (ab kl : Bool) (ka la kb lb : ℕ) →

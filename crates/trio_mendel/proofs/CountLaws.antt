@@ -4,10 +4,11 @@ use Prim.Native.Nat.{ℕ, _+_}
 use mathlib.Core.Path.{_≡_, refl, sym, _∙_}
 use mathlib.Core.Bool.{Bool, true, false, not, cond, _&&_, _||_}
 use mathlib.Core.List.{[], _∷_}
-use borrow.Author.Tests.{eqb-true, eqb-false, eq-eqb, ne-eqb}
+use borrow.Author.Tests.{eqb-true, eqb-false}
 use lib.Dec.{eqb}
 use lib.ListN.{length}
 use Rattle.lists.specs.Lists.{passing}
+use Rattle.lists.proofs.NumberLaws.{eqb-swap}
 use Rattle.trio_family.specs.declared.pair.Pair.{Pair}
 use Rattle.trio_family.specs.Genotypes.{pair}
 use Rattle.trio_mendel.specs.Mendel.{ordered, distinct, combinations, childPairs}
@@ -51,14 +52,6 @@ shared-by f m = go (eqb (f .low) (f .high)) (carries m (f .low)) (carries m (f .
 
 -- ---- the number of pairs
 
--- the test of two numbers, either way round
-pub eqb-comm : (a b : ℕ) → eqb a b ≡ eqb b a
-eqb-comm a b = go (eqb b a) refl
-  where
-    go : (t : Bool) → eqb b a ≡ t → eqb a b ≡ t
-    go true e = eq-eqb a b (sym (eqb-true b a e))
-    go false e = ne-eqb a b (λ q. eqb-false b a e (sym q))
-
 -- the father has a and b, the mother k and l
 module _ (a b k l : ℕ) where
   -- by which of the four are equal, `ab` saying whether a is b and so on: the length of the list, one more for each combination that is not
@@ -77,7 +70,7 @@ module _ (a b k l : ℕ) where
   four-by-list =
       four-count (ordered a k) (ordered a l) (ordered b k) (ordered b l)
       ∙ rw (same-ordered a k b l, same-column a b l, same-row b k l, same-column a b k, same-ordered a l b k, same-row a k l)
-      (rw (eqb-comm a l, eqb-comm a k, eqb-comm l k))
+      (rw (eqb-swap a l, eqb-swap a k, eqb-swap l k))
 
   agree : (ab kl ka la kb lb : Bool) → eqb a b ≡ ab → eqb k l ≡ kl → eqb k a ≡ ka → eqb l a ≡ la → eqb k b ≡ kb → eqb l b ≡ lb
       → byList ab kl ka la kb lb ≡ byNotebook ab kl ka la kb lb

@@ -13,13 +13,20 @@ use Rattle.trio_family.specs.Genotypes.{pair}
 use Rattle.lists.specs.Lists.{passing}
 use Rattle.trio_mendel.specs.Mendel.{ordered, samePair, among, distinct}
 
+-- x is u, and y is v
+abbrev pub together : ℕ → ℕ → ℕ → ℕ → Bool
+together x u y v = eqb x u && eqb y v
+
+pub together-is : (x u y v : ℕ) → together x u y v ≡ true → (x ≡ u) × (y ≡ v)
+together-is x u y v h =
+    let parts = and-eq-true-iff (eqb x u) (eqb y v) .0 h in
+    (eqb-true x u (parts .0), eqb-true y v (parts .1))
+
 -- the test tells equal pairs
 pub same-is : (p q : Pair) → samePair p q ≡ true → p ≡ q
 same-is p q e =
-    let parts = and-eq-true-iff (eqb (p .low) (q .low)) (eqb (p .high) (q .high)) .0 e in
-    let l = eqb-true (p .low) (q .low) (parts .0) in
-    let h = eqb-true (p .high) (q .high) (parts .1) in
-    ap (λ x. record { low = x; high = p .high }) l ∙ ap (λ x. record { low = q .low; high = x }) h
+    let parts = together-is (p .low) (q .low) (p .high) (q .high) e in
+    ap (λ x. record { low = x; high = p .high }) (parts .0) ∙ ap (λ x. record { low = q .low; high = x }) (parts .1)
 
 -- ---- two pairs are the same when their alleles are, one way round or the other
 
@@ -32,17 +39,13 @@ or-right : (s t : Bool) → (s ≡ true → t ≡ true) → t ≡ (s || t)
 or-right true t h = h refl
 or-right false t h = refl
 
--- x is u, and y is v
-abbrev pub together : ℕ → ℕ → ℕ → ℕ → Bool
-together x u y v = eqb x u && eqb y v
-
-pub together-is : (x u y v : ℕ) → together x u y v ≡ true → (x ≡ u) × (y ≡ v)
-together-is x u y v h =
-    let parts = and-eq-true-iff (eqb x u) (eqb y v) .0 h in
-    (eqb-true x u (parts .0), eqb-true y v (parts .1))
-
-is-together : (x u y v : ℕ) → x ≡ u → y ≡ v → together x u y v ≡ true
-is-together x u y v p q = rw (eq-eqb x u p, eq-eqb y v q)
+-- two equalities that follow from two others
+together-then : (x u y v x′ u′ y′ v′ : ℕ) → (x ≡ u → y ≡ v → (x′ ≡ u′) × (y′ ≡ v′))
+    → together x u y v ≡ true → together x′ u′ y′ v′ ≡ true
+together-then x u y v x′ u′ y′ v′ then h =
+    let e = together-is x u y v h in
+    let d = then (e .0) (e .1) in
+    rw (eq-eqb x′ u′ (d .0), eq-eqb y′ v′ (d .1))
 
 -- x and y are u and v, one way round or the other
 abbrev pub matchedPairs : ℕ → ℕ → ℕ → ℕ → Bool
@@ -60,35 +63,21 @@ same-ordered x y u v = go (leb x y) (leb u v) refl refl
     go : (b c : Bool) → leb x y ≡ b → leb u v ≡ c
         → samePair (cond b (pair x y) (pair y x)) (cond c (pair u v) (pair v u)) ≡ matchedPairs x y u v
     go true true p q =
-        or-left straight crossed
-        (λ h.
-        let e = together-is x v y u h in
         let l = leb-true x y p in
         let k = leb-true u v q in
-        is-together x u y v (omega arith) (omega arith))
+        or-left straight crossed (together-then x v y u x u y v (λ e d. (omega arith, omega arith)))
     go true false p q =
-        or-right straight crossed
-        (λ h.
-        let e = together-is x u y v h in
         let l = leb-true x y p in
         let k = leb-false u v q in
-        is-together x v y u (omega arith) (omega arith))
+        or-right straight crossed (together-then x u y v x v y u (λ e d. (omega arith, omega arith)))
     go false true p q =
-        and-comm (eqb y u) (eqb x v)
-        ∙ or-right straight crossed
-        (λ h.
-        let e = together-is x u y v h in
         let l = leb-false x y p in
         let k = leb-true u v q in
-        is-together x v y u (omega arith) (omega arith))
+        and-comm (eqb y u) (eqb x v) ∙ or-right straight crossed (together-then x u y v x v y u (λ e d. (omega arith, omega arith)))
     go false false p q =
-        and-comm (eqb y v) (eqb x u)
-        ∙ or-left straight crossed
-        (λ h.
-        let e = together-is x v y u h in
         let l = leb-false x y p in
         let k = leb-false u v q in
-        is-together x u y v (omega arith) (omega arith))
+        and-comm (eqb y v) (eqb x u) ∙ or-left straight crossed (together-then x v y u x u y v (λ e d. (omega arith, omega arith)))
 
 -- two combinations with one allele of the father are the same exactly when the mother's two alleles are
 pub same-row : (a k l : ℕ) → samePair (ordered a k) (ordered a l) ≡ eqb k l
