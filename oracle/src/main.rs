@@ -42,6 +42,7 @@ mod trio {
     pub mod desks;
     pub mod distances;
     pub mod forged;
+    pub mod grounds;
     pub mod halves;
     pub mod histories;
     pub mod inputs;
@@ -94,7 +95,7 @@ use tasks::{bench, changes, compare, limits, tails};
 
 fn main() -> ExitCode {
     let task = std::env::args().nth(1).unwrap_or_default();
-    if !source::FOUND && ["cases", "changes", "distances", "limits", "walks"].contains(&task.as_str()) {
+    if !source::FOUND && ["cases", "changes", "distances", "grounds", "limits", "walks"].contains(&task.as_str()) {
         eprintln!("{}", source::NOT_FOUND);
         return ExitCode::FAILURE;
     }
@@ -119,11 +120,12 @@ fn main() -> ExitCode {
         }
         "fuzz" if fuzz::run(std::env::args().nth(2).and_then(|n| n.parse().ok())) => {}
         "fuzz" => return ExitCode::FAILURE,
+        "grounds" => trio::grounds::run(),
         "limits" => limits::run(),
         "pairs" => kernels::pairs::run(),
         "walks" => mosaic::walks::run(),
         _ => {
-            eprintln!("usage: oracle compare|cases|bench|changes|distances|fuzz|limits|pairs|walks");
+            eprintln!("usage: oracle compare|cases|bench|changes|distances|fuzz|grounds|limits|pairs|walks");
             return ExitCode::from(2);
         }
     }

@@ -12,20 +12,26 @@ use crate::sites::TAB;
 use text_reading::fields::field;
 use text_reading::fields::next_field;
 use text_reading::wholes::Whole;
+use text_writing::laying::first_bytes;
 use text_writing::laying::lay;
 use text_writing::laying::lay_whole;
 use trio_closings::closing::Closed;
 use trio_desks::call::call;
 use trio_family::ground::Ground;
+use trio_family::pair::Pair;
+use trio_family::pair::Triple;
+use trio_reads::flags::PairRead;
+use trio_reads::flags::TripleRead;
 use trio_triples::genotypes::triple_of;
 
-// The name of a ground behind a tab, in a row of eight, zeros behind it.
-fn ground(g: Ground) -> [u8; 8] {
+// The name of a ground behind a tab, in a row of ten, zeros behind it.
+fn ground(g: Ground) -> [u8; 10] {
     match g {
-        Ground::NoGround => *b"\t-\0\0\0\0\0\0",
-        Ground::Won => *b"\tWon\0\0\0\0",
-        Ground::Tied => *b"\tTied\0\0\0",
-        Ground::Unread => *b"\tUnread\0",
+        Ground::NoGround => *b"\t-\0\0\0\0\0\0\0\0",
+        Ground::Won => *b"\tWon\0\0\0\0\0\0",
+        Ground::Tied => *b"\tTied\0\0\0\0\0",
+        Ground::Unread => *b"\tUnread\0\0\0",
+        Ground::Inferred => *b"\tInferred\0",
     }
 }
 
@@ -37,13 +43,66 @@ fn worth(text: &mut [u8], at: usize, g: Ground, quality: u32) -> usize {
     lay_whole(text, to_quality, quality as u64)
 }
 
-// The call of n clusters, its ground, its quality and its runner-up.
+// An allele that is not read, as `sire:1`, in a list that starts at `start`: behind a comma, if it is not the first.
+fn allele(
+    text: &mut [u8],
+    start: usize,
+    end: usize,
+    animal: &[u8],
+    number: u64,
+    read: bool,
+) -> usize {
+    if read {
+        return end;
+    }
+    let comma = if end == start { 0 } else { 1 };
+    let to_animal = lay(text, end, first_bytes(b",", comma));
+    let to_colon = lay(text, to_animal, animal);
+    let to_number = lay(text, to_colon, b":");
+    lay_whole(text, to_number, number)
+}
+
+// The alleles of an animal's pair that it has no read of; that of a homozygote stands once.
+fn unread_of(
+    text: &mut [u8],
+    start: usize,
+    end: usize,
+    animal: &[u8],
+    pair: Pair,
+    read: PairRead,
+) -> usize {
+    let to_high = allele(text, start, end, animal, pair.low, read.low);
+    let said = read.high || pair.high == pair.low;
+    allele(text, start, to_high, animal, pair.high, said)
+}
+
+// All called alleles that their animals have no read of, or a `-`.
+fn unread_alleles(text: &mut [u8], at: usize, t: Triple, read: TripleRead) -> usize {
+    let child = t.child;
+    let father = t.father;
+    let mother = t.mother;
+    let of_child = read.child;
+    let of_father = read.father;
+    let of_mother = read.mother;
+    let start = lay(text, at, b"\t");
+    let to_sire = unread_of(text, start, start, b"calf", child, of_child);
+    let to_dam = unread_of(text, start, to_sire, b"sire", father, of_father);
+    let end = unread_of(text, start, to_dam, b"dam", mother, of_mother);
+    if end == start {
+        return lay(text, end, b"-");
+    }
+    end
+}
+
+// The call of n clusters, its ground, its quality, what was not read of it, and its runner-up.
 fn called(text: &mut [u8], at: usize, n: u64, c: Closed) -> usize {
     let triple = c.triple;
     let runner = c.runner;
+    let read = c.read;
     let g = c.ground;
     let to_ground = answers::triple(text, at, triple);
-    let to_runner = worth(text, to_ground, g, c.quality);
+    let to_unread = worth(text, to_ground, g, c.quality);
+    let to_runner = unread_alleles(text, to_unread, triple, read);
     if c.has_runner {
         return answers::triple(text, to_runner, triple_of(n, runner.position));
     }

@@ -58,6 +58,12 @@ use Rattle.trio.proofs.rows.row_count.Reads as row-count
 use Rattle.trio.proofs.rows.work_row.Reads as work-row
 use Rattle.trio.proofs.merging.merge.Reads as merge
 use Rattle.trio_family.proofs.ground.ground_number.Reads as ground-number
+use Rattle.trio_family.proofs.ground.ground_by.Reads as ground-by
+use Rattle.trio_reads.proofs.unread.is_unread.Reads as is-unread
+use Rattle.trio_reads.proofs.flags.has_read.Reads as has-read
+use Rattle.trio_reads.proofs.flags.triple_read.Reads as triple-read
+use Rattle.trio_reads.proofs.flags.none_read.Reads as none-read
+use Rattle.trio_reads.proofs.flags.alleles_read.Reads as alleles-read
 use Rattle.trio_quality.proofs.quality.trio_quality.Reads as trio-quality
 use Rattle.trio_closings.proofs.closing.refused_closing.Reads as refused-closing
 use Rattle.trio_closings.proofs.closing.close.Reads as close
@@ -308,6 +314,24 @@ merge-once κ a v w e f = only
 pub ground-number-once : OneAnswer ground-number.Post
 ground-number-once κ a v w e f = only
 
+pub ground-by-once : OneAnswer ground-by.Post
+ground-by-once κ a v w e f = only
+
+pub is-unread-once : OneAnswer is-unread.Post
+is-unread-once κ a v w e f = only
+
+pub has-read-once : OneAnswer has-read.Post
+has-read-once κ a v w e f = only
+
+pub triple-read-once : OneAnswer triple-read.Post
+triple-read-once κ a v w e f = only
+
+pub none-read-once : OneAnswer none-read.Post
+none-read-once κ a v w e f = only
+
+pub alleles-read-once : OneAnswer alleles-read.Post
+alleles-read-once κ a v w e f = only
+
 pub refused-closing-once : OneAnswer refused-closing.Post
 refused-closing-once κ a v w e f = only
 
@@ -418,8 +442,8 @@ c-diploid-ends κ a v w e f p q = (only (p .1) (q .1), only (p .2) (q .2), only 
 pub c-trio-once : OneAnswer c-trio.Post
 c-trio-once κ a v w e f p q = only (p .refusal-is) (q .refusal-is)
 
--- and so is what it leaves behind its `&mut`, its fourth to tenth parameter: the pairs, the score, the ground, the flag, the position and
--- the score of the runner-up, the quality
+-- and so is what it leaves behind its `&mut`, its fourth to eleventh parameter: the pairs, the score, the ground, whether there is a
+-- runner-up, its position and its score, the quality, the flags
 pub c-trio-ends : (κ : _) (a : _) (v w : _) (e f : _) → c-trio.Post κ a v e → c-trio.Post κ a w f
     → (e .1 .1 .1 .0 .now ≡ f .1 .1 .1 .0 .now)
     × (e .1 .1 .1 .1 .0 .now ≡ f .1 .1 .1 .1 .0 .now)
@@ -428,6 +452,7 @@ pub c-trio-ends : (κ : _) (a : _) (v w : _) (e f : _) → c-trio.Post κ a v e 
     × (e .1 .1 .1 .1 .1 .1 .1 .0 .now ≡ f .1 .1 .1 .1 .1 .1 .1 .0 .now)
     × (e .1 .1 .1 .1 .1 .1 .1 .1 .0 .now ≡ f .1 .1 .1 .1 .1 .1 .1 .1 .0 .now)
     × (e .1 .1 .1 .1 .1 .1 .1 .1 .1 .0 .now ≡ f .1 .1 .1 .1 .1 .1 .1 .1 .1 .0 .now)
+    × (e .1 .1 .1 .1 .1 .1 .1 .1 .1 .1 .0 .now ≡ f .1 .1 .1 .1 .1 .1 .1 .1 .1 .1 .0 .now)
 c-trio-ends κ a v w e f p q = (
   only (p .pairs-are) (q .pairs-are),
   only (p .score-is) (q .score-is),
@@ -436,6 +461,7 @@ c-trio-ends κ a v w e f p q = (
   only (p .position-is) (q .position-is),
   only (p .second-is) (q .second-is),
   only (p .quality-is) (q .quality-is),
+  only (p .read-are) (q .read-are),
 )
 
 pub c-trio-quality-once : OneAnswer c-trio-quality.Post

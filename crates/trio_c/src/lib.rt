@@ -1,13 +1,14 @@
 // The whole call of a trio, and a quality by itself, for callers in other languages: a cluster number and slices, or two scores, in;
-// numbers out (docs/RULES.md, T9, T10, T11).
+// numbers out (docs/RULES.md, T9 to T12).
 // It answers every argument; what the foreign caller answers for is in docs/TRUST.md.
 ghost use mathlib.Core.Path.{_≡_};
 ghost use mathlib.Core.Bool.{cond, not};
 ghost use lib.Dec.{eqb};
 ghost use Rattle.trio_quality.specs.Quality.{trioQuality};
 ghost use Rattle.trio_desks.specs.Call.{callOf};
-ghost use Rattle.trio_c.specs.Trio.{IsCall};
+ghost use Rattle.trio_c.specs.Trio.{IsCall, sixFlags};
 use trio_family::ground;
+use trio_reads::flags::TripleRead;
 
 // 1 for true.
 fn flag(b: bool) -> u32
@@ -16,9 +17,26 @@ fn flag(b: bool) -> u32
     if b { 1 } else { 0 }
 }
 
+// Animal by animal, the lower allele first.
+fn six_flags(f: TripleRead) -> [u32; 6]
+    ensures { λ r. ⌜ r ≡ sixFlags f ⌝ }
+{
+    let child = f.child;
+    let father = f.father;
+    let mother = f.mother;
+    [
+        flag(child.low),
+        flag(child.high),
+        flag(father.low),
+        flag(father.high),
+        flag(mother.low),
+        flag(mother.high),
+    ]
+}
+
 // Each cluster has three counts, of child, father and mother. The refusal's number is returned. Written through references: the pairs of
-// child, father and mother, the score, the ground's number, 1 if there is a runner-up and else 0, its position and its score, and the
-// quality.
+// child, father and mother, the score, the ground's number, 1 if there is a runner-up and else 0, its position and its score, the quality,
+// and for each allele of the pairs 1 if its animal has a read of it and else 0.
 #[no_mangle]
 pub extern "C" fn admulfas_trio(
     clusters: u64,
@@ -31,10 +49,11 @@ pub extern "C" fn admulfas_trio(
     position: &mut u64,
     second: &mut f64,
     quality: &mut u32,
+    read: &mut [u32; 6],
 ) -> u32
     ensures { λ r. ⌜ IsCall (callOf «clusters» (now (counts .entry)) (now (weights .entry)))
         r (now (pairs .exit)) (now (score .exit)) (now (ground .exit)) (now (runner .exit)) (now (position .exit)) (now (second .exit))
-        (now (quality .exit)) ⌝ }
+        (now (quality .exit)) (now (read .exit)) ⌝ }
 {
     let answer = trio_desks::call::call(clusters, counts, weights);
     let refusal = answer.refusal;
@@ -58,6 +77,7 @@ pub extern "C" fn admulfas_trio(
     *position = next.position;
     *second = next.score;
     *quality = answer.quality;
+    *read = six_flags(answer.read);
     refusals::number(refusal)
 }
 

@@ -1,28 +1,33 @@
-// Closing a part: the call, its score, the runner-up, the ground and the quality (docs/RULES.md, T9, T10, T11).
+// Closing a part: the call, what was read of it, its score, the runner-up, the ground and the quality (docs/RULES.md, T9 to T12).
 ghost use mathlib.Core.Path.{_≡_};
-ghost use Rattle.trio_closings.specs.Closing.{unread, groundBy, refusedClosing, closedAs, closeStep};
+ghost use Rattle.trio_closings.specs.Closing.{tied, refusedClosing, closedAs, closeStep};
 use floats::key::key;
 use refusals::Refusal;
 use trio_entries::entry::Entry;
 use trio_entries::held::Held;
 use trio_family::genotypes::genotype_count;
 use trio_family::ground::Ground;
+use trio_family::ground::ground_by;
 use trio_family::pair::Pair;
 use trio_family::pair::Triple;
-use trio_family::sample::Sample;
 use trio_parts::part::Part;
 use trio_parts::shape::right_part;
 use trio_quality::quality::trio_quality;
-use trio_samples::samples::column_total;
+use trio_reads::flags::TripleRead;
+use trio_reads::flags::alleles_read;
+use trio_reads::flags::none_read;
+use trio_reads::flags::triple_read;
+use trio_reads::unread::is_unread;
 use trio_search::marks::all_marked;
 use trio_triples::genotypes::triple_of;
 
-// The call with its score, its ground, its quality and the runner-up, if there is one; or a refusal with zeros. The part is handed back in
-// every case.
+// The call with what was read of its alleles, its score, its ground, its quality and the runner-up, if there is one; or a refusal with
+// zeros. The part is handed back in every case.
 pub struct Closed {
     pub refusal: Refusal,
     pub part: Part,
     pub triple: Triple,
+    pub read: TripleRead,
     pub score: f64,
     pub ground: Ground,
     pub quality: u32,
@@ -30,33 +35,14 @@ pub struct Closed {
     pub runner: Entry,
 }
 
-// Has some animal no reads?
-fn is_unread(n: u64, counts: [u32; 24]) -> bool
-    ensures { λ r. ⌜ r ≡ unread n counts ⌝ }
+// Is there a runner-up with the key of the best?
+fn is_tied(h: Held) -> bool
+    ensures { λ r. ⌜ r ≡ tied h ⌝ }
 {
-    if column_total(n, counts, Sample::Child) == 0 {
-        return true;
-    }
-    if column_total(n, counts, Sample::Father) == 0 {
-        return true;
-    }
-    column_total(n, counts, Sample::Mother) == 0
-}
-
-// The ground of what is held, by whether some animal has no reads.
-fn ground_of(some_unread: bool, h: Held) -> Ground
-    ensures { λ r. ⌜ r ≡ groundBy «some_unread» h ⌝ }
-{
-    if some_unread {
-        return Ground::Unread;
-    }
     if h.count < 2 {
-        return Ground::Won;
+        return false;
     }
-    if key(h.first.score) == key(h.second.score) {
-        return Ground::Tied;
-    }
-    Ground::Won
+    key(h.first.score) == key(h.second.score)
 }
 
 // A refusal with zeros, and the part.
@@ -72,6 +58,7 @@ pub fn refused_closing(refusal: Refusal, p: Part) -> Closed
             father: none,
             mother: none,
         },
+        read: none_read(),
         score: 0.0,
         ground: Ground::NoGround,
         quality: 0,
@@ -92,15 +79,19 @@ fn closed_as(p: Part) -> Closed
     let held = p.held;
     let first = held.first;
     let runner = held.second;
-    let some_unread = is_unread(n, counts);
+    let triple = triple_of(n, first.position);
+    let read = triple_read(counts, triple);
+    let unread = is_unread(n, counts);
+    let inferred = !alleles_read(read);
     let has_runner = 2 <= held.count;
     Closed {
         refusal: Refusal::Done,
         part: p,
-        triple: triple_of(n, first.position),
+        triple,
+        read,
         score: first.score,
-        ground: ground_of(some_unread, held),
-        quality: trio_quality(some_unread, has_runner, first.score, runner.score),
+        ground: ground_by(unread, inferred, is_tied(held)),
+        quality: trio_quality(unread, has_runner, first.score, runner.score),
         has_runner,
         runner,
     }

@@ -45,7 +45,8 @@ use Rattle.trio_parts.specs.Right.{inputRight, rightPart}
 use Rattle.trio_parts.specs.Same.{sameInput}
 use Rattle.trio_samples.specs.Samples.{columnTotal}
 use Rattle.trio.specs.Steps.{scoreIn, rowsIn, rowStep, mergeStep}
-use Rattle.trio_closings.specs.Closing.{unread, closedAs, refusedClosing, closeStep}
+use Rattle.trio_reads.specs.Unread.{unread}
+use Rattle.trio_closings.specs.Closing.{closedAs, refusedClosing, closeStep}
 use Rattle.trio_desks.specs.Call.{onePassCall, workedTo}
 use Rattle.trio_laws.proofs.Inputs.{input-accepted, scores-numbers}
 use Rattle.trio_laws.proofs.ScoreBounds.{unread-least}

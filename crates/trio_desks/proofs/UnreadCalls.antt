@@ -28,7 +28,8 @@ use Rattle.trio_parts.specs.Part.{rowCount, freshPart}
 use Rattle.trio_parts.proofs.RightLaws.{right-input}
 use Rattle.trio_opening.specs.Opening.{openStep}
 use Rattle.trio.specs.Steps.{scoreIn}
-use Rattle.trio_closings.specs.Closing.{unread, groundOf, closedAs}
+use Rattle.trio_reads.specs.Unread.{unread}
+use Rattle.trio_closings.specs.Closing.{closedAs}
 use Rattle.trio_quality.specs.Quality.{trioQuality}
 use Rattle.trio_desks.specs.Call.{onePassCall, calledBy, callOf}
 use Rattle.trio_desks.specs.UnreadCall.{lastTriple, LastUnread}
@@ -73,7 +74,7 @@ module _ (start : Part) (many : 2 ≤ start .clusters) (few : start .clusters �
   held-is = flat-pass (scoreIn start) (inf true) least (genotypeCount n * rowWidth n) positions
 
   pub last-unread : LastUnread n (onePassCall start)
-  unfolding closedAs groundOf trioQuality
+  unfolding closedAs trioQuality
   last-unread =
       record {
         is-done = refl;

@@ -3,7 +3,7 @@ use Prim.Native.Nat.{ℕ}
 use Rattle.trio_family.specs.declared.sample.Sample.{Sample}
 use Rattle.trio_family.specs.declared.sample.Sample.the-variants.{Child, Father, Mother}
 use Rattle.trio_family.specs.declared.ground.Ground.{Ground}
-use Rattle.trio_family.specs.declared.ground.Ground.the-variants.{NoGround, Won, Tied, Unread}
+use Rattle.trio_family.specs.declared.ground.Ground.the-variants.{NoGround, Won, Tied, Unread, Inferred}
 
 -- T, F7: the column of an animal among the three counts of a cluster
 abbrev pub sampleNumber : Sample → ℕ
@@ -17,3 +17,4 @@ groundNumber NoGround = 0
 groundNumber Won = 1
 groundNumber Tied = 2
 groundNumber Unread = 3
+groundNumber Inferred = 4

@@ -1,5 +1,6 @@
 // The ground of a call (docs/RULES.md, T10).
 ghost use mathlib.Core.Path.{_≡_};
+ghost use Rattle.trio_family.specs.Grounds.{groundBy};
 ghost use Rattle.trio_family.specs.Numbers.{groundNumber};
 
 // What a call rests on; a refusal has no ground.
@@ -8,6 +9,7 @@ pub enum Ground {
     Won,
     Tied,
     Unread,
+    Inferred,
 }
 
 // The number by which callers in other languages and every text form know a ground.
@@ -19,5 +21,23 @@ pub fn ground_number(g: Ground) -> u32
         Ground::Won => 1,
         Ground::Tied => 2,
         Ground::Unread => 3,
+        Ground::Inferred => 4,
     }
+}
+
+// The ground of a call by what speaks against it: an animal without a read, a called allele that its animal has no read of, a best score
+// that is shared.
+pub fn ground_by(unread: bool, inferred: bool, shared: bool) -> Ground
+    ensures { λ g. ⌜ g ≡ groundBy unread inferred shared ⌝ }
+{
+    if unread {
+        return Ground::Unread;
+    }
+    if inferred {
+        return Ground::Inferred;
+    }
+    if shared {
+        return Ground::Tied;
+    }
+    Ground::Won
 }

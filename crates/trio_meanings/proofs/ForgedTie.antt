@@ -16,10 +16,13 @@ use Rattle.trio_samples.specs.Samples.{columnTotal}
 use Rattle.trio_parts.specs.declared.part.Part.{Part}
 use Rattle.trio_parts.specs.Part.{weightAllowed, rowCount}
 use Rattle.trio_parts.specs.Right.{inputRight, rightPart}
+use Rattle.trio_triples.specs.Genotypes.{genotypeAt, tripleAt, tripleOf}
+use Rattle.trio_reads.specs.Flags.{tripleRead, allelesRead}
+use Rattle.trio_reads.specs.Unread.{unread}
 use Rattle.trio_quality.specs.Quality.{trioQuality}
 use Rattle.trio_quality_laws.proofs.QualityExamples.{quality-examples}
 use Rattle.trio_closings.specs.declared.closing.Closed.{Closed}
-use Rattle.trio_closings.specs.Closing.{unread, hasRunner, tied, groundOf, closedAs, closeStep}
+use Rattle.trio_closings.specs.Closing.{hasRunner, tied, closedAs, closeStep}
 use Rattle.trio_desks.proofs.Forged.{closing-says}
 use Rattle.trio_meanings.specs.Qualities.{forgedTie}
 
@@ -27,11 +30,12 @@ infinities : (s : Bool) → trioQuality false true (inf s) (inf s) ≡ 100
 infinities true = quality-examples .least-scores
 infinities false = quality-examples .largest-scores
 
--- what a complete part with reads in every column says that holds two equal infinities
+-- what a complete part says that has a read of every called allele, reads in every column, and holds two equal infinities
 pub infinite-tie : (s : Bool) (p : Part) → hasRunner (p .held) ≡ true → unread (p .clusters) (p .counts) ≡ false
+    → allelesRead (tripleRead (p .counts) (tripleOf (p .clusters) (p .held .first .position))) ≡ true
     → p .held .first .score ≡ inf s → p .held .second .score ≡ inf s → (closedAs p .ground ≡ Tied) × (closedAs p .quality ≡ 100)
-unfolding closedAs groundOf tied
-infinite-tie s p r u b n = rw (r, u, b, n, decide-true (ℤ-discrete (keyOf (inf s)) (keyOf (inf s))) refl) (refl, infinities s)
+unfolding closedAs tied
+infinite-tie s p r u a b n = rw (r, u, a, b, n, decide-true (ℤ-discrete (keyOf (inf s)) (keyOf (inf s))) refl) (refl, infinities s)
 
 -- ---- there is such a part, of the right shape
 
@@ -47,9 +51,13 @@ tie-read : unread (forgedTie .clusters) (forgedTie .counts) ≡ false
 unfolding unread columnTotal forgedTie
 tie-read = refl
 
+tie-alleles : allelesRead (tripleRead (forgedTie .counts) (tripleOf (forgedTie .clusters) (forgedTie .held .first .position))) ≡ true
+unfolding allelesRead tripleRead tripleOf tripleAt genotypeAt genotypeCount forgedTie
+tie-alleles = refl
+
 tie-says : (closedAs forgedTie .ground ≡ Tied) × (closedAs forgedTie .quality ≡ 100)
 unfolding forgedTie
-tie-says = infinite-tie false forgedTie refl tie-read refl refl
+tie-says = infinite-tie false forgedTie refl tie-read tie-alleles refl refl
 
 pub forged-tie : (closeStep forgedTie .ground ≡ Tied) × (closeStep forgedTie .quality ≡ 100)
 forged-tie =

@@ -1,10 +1,9 @@
--- T11 beside T10: of an accepted input 0 exactly where an animal is unread, 3 at a tie, from 3 to 100 otherwise, and kanpig's number where
--- all are read; of the call, and of closing whatever a history ends with. And that what else is answered does not depend on it.
--- Assumes nothing.
+-- T11 beside T10: of an accepted input 0 exactly where an animal is unread, 3 at a tie, behind Inferred too, from 3 to 100 otherwise, and
+-- kanpig's number where all are read; of the call, and of closing whatever a history ends with. Assumes nothing.
 use Prim.Native.Nat.{ℕ, _≤_, _<_}
-use mathlib.Core.Bool.{Bool, true, false, cond, decide, decide-iff, _&&_}
+use mathlib.Core.Bool.{Bool, true, false, not, cond, decide, decide-iff, _&&_, true≢false}
 use mathlib.Core.List.{List, [], _∷_}
-use mathlib.Core.Logic.{_↔_, _⊎_, inl, inr, ⊎-elim, _≢_}
+use mathlib.Core.Logic.{_↔_, ⊎-elim, _≢_}
 use mathlib.Core.Path.{_≡_, refl, sym, ap, subst, _∙_}
 use native.Mathlib.Omega.{arith}
 use borrow.Author.Tests.{eqb-true, eqb-false}
@@ -17,9 +16,14 @@ use Rattle.floats.specs.Zeros.{Number}
 use Rattle.refusals.specs.declared.Refusal.the-variants.{Done, NotComplete, BadPart}
 use Rattle.refusals.specs.Refusals.{numberOf}
 use Rattle.trio_family.specs.declared.ground.Ground.{Ground}
-use Rattle.trio_family.specs.declared.ground.Ground.the-variants.{NoGround, Won, Tied, Unread}
+use Rattle.trio_family.specs.declared.ground.Ground.the-variants.{NoGround, Won, Tied, Unread, Inferred}
+use Rattle.trio_family.specs.Grounds.{groundBy}
 use Rattle.trio_family.specs.Numbers.{groundNumber}
 use Rattle.trio_samples.specs.Samples.{columnTotal}
+use Rattle.trio_reads.specs.declared.flags.TripleRead.{TripleRead}
+use Rattle.trio_reads.specs.Flags.{tripleRead, allelesRead}
+use Rattle.trio_reads.specs.Unread.{unread}
+use Rattle.trio_triples.specs.Genotypes.{tripleOf}
 use Rattle.trio_triples.specs.Score.{scoreOf}
 use Rattle.trio_parts.specs.declared.part.Part.{Part}
 use Rattle.trio_parts.specs.declared.part.Stepped.{Stepped}
@@ -34,7 +38,7 @@ use Rattle.trio_quality_laws.proofs.QualityLaws.{quality-most, unread-nothing, 
 use Rattle.trio_quality_laws.proofs.QualityLeast.{quality-least}
 use Rattle.trio_quality_laws.proofs.QualityExamples.{quality-examples}
 use Rattle.trio_closings.specs.declared.closing.Closed.{Closed}
-use Rattle.trio_closings.specs.Closing.{unread, hasRunner, tied, groundOf, Quality, closedBy, closeBy, closedAs, refusedClosing, closeStep}
+use Rattle.trio_closings.specs.Closing.{hasRunner, tied, closedAs, refusedClosing, closeStep}
 use Rattle.trio_desks.specs.Call.{callOf}
 use Rattle.trio_desks.specs.History.{History, AllWorked, Promised, partOf}
 use Rattle.trio_desks.specs.Steps.{openedPart}
@@ -43,52 +47,12 @@ use Rattle.trio_desks.proofs.Opening.{opened-is}
 use Rattle.trio_laws.proofs.ScoreBounds.{score-within, score-fits}
 use Rattle.trio_meanings.specs.Called.{calledAt, keyAt, Called}
 use Rattle.trio_meanings.specs.Grounds.{SomeUnread, AllRead, BestShared}
-use Rattle.trio_meanings.specs.Qualities.{QualityBeside, Rated, bestScores, SameButQuality}
+use Rattle.trio_meanings.specs.Qualities.{QualityBeside, Rated, bestScores}
 use Rattle.trio_meanings.proofs.CallLaws.{limits, call-called, closing-is}
 use Rattle.trio_meanings.proofs.CloseLaws.{complete-exactly}
 use Rattle.trio_meanings.proofs.EdgeLaws.{flat, unread-score}
 use Rattle.trio_meanings.proofs.FloatLaws.{allowed, key-below}
 use Rattle.trio_meanings.proofs.GroundLaws.{below-or-equal, unread-settles, ground-means}
-
--- ---- what is answered beside it
-
-same-itself : (c : Closed) → SameButQuality c c
-same-itself c =
-    record {
-      same-refusal = refl;
-      same-part = refl;
-      same-triple = refl;
-      same-score = refl;
-      same-ground = refl;
-      same-has-runner = refl;
-      same-runner = refl;
-    }
-
--- of a complete part, by whatever quality
-closed-same : (quality-by : Quality) (p : Part) → SameButQuality (closedBy quality-by p) (closedAs p)
-unfolding closedAs
-closed-same quality-by p =
-    record {
-      same-refusal = refl;
-      same-part = refl;
-      same-triple = refl;
-      same-score = refl;
-      same-ground = refl;
-      same-has-runner = refl;
-      same-runner = refl;
-    }
-
--- of any part: closing by whatever quality gives the refusal, part, triple, score, ground and runner-up that closing gives
-pub any-quality : (quality-by : Quality) (p : Part) → SameButQuality (closeBy (closedBy quality-by) p) (closeStep p)
-unfolding closeStep
-any-quality quality-by p = go (rightPart p) (eqb (p .marks) (fullMarks (rowCount p)))
-  where
-    go : (t u : Bool) → SameButQuality
-        (cond t (cond u (closedBy quality-by p) (refusedClosing NotComplete p)) (refusedClosing BadPart p))
-        (cond t (cond u (closedAs p) (refusedClosing NotComplete p)) (refusedClosing BadPart p))
-    go true true = closed-same quality-by p
-    go true false = same-itself (refusedClosing NotComplete p)
-    go false u = same-itself (refusedClosing BadPart p)
 
 -- ---- at most 100
 
@@ -104,38 +68,62 @@ closing-most p = go (rightPart p) (eqb (p .marks) (fullMarks (rowCount p)))
 
 -- ---- a tie of two finite scores
 
--- of what a complete part says, forged or not
-tied-finite : (p : Part) → Number (p .held .first .score) → Number (p .held .second .score) → closedAs p .ground ≡ Tied
-    → closedAs p .quality ≡ 3
-unfolding closedAs groundOf tied
-tied-finite p f g e = go (unread (p .clusters) (p .counts)) (hasRunner (p .held)) (decide test) refl e
-  where
-    b : Float
-    b = p .held .first .score
+module _ (p : Part) (f : Number (p .held .first .score)) (g : Number (p .held .second .score)) where
+  abbrev best : Float
+  best = p .held .first .score
 
-    n : Float
-    n = p .held .second .score
+  abbrev next : Float
+  next = p .held .second .score
 
-    test : Dec (keyOf b ≡ keyOf n)
-    test = ℤ-discrete (keyOf b) (keyOf n)
+  abbrev test : Dec (keyOf best ≡ keyOf next)
+  test = ℤ-discrete (keyOf best) (keyOf next)
 
-    go : (u r t : Bool) → decide test ≡ t → cond u Unread (cond (r && t) Tied Won) ≡ Tied → trioQuality u r b n ≡ 3
-    go true r t d e = absurd (omega (arith, ap groundNumber e))
-    go false false t d e = absurd (omega (arith, ap groundNumber e))
-    go false true false d e = absurd (omega (arith, ap groundNumber e))
-    go false true true d e = tied-three b n f g (decide-iff test .0 d)
+  -- what a complete part says whose animals all have reads and whose best score is shared, forged or not, whatever its ground
+  shared-finite : unread (p .clusters) (p .counts) ≡ false → tied (p .held) ≡ true → closedAs p .quality ≡ 3
+  unfolding closedAs tied
+  shared-finite u e = rw u (go (hasRunner (p .held)) (decide test) refl e)
+    where
+      go : (r t : Bool) → decide test ≡ t → (r && t) ≡ true → trioQuality false r best next ≡ 3
+      go true true d e = tied-three best next f g (decide-iff test .0 d)
+      go true false d e = absurd (true≢false (sym e))
+      go false t d e = absurd (true≢false (sym e))
 
--- and so of whatever part closes as Tied
-pub tied-closing : (p : Part) → Number (p .held .first .score) → Number (p .held .second .score) → closeStep p .ground ≡ Tied
-    → closeStep p .quality ≡ 3
-unfolding closeStep refusedClosing
-tied-closing p f g = go (rightPart p) (eqb (p .marks) (fullMarks (rowCount p)))
-  where
-    go : (t u : Bool) → cond t (cond u (closedAs p) (refusedClosing NotComplete p)) (refusedClosing BadPart p) .ground ≡ Tied
-        → cond t (cond u (closedAs p) (refusedClosing NotComplete p)) (refusedClosing BadPart p) .quality ≡ 3
-    go true true e = tied-finite p f g e
-    go true false e = absurd (omega (arith, ap groundNumber e))
-    go false u e = absurd (omega (arith, ap groundNumber e))
+  -- Tied is such a part's ground
+  tied-says : closedAs p .ground ≡ Tied → (unread (p .clusters) (p .counts) ≡ false) × (tied (p .held) ≡ true)
+  unfolding closedAs
+  tied-says = go (unread (p .clusters) (p .counts)) (not (allelesRead read)) (tied (p .held))
+    where
+      read : TripleRead
+      read = tripleRead (p .counts) (tripleOf (p .clusters) (p .held .first .position))
+
+      go : (u i t : Bool) → groundBy u i t ≡ Tied → (u ≡ false) × (t ≡ true)
+      go true i t e = absurd (omega (arith, ap groundNumber e))
+      go false true t e = absurd (omega (arith, ap groundNumber e))
+      go false false true e = (refl, refl)
+      go false false false e = absurd (omega (arith, ap groundNumber e))
+
+  -- so whatever part closes with a best score that is shared has 3, Tied or Inferred
+  pub shared-closing : closeStep p .refusal ≡ Done → unread (p .clusters) (p .counts) ≡ false → tied (p .held) ≡ true
+      → closeStep p .quality ≡ 3
+  unfolding closeStep refusedClosing
+  shared-closing d u e = go (rightPart p) (eqb (p .marks) (fullMarks (rowCount p))) d
+    where
+      go : (t w : Bool) → cond t (cond w (closedAs p) (refusedClosing NotComplete p)) (refusedClosing BadPart p) .refusal ≡ Done
+          → cond t (cond w (closedAs p) (refusedClosing NotComplete p)) (refusedClosing BadPart p) .quality ≡ 3
+      go true true d = shared-finite u e
+      go true false d = absurd (omega (arith, ap numberOf d))
+      go false w d = absurd (omega (arith, ap numberOf d))
+
+  -- and whatever part closes as Tied
+  pub tied-closing : closeStep p .ground ≡ Tied → closeStep p .quality ≡ 3
+  unfolding closeStep refusedClosing
+  tied-closing = go (rightPart p) (eqb (p .marks) (fullMarks (rowCount p)))
+    where
+      go : (t w : Bool) → cond t (cond w (closedAs p) (refusedClosing NotComplete p)) (refusedClosing BadPart p) .ground ≡ Tied
+          → cond t (cond w (closedAs p) (refusedClosing NotComplete p)) (refusedClosing BadPart p) .quality ≡ 3
+      go true true e = let says = tied-says e in shared-finite (says .0) (says .1)
+      go true false e = absurd (omega (arith, ap groundNumber e))
+      go false w e = absurd (omega (arith, ap groundNumber e))
 
 -- ---- kanpig's function of the best scores, which is not told whether an animal is unread
 
@@ -229,13 +217,22 @@ module _ (n : ℕ) (counts : List ℕ) (weights : List Float) (accepted : openSt
             by-runner true e ∙ tied-three (c .score) (c .runner .score) best-finite (next-finite e) keys
         go false e = absurd (called .no-runner e (s .0) (s .1))
 
-  -- on Won and Tied it is what kanpig's own function gives for the best scores
-  pub on-won-and-tied : (c .ground ≡ Won) ⊎ (c .ground ≡ Tied) → pos (c .quality) ≡ kanpigQuality (bestScores c)
-  on-won-and-tied g = ap pos (by-runner (read g) (c .«has_runner») refl) ∙ sym (kanpig-is (c .«has_runner») (c .score) (c .runner .score))
+  -- on every ground but Unread all animals have reads
+  all-but-unread : c .ground ≢ Unread → AllRead n counts
+  all-but-unread other = go (unread n counts) refl
     where
-      read : (c .ground ≡ Won) ⊎ (c .ground ≡ Tied) → AllRead n counts
-      read (inl e) = ground-means n counts weights accepted Won .0 e .0
-      read (inr e) = ground-means n counts weights accepted Tied .0 e .0
+      go : (u : Bool) → unread n counts ≡ u → AllRead n counts
+      go true u = absurd (other (ground-means n counts weights accepted Unread .1 (unread-settles n counts .holds u)))
+      go false u = unread-settles n counts .fails u
+
+  -- there it is what kanpig's own function gives for the best scores
+  pub on-all-but-unread : c .ground ≢ Unread → pos (c .quality) ≡ kanpigQuality (bestScores c)
+  on-all-but-unread other =
+      ap pos (by-runner (all-but-unread other) (c .«has_runner») refl) ∙ sym (kanpig-is (c .«has_runner») (c .score) (c .runner .score))
+
+  -- a tie may stand behind Inferred: then it is 3 as of every tie
+  pub hidden-tie : c .ground ≡ Inferred → BestShared n counts weights (calledAt c) → c .quality ≡ 3
+  hidden-tie g s = shared-three (ground-means n counts weights accepted Inferred .0 g .0) s
 
   -- on Unread that would be 100, with a runner-up or without
   pub on-unread : c .ground ≡ Unread → kanpigQuality (bestScores c) ≡ pos 100
@@ -257,7 +254,8 @@ module _ (n : ℕ) (counts : List ℕ) (weights : List Float) (accepted : openSt
   beside : (g : Ground) → c .ground ≡ g → QualityBeside g (c .quality)
   beside NoGround e = absurd (ground-means n counts weights accepted NoGround .0 e)
   beside Unread e = unread-none (ground-means n counts weights accepted Unread .0 e)
-  beside Tied e = let m = ground-means n counts weights accepted Tied .0 e in shared-three (m .0) (m .1)
+  beside Inferred e = let m = ground-means n counts weights accepted Inferred .0 e in (least (m .0) (c .«has_runner») refl, most)
+  beside Tied e = let m = ground-means n counts weights accepted Tied .0 e in shared-three (m .0) (m .2)
   beside Won e = let m = ground-means n counts weights accepted Won .0 e in (least (m .0) (c .«has_runner») refl, most)
 
   accepted-rated : Rated c
@@ -304,12 +302,17 @@ module _ (n : ℕ) (counts : List ℕ) (weights : List Float) (accepted : openSt
     closing-nothing =
         subst (λ (c : Closed). (c .quality ≡ 0) ↔ SomeUnread n counts) (sym is-call) (nothing-exactly n counts weights accepted)
 
-    -- and kanpig's on Won and Tied
-    pub closing-won-and-tied : (closing .ground ≡ Won) ⊎ (closing .ground ≡ Tied)
-        → pos (closing .quality) ≡ kanpigQuality (bestScores closing)
-    closing-won-and-tied =
-        subst (λ (c : Closed). (c .ground ≡ Won) ⊎ (c .ground ≡ Tied) → pos (c .quality) ≡ kanpigQuality (bestScores c))
-        (sym is-call) (on-won-and-tied n counts weights accepted)
+    -- kanpig's on every ground but that of an unread trio
+    pub closing-all-but-unread : closing .ground ≢ Unread → pos (closing .quality) ≡ kanpigQuality (bestScores closing)
+    closing-all-but-unread =
+        subst (λ (c : Closed). c .ground ≢ Unread → pos (c .quality) ≡ kanpigQuality (bestScores c))
+        (sym is-call) (on-all-but-unread n counts weights accepted)
+
+    -- and 3 where a tie stands behind Inferred
+    pub closing-hidden-tie : closing .ground ≡ Inferred → BestShared n counts weights (calledAt closing) → closing .quality ≡ 3
+    closing-hidden-tie =
+        subst (λ (c : Closed). c .ground ≡ Inferred → BestShared n counts weights (calledAt c) → c .quality ≡ 3)
+        (sym is-call) (hidden-tie n counts weights accepted)
 
   -- of every history, closed too early or in time, the quality is what the ground says: over each of them Tied gives 3
   pub closing-rated : Rated closing

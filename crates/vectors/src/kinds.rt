@@ -1,7 +1,8 @@
 // The kinds of cases: the first word of a line names its kind.
 // A new kind is a name, the digits of its words, and a branch of `as_numbers`, whose function gives the answer to the words that were read;
-// one with a list stands there beside `open` and has its branch in `of_lists`. One that answers more than thirteen words writes them
-// itself, in a branch of `answered`. A word more in an answer is a digit and a number more; `close` and `call` have all thirteen.
+// one with a list stands there beside `open` and has its branch in `of_lists`. One that answers more than fourteen words writes them
+// itself, in a branch of `answered`. A word more in an answer is a digit and a number more; `close` and `call` have all fourteen, the last
+// of them six flags.
 use crate::animal_cases;
 use crate::read::SPACE;
 use crate::read::read;

@@ -19,6 +19,7 @@ use trio_mendel::mendel::mendelian_prior;
 use trio_opening::opening::open_part;
 use trio_parts::part::Stepped;
 use trio_quality::quality::trio_quality;
+use trio_reads::flags::TripleRead;
 
 fn pair(words: &Words, low: usize, high: usize) -> Pair {
     Pair {
@@ -75,13 +76,21 @@ fn flag(b: bool) -> u64
     if b { 1 } else { 0 }
 }
 
-// What closing answers, but for the part. A runner-up is shown where there is one, and the quality behind it.
+// Six flags as bits of a number, that of the child's lower allele the highest.
+fn six(f: TripleRead) -> u64 {
+    let child = 32 * flag(f.child.low) + 16 * flag(f.child.high);
+    let father = 8 * flag(f.father.low) + 4 * flag(f.father.high);
+    child + father + 2 * flag(f.mother.low) + flag(f.mother.high)
+}
+
+// What closing answers, but for the part. A runner-up is shown where there is one, and the quality and the flags behind it.
 fn closed(c: Closed) -> Answer {
     let refusal = c.refusal;
     let ground = c.ground;
+    let read = c.read;
     let has_runner = flag(c.has_runner);
     [
-        0x8888_888f_8800_8000 + 0x8f_0000 * has_runner,
+        0x8888_888f_8800_8600 + 0x8f_0000 * has_runner,
         refusals::number(refusal) as u64,
         c.triple.child.low,
         c.triple.child.high,
@@ -95,6 +104,7 @@ fn closed(c: Closed) -> Answer {
         c.runner.position,
         bits(c.runner.score),
         c.quality as u64,
+        six(read),
     ]
 }
 

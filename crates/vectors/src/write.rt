@@ -7,9 +7,9 @@ use text_writing::laying::lay_whole;
 
 pub type Text = [u8; 65536];
 
-// An answer as numbers: sixteen digits, and a word for each of the first thirteen; the others are 0. f is the bits of a float, 1 the word
-// `ok`, 2 a `?`, any other a whole number, and 0 no word.
-pub type Answer = [u64; 14];
+// An answer as numbers: sixteen digits, and a word for each of the first fourteen; the others are 0. f is the bits of a float, 1 the word
+// `ok`, 2 a `?`, 6 six flags, which are a word each, any other a whole number, and 0 no word.
+pub type Answer = [u64; 15];
 
 // The first of sixteen digits.
 const TOP: u64 = 0x1000_0000_0000_0000;
@@ -19,12 +19,36 @@ pub fn mark(text: &mut Text, at: usize, b: u8) -> usize {
     lay(text, at, &[b])
 }
 
+// A flag as text.
+fn flag(x: u64) -> u8 {
+    if x == 0 { b'0' } else { b'1' }
+}
+
+// The six lowest bits of a number, the highest of them first.
+fn six(text: &mut Text, at: usize, x: u64) -> usize {
+    let flags = [
+        flag(x / 32 % 2),
+        b' ',
+        flag(x / 16 % 2),
+        b' ',
+        flag(x / 8 % 2),
+        b' ',
+        flag(x / 4 % 2),
+        b' ',
+        flag(x / 2 % 2),
+        b' ',
+        flag(x % 2),
+    ];
+    lay(text, at, &flags)
+}
+
 // The text of a word by its digit: of a float x are the bits.
 fn bare(text: &mut Text, at: usize, digit: u64, x: u64) -> usize {
     match digit {
         0xf => lay_bits(text, at, x),
         1 => lay(text, at, b"ok"),
         2 => lay(text, at, b"?"),
+        6 => six(text, at, x),
         _ => lay_whole(text, at, x),
     }
 }
@@ -44,7 +68,7 @@ pub fn lay_answer(text: &mut Text, at: usize, answer: Answer) -> usize {
     let mut end = at;
     let mut left = answer[0];
     let mut i = 1;
-    while i < 14 {
+    while i < 15 {
         end = word_if(text, end, left >= TOP, left / TOP, answer[i]);
         left = left % TOP * 16;
         i += 1;
@@ -62,7 +86,7 @@ pub fn ended(text: &mut Text, end: usize) -> usize {
 
 // An answer of at most four words.
 pub fn short(digits: u64, x: u64, y: u64, z: u64, w: u64) -> Answer {
-    [digits, x, y, z, w, 0, 0, 0, 0, 0, 0, 0, 0, 0]
+    [digits, x, y, z, w, 0, 0, 0, 0, 0, 0, 0, 0, 0, 0]
 }
 
 pub fn unreadable() -> Answer {

@@ -65,16 +65,17 @@ fn edges() -> Vec<String> {
     lines
 }
 
-/// A trio of two clusters for each ground and quality that small counts have.
+/// A trio of two clusters for each ground and quality that small counts have, and for each set of flags.
 fn qualities() -> Vec<String> {
     let random = &mut Random::new(92);
-    let (mut known, mut lines) = (HashSet::new(), vec![]);
+    let (mut known, mut known_flags, mut lines) = (HashSet::new(), HashSet::new(), vec![]);
     for _ in 0..60_000 {
         let most = 2 + random.below(20);
         let counts: Vec<u32> = (0..6).map(|_| random.below(most) as u32).collect();
         let numbers: Vec<String> = [2].iter().chain(&counts).chain(&[1, 1]).map(u32::to_string).collect();
         let answer = trio::pass::expected(&trio::types::Input { n: 2, counts, weights: vec![1.0; 2] });
-        if known.insert((answer.ground, answer.quality)) {
+        let told = known.insert((answer.ground, answer.quality));
+        if known_flags.insert(answer.read) || told {
             lines.push(joined("trio", "quality", &numbers));
         }
     }

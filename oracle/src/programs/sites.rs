@@ -6,7 +6,7 @@ use crate::{diploid, mosaic, trio};
 
 const REFUSALS: [&str; 13] =
     ["done", "NoCluster", "TooMany", "Shape", "Count", "Weight", "Model", "Table", "Row", "OtherTrio", "NotComplete", "NoCall", "BadPart"];
-const GROUNDS: [&str; 4] = ["-", "Won", "Tied", "Unread"];
+const GROUNDS: [&str; 5] = ["-", "Won", "Tied", "Unread", "Inferred"];
 
 fn digits(text: &str) -> bool {
     !text.is_empty() && text.bytes().all(|b| b.is_ascii_digit())
@@ -51,6 +51,17 @@ fn pairs(six: [u32; 6]) -> Vec<String> {
     six.chunks(2).map(|pair| format!("{}/{}", pair[0], pair[1])).collect()
 }
 
+/// The called alleles that their animals have no read of, a homozygote's once, or `-`.
+fn unread_alleles(pairs: [u32; 6], read: [u32; 6]) -> String {
+    let animals = ["calf", "calf", "sire", "sire", "dam", "dam"];
+    let mut unread: Vec<String> = (0..6).filter(|&i| read[i] == 0).map(|i| format!("{}:{}", animals[i], pairs[i])).collect();
+    unread.dedup();
+    if unread.is_empty() {
+        return "-".to_string();
+    }
+    unread.join(",")
+}
+
 fn trio_answer(site: &str, fields: &[&str]) -> Option<String> {
     let (first, numbers) = fields.split_first()?;
     let n = whole(first)?;
@@ -65,6 +76,7 @@ fn trio_answer(site: &str, fields: &[&str]) -> Option<String> {
     Some(said(site, answer.number, || {
         let mut rest = pairs(answer.pairs);
         rest.extend([GROUNDS[answer.ground as usize].to_string(), answer.quality.to_string()]);
+        rest.push(unread_alleles(answer.pairs, answer.read));
         rest.extend(answer.runner.map_or(vec!["-".to_string()], |(position, _)| pairs(trio::types::pairs_at(input.n, position))));
         rest
     }))

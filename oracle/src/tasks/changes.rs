@@ -1,6 +1,7 @@
 //! What changes at a site when kanpig runs with the standard library's functions in place of the kernels of the rules, counted as a clerk would: the call,
 //! whether it is a tie, and the ground and the quality of a trio. C's lgamma stands in for that of statrs.
 use crate::floor::random::Random;
+use crate::kernels::plain::key;
 use crate::trio::inputs::{few, usual_trio};
 use crate::trio::kanpig::{OURS, STD};
 use crate::trio::pass::called;
@@ -9,7 +10,7 @@ use crate::trio::quality_inputs;
 use crate::trio::types::Scores;
 use crate::{diploid, mosaic, trio};
 
-/// What is looked at: the call as numbers, whether it is a tie, and the numbers of ground and quality, 0 for a kind that has none.
+/// What is looked at: the call as numbers, whether it is a tie, behind Inferred too, and the numbers of ground and quality, 0 for a kind that has none.
 struct Seen {
     call: Vec<u64>,
     tie: bool,
@@ -63,7 +64,7 @@ fn of_diploid(input: diploid::types::Input) -> [Seen; 2] {
 fn of_trio(input: trio::types::Input) -> [Seen; 2] {
     [&OURS, &STD].map(|functions| called(&input, functions)).map(|answer| Seen {
         call: answer.pairs.iter().map(|&allele| u64::from(allele)).collect(),
-        tie: answer.ground == 2,
+        tie: answer.ground != 3 && answer.runner.is_some_and(|(_, second)| key(f64::from_bits(second)) == key(f64::from_bits(answer.score))),
         ground: answer.ground,
         quality: answer.quality,
     })

@@ -99,7 +99,22 @@ fn add(cases: &mut Exchange, input: &Input) {
     cases.add(words::call(input), words::answer(&expected(input)));
 }
 
-/// Limits with their neighbours, one cluster, columns without reads, equal clusters, and calls that are all but tied (X2, X12).
+/// Trios of each ground: parents that are given an allele of the calf's, which no read of theirs shows, alone and with a tie behind it; ties
+/// of alleles that were all read; a homozygote of an allele that was not.
+const GROUNDED: [(u32, &[u32]); 10] = [
+    (2, &[4, 8, 8, 5, 0, 0]),
+    (2, &[4, 8, 8, 5, 1, 0]),
+    (2, &[0, 8, 8, 5, 0, 0]),
+    (2, &[0, 0, 9, 9, 9, 0]),
+    (2, &[9, 0, 0, 0, 9, 9]),
+    (2, &[9, 7, 1, 0, 0, 8]),
+    (3, &[0, 1, 0, 2, 1, 1, 0, 1, 0]),
+    (3, &[0, 5, 0, 2, 0, 7, 9, 0, 0]),
+    (3, &[3, 0, 0, 0, 3, 0, 0, 0, 3]),
+    (8, &[9, 0, 0, 0, 9, 0, 0, 0, 9, 1, 1, 1, 0, 0, 0, 0, 0, 0, 2, 0, 0, 0, 0, 3]),
+];
+
+/// Limits with their neighbours, one cluster, columns without reads, equal clusters, each ground, and calls that are all but tied (X2, X12).
 fn chosen_calls(cases: &mut Exchange) {
     let eight: Vec<u32> = (0..24).map(|i| i * 7 % 11).collect();
     add(cases, &plain(8, &eight));
@@ -118,6 +133,9 @@ fn chosen_calls(cases: &mut Exchange) {
     add(cases, &plain(3, &[0, 1, 7, 3, 3, 0, 4, 1, 6]));
     add(cases, &plain(3, &[10, 10, 10, 10, 10, 10, 0, 0, 0]));
     add(cases, &plain(4, &[6; 12]));
+    for (n, counts) in GROUNDED {
+        add(cases, &plain(n, counts));
+    }
     let weights = [0.0, -0.0, 5e-324, -5e-324, 1000.0, moved(1000.0, 1), f64::INFINITY, f64::NEG_INFINITY, f64::NAN];
     for x in weights {
         add(cases, &input(2, &[5, 6, 7, 8, 2, 0], &[1.0, x]));

@@ -1,5 +1,6 @@
 //! Holds the port's trio genotyper against kanpig's own text and the plain pass of pass.rs: called as C, and asked as text.
 use super::cases::{mendel_case, sample_case};
+use super::grounds::Grounds;
 use super::inputs::{allowed, any_pair, disturbed, few, many, small};
 use super::pass::expected;
 use super::types::{genotypes, Input};
@@ -9,11 +10,12 @@ use crate::floor::exchange::Exchange;
 use crate::floor::random::Random;
 use crate::floor::tally::Tally;
 
-/// The whole call.
-fn calls(as_text: bool, inputs: impl Iterator<Item = Input>) -> Tally {
+/// The whole call; the grounds are counted.
+fn calls(as_text: bool, inputs: impl Iterator<Item = Input>, grounds: &mut Grounds) -> Tally {
     let (mut count, mut differences, mut exchange) = (0, Vec::new(), Exchange::default());
     for input in inputs {
         let (port, plain) = (port::call(&input), expected(&input));
+        grounds.add(&plain);
         if as_text {
             exchange.add(words::call(&input), words::answer(&plain));
         }
@@ -52,13 +54,15 @@ fn samples() -> Tally {
 
 /// Every small trio, trios of 1 to 5 clusters, some that are mostly refused, and some of 6 to 8 clusters.
 fn all_calls() -> Tally {
-    let every = calls(true, small());
+    let grounds = &mut Grounds::default();
+    let every = calls(true, small(), grounds);
     let random = &mut Random::new(40);
-    let small = calls(true, (0..200_000).map(|_| few(random)));
+    let small = calls(true, (0..200_000).map(|_| few(random)), grounds);
     let random = &mut Random::new(41);
-    let odd = calls(true, (0..50_000).map(|_| disturbed(random)));
+    let odd = calls(true, (0..50_000).map(|_| disturbed(random)), grounds);
     let random = &mut Random::new(42);
-    (every + small + odd + calls(false, (0..2_000).map(|_| many(random)))).line("call")
+    let large = calls(false, (0..2_000).map(|_| many(random)), grounds);
+    (every + small + odd + large + grounds.tally("call")).line("call")
 }
 
 /// The quality of two scores, by itself.

@@ -1,5 +1,6 @@
 //! A plain model of the registers and their steps. A part that began with an opening is kept as the set of rows that went into it, and
 //! nothing else (docs/RULES.md, D3): what it holds is looked up when asked. Other parts are kept as they were given.
+use super::grounds::Grounds;
 use super::kanpig::OURS;
 use super::part::{rank, Entry, Part};
 use super::pass::{called, found, scores};
@@ -82,6 +83,8 @@ impl Register {
 /// Ten registers.
 pub struct Desks {
     pub registers: Vec<Register>,
+    /// The grounds of all closings.
+    pub grounds: Grounds,
     trios: HashMap<String, Rc<Trio>>,
 }
 
@@ -103,7 +106,7 @@ fn closed(part: &Part) -> Answer {
 
 impl Desks {
     pub fn new() -> Desks {
-        Desks { registers: vec![Register::Given(Part::ZEROS); 10], trios: HashMap::new() }
+        Desks { registers: vec![Register::Given(Part::ZEROS); 10], grounds: Grounds::default(), trios: HashMap::new() }
     }
 
     pub fn trio(&mut self, input: &Input) -> Rc<Trio> {
@@ -180,7 +183,11 @@ impl Desks {
             }
             Step::Row(r, f) => self.row(*r, *f).to_string(),
             Step::Merge(r, s) => self.merge(*r, *s).to_string(),
-            Step::Close(r) => words::answer(&self.close(*r)),
+            Step::Close(r) => {
+                let answer = self.close(*r);
+                self.grounds.add(&answer);
+                words::answer(&answer)
+            }
             Step::Show(r) => self.registers[*r].part().words(),
             Step::Unreadable(_) => "?".to_string(),
         }

@@ -1,6 +1,7 @@
 //! Random histories of parts, through the program `vectors` and through the plain model of desks.rs, line by line.
 use super::desks::{Desks, Register, Step};
 use super::forged::forged;
+use super::grounds::Grounds;
 use super::inputs::{allowed, disturbed};
 use super::types::Input;
 use crate::floor::compared::asked;
@@ -102,13 +103,14 @@ pub fn history(random: &mut Random, desks: &mut Desks, exchange: &mut Exchange) 
 /// The steps on registers: `open`, `part`, `copy`, `row`, `merge`, `close` and `show`.
 pub fn run() -> Tally {
     let random = &mut Random::new(50);
-    let mut all = Tally::default();
+    let (mut all, mut grounds) = (Tally::default(), Grounds::default());
     for _ in 0..HISTORIES / TOGETHER {
         let (mut desks, mut exchange) = (Desks::new(), Exchange::default());
         for _ in 0..TOGETHER {
             history(random, &mut desks, &mut exchange);
         }
         all = all + asked("steps", &exchange);
+        grounds.join(&desks.grounds);
     }
-    all.line(&format!("steps in {HISTORIES} histories of parts"))
+    (all + grounds.tally("closings")).line(&format!("steps in {HISTORIES} histories of parts"))
 }

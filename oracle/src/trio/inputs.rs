@@ -69,6 +69,20 @@ pub fn usual_trio(random: &mut Random, n: u32) -> Input {
     Input { n, counts: usual(random, n), weights: (0..n).map(|_| random.between(0.0, 1.0)).collect() }
 }
 
+/// A calf with one allele of each parent, so many reads for each animal, each of one of its two alleles, none astray; all weights 1.
+pub fn family(random: &mut Random, n: u32, reads: u32) -> Input {
+    let mut allele = || random.below(u64::from(n)) as usize;
+    let [sire, dam] = [[allele(), allele()], [allele(), allele()]];
+    let calf = [sire[random.below(2) as usize], dam[random.below(2) as usize]];
+    let mut counts = vec![0; 3 * n as usize];
+    for (column, pair) in [calf, sire, dam].into_iter().enumerate() {
+        for _ in 0..reads {
+            counts[3 * pair[random.below(2) as usize] + column] += 1;
+        }
+    }
+    Input { n, counts, weights: vec![1.0; n as usize] }
+}
+
 /// One to five clusters, two or three more often than others.
 pub fn few(random: &mut Random) -> Input {
     let n = pick(random, &[1, 2, 2, 2, 2, 2, 3, 3, 3, 3, 4, 4, 5]);

@@ -1,5 +1,5 @@
 //! The answer of a trio: the call by kanpig's text, and score, runner-up and ground by one plain pass over the scores that kanpig's functions give
-//! (docs/RULES.md, T5, T9, T10), and the quality that these two scores have.
+//! (docs/RULES.md, T5, T9, T10), the quality that these two scores have, and which of the called alleles were read (T12).
 use super::kanpig::{matrix, Functions, OURS};
 use super::part::Entry;
 use super::quality::quality;
@@ -39,10 +39,30 @@ fn unread(counts: &[u32]) -> bool {
     (0..3).any(|column| counts.iter().skip(column).step_by(3).all(|&count| count == 0))
 }
 
-/// 3 Unread, 2 Tied, 1 Won (T10).
-fn ground(counts: &[u32], score: f64, runner: Option<f64>) -> u32 {
+/// The clusters in which an animal has a read.
+fn clusters_read(counts: &[u32], column: usize) -> Vec<u32> {
+    (0..).zip(counts.chunks(3)).filter(|(_, cluster)| cluster[column] > 0).map(|(number, _)| number).collect()
+}
+
+/// Whether some animal's pair names a cluster that is none of those.
+fn inferred(counts: &[u32], pairs: &[u32; 6]) -> bool {
+    (0..3).any(|column| {
+        let read = clusters_read(counts, column);
+        !(read.contains(&pairs[2 * column]) && read.contains(&pairs[2 * column + 1]))
+    })
+}
+
+/// For each called allele, 1 if it is one of those of its animal, else 0 (T12).
+fn flags(counts: &[u32], pairs: &[u32; 6]) -> [u32; 6] {
+    let animals = [0, 0, 1, 1, 2, 2];
+    std::array::from_fn(|i| clusters_read(counts, animals[i]).iter().filter(|&&cluster| cluster == pairs[i]).count() as u32)
+}
+
+/// 3 Unread, 4 Inferred, 2 Tied, 1 Won, the first that holds (T10).
+fn ground(counts: &[u32], pairs: &[u32; 6], score: f64, runner: Option<f64>) -> u32 {
     match runner {
         _ if unread(counts) => 3,
+        _ if inferred(counts, pairs) => 4,
         Some(second) if key(second) == key(score) => 2,
         _ => 1,
     }
@@ -51,13 +71,15 @@ fn ground(counts: &[u32], score: f64, runner: Option<f64>) -> u32 {
 /// What a complete search says that found these two.
 pub fn found(n: u32, counts: &[u32], (position, score): Entry, runner: Option<Entry>, functions: &Functions) -> Answer {
     let second = runner.map(|(_, score)| score);
+    let pairs = pairs_at(n, position);
     Answer {
         number: 0,
-        pairs: pairs_at(n, position),
+        pairs,
         score: score.to_bits(),
-        ground: ground(counts, score, second),
+        ground: ground(counts, &pairs, score, second),
         runner: runner.map(|(position, score)| (position, score.to_bits())),
         quality: quality(unread(counts), score, second, functions),
+        read: flags(counts, &pairs),
     }
 }
 

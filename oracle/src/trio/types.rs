@@ -19,16 +19,18 @@ pub struct Answer {
     pub pairs: [u32; 6],
     /// The bits of the score.
     pub score: u64,
-    /// 0 none, 1 Won, 2 Tied, 3 Unread.
+    /// 0 none, 1 Won, 2 Tied, 3 Unread, 4 Inferred.
     pub ground: u32,
     /// The runner-up's position, and the bits of its score.
     pub runner: Option<(u32, u64)>,
     pub quality: u32,
+    /// For each allele of the pairs, 1 if its animal has a read of it.
+    pub read: [u32; 6],
 }
 
 impl Answer {
     pub fn refused(number: u32) -> Answer {
-        Answer { number, pairs: [0; 6], score: 0, ground: 0, runner: None, quality: 0 }
+        Answer { number, pairs: [0; 6], score: 0, ground: 0, runner: None, quality: 0, read: [0; 6] }
     }
 }
 

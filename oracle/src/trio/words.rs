@@ -32,5 +32,6 @@ pub fn answer(answer: &Answer) -> String {
         None => "0".to_string(),
     };
     let score = word(f64::from_bits(answer.score));
-    format!("{} {} {score} {} {runner} {}", answer.number, numbers(&answer.pairs), answer.ground, answer.quality)
+    let worth = format!("{} {}", answer.quality, numbers(&answer.read));
+    format!("{} {} {score} {} {runner} {worth}", answer.number, numbers(&answer.pairs), answer.ground)
 }

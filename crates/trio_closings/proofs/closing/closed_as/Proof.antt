@@ -1,30 +1,58 @@
 -- `trio_closings::closing::closed_as` meets its contract. From what each callee ensures.
-use Rattle.trio_closings.specs.Closing.{groundOf, closedAs}
 use borrow.Author.Needs.{needs}
+use Rattle.trio_closings.specs.Closing.{closedAs}
 use Rattle.trio_closings.proofs.closing.closed_as.Statement.{statement}
 use Rattle.trio_closings.proofs.closing.closed_as.Tie as tie
-
-is-unread-requires : tie.Need-is-unread-requires
-is-unread-requires c κs = search needs
 
 triple-of-requires : tie.Need-triple-of-requires
 triple-of-requires c κs = search needs
 
-ground-of-requires : tie.Need-ground-of-requires
-ground-of-requires c κs = search needs
+triple-read-requires : tie.Need-triple-read-requires
+triple-read-requires c κs = search needs
+
+is-unread-requires : tie.Need-is-unread-requires
+is-unread-requires c κs = search needs
+
+alleles-read-requires : tie.Need-alleles-read-requires
+alleles-read-requires c κs = search needs
+
+is-tied-requires : tie.Need-is-tied-requires
+is-tied-requires c κs = search needs
+
+ground-by-requires : tie.Need-ground-by-requires
+ground-by-requires c κs = search needs
 
 trio-quality-requires : tie.Need-trio-quality-requires
 trio-quality-requires c κs = search needs
 
 returns : tie.Need-returns
-unfolding closedAs groundOf
+unfolding closedAs
 returns c =
     let grounded = c .before in
-    let named = grounded .before in
-    let read = named .before .before in
-    rw (named .triple-of .ensures, grounded .ground-of .ensures, c .trio-quality .ensures, read .is-unread .ensures)
+    let tied = grounded .before in
+    let flagged = tied .before .before in
+    let read = flagged .before in
+    let seen = read .before in
+    let named = seen .before in
+    rw (
+      grounded .ground-by .ensures,
+      c .trio-quality .ensures,
+      tied .is-tied .ensures,
+      flagged .alleles-read .ensures,
+      read .is-unread .ensures,
+      seen .triple-read .ensures,
+      named .triple-of .ensures,
+    )
 
 pub closed-as-spec : {M : Type 1} → statement M
 closed-as-spec =
     tie.close
-    (tie.spec is-unread-requires triple-of-requires ground-of-requires trio-quality-requires returns)
+    (tie.spec
+    triple-of-requires
+    triple-read-requires
+    is-unread-requires
+    alleles-read-requires
+    is-tied-requires
+    ground-by-requires
+    trio-quality-requires
+    returns)

@@ -5,10 +5,10 @@ use Rattle.vectors.proofs.write.lay_answer.Statement.{statement}
 use Rattle.vectors.proofs.write.lay_answer.Tie as tie
 
 abbrev Inv-loop : tie.InvT-loop
-Inv-loop text₀ at answer end₀ left₀ i₀ text end left i = i ≤ 14
+Inv-loop text₀ at answer end₀ left₀ i₀ text end left i = i ≤ 15
 
 abbrev μ-loop : tie.MeasureT-loop
-μ-loop text₀ at answer end₀ left₀ i₀ text end left i = 14 - i
+μ-loop text₀ at answer end₀ left₀ i₀ text end left i = 15 - i
 
 pub lay-answer-spec : {M : Type 1} → statement M
 lay-answer-spec =

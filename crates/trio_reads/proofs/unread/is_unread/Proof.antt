@@ -1,14 +1,14 @@
--- `trio_closings::closing::is_unread` meets its contract. By each column in turn.
+-- `trio_reads::unread::is_unread` meets its contract. By each column in turn.
 use Prim.Native.Nat.{ℕ}
 use mathlib.Core.Path.{sym, ap, _∙_}
 use borrow.Author.Tests.{eq-eqb, ne-eqb}
 use lib.Dec.{eqb}
 use Rattle.trio_family.specs.declared.sample.Sample.the-variants.{Child, Father}
 use Rattle.trio_samples.specs.Samples.{columnTotal}
-use Rattle.trio_closings.specs.Closing.{unread}
+use Rattle.trio_reads.specs.Unread.{unread}
 use borrow.Author.Needs.{needs}
-use Rattle.trio_closings.proofs.closing.is_unread.Statement.{statement}
-use Rattle.trio_closings.proofs.closing.is_unread.Tie as tie
+use Rattle.trio_reads.proofs.unread.is_unread.Statement.{statement}
+use Rattle.trio_reads.proofs.unread.is_unread.Tie as tie
 
 column-total-requires : tie.Need-column-total-requires
 column-total-requires c κs = search needs
