@@ -63,7 +63,7 @@ fn allele(
 }
 
 // The alleles of an animal's pair that it has no read of; that of a homozygote stands once.
-fn unread_of(
+fn not_read_of(
     text: &mut [u8],
     start: usize,
     end: usize,
@@ -77,7 +77,7 @@ fn unread_of(
 }
 
 // All called alleles that their animals have no read of, or a `-`.
-fn unread_alleles(text: &mut [u8], at: usize, t: Triple, read: TripleRead) -> usize {
+fn alleles_not_read(text: &mut [u8], at: usize, t: Triple, read: TripleRead) -> usize {
     let child = t.child;
     let father = t.father;
     let mother = t.mother;
@@ -85,9 +85,9 @@ fn unread_alleles(text: &mut [u8], at: usize, t: Triple, read: TripleRead) -> us
     let of_father = read.father;
     let of_mother = read.mother;
     let start = lay(text, at, b"\t");
-    let to_sire = unread_of(text, start, start, b"calf", child, of_child);
-    let to_dam = unread_of(text, start, to_sire, b"sire", father, of_father);
-    let end = unread_of(text, start, to_dam, b"dam", mother, of_mother);
+    let to_sire = not_read_of(text, start, start, b"calf", child, of_child);
+    let to_dam = not_read_of(text, start, to_sire, b"sire", father, of_father);
+    let end = not_read_of(text, start, to_dam, b"dam", mother, of_mother);
     if end == start {
         return lay(text, end, b"-");
     }
@@ -101,8 +101,8 @@ fn called(text: &mut [u8], at: usize, n: u64, c: Closed) -> usize {
     let read = c.read;
     let g = c.ground;
     let to_ground = answers::triple(text, at, triple);
-    let to_unread = worth(text, to_ground, g, c.quality);
-    let to_runner = unread_alleles(text, to_unread, triple, read);
+    let to_alleles = worth(text, to_ground, g, c.quality);
+    let to_runner = alleles_not_read(text, to_alleles, triple, read);
     if c.has_runner {
         return answers::triple(text, to_runner, triple_of(n, runner.position));
     }

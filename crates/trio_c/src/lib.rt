@@ -6,8 +6,9 @@ ghost use mathlib.Core.Bool.{cond, not};
 ghost use lib.Dec.{eqb};
 ghost use Rattle.trio_quality.specs.Quality.{trioQuality};
 ghost use Rattle.trio_desks.specs.Call.{callOf};
-ghost use Rattle.trio_c.specs.Trio.{IsCall, sixFlags};
+ghost use Rattle.trio_c.specs.Trio.{IsCall, sixOf, sixFlags};
 use trio_family::ground;
+use trio_family::pair::Triple;
 use trio_reads::flags::TripleRead;
 
 // 1 for true.
@@ -18,6 +19,23 @@ fn flag(b: bool) -> u32
 }
 
 // Animal by animal, the lower allele first.
+fn six_pairs(t: Triple) -> [u64; 6]
+    ensures { λ r. ⌜ r ≡ sixOf t ⌝ }
+{
+    let child = t.child;
+    let father = t.father;
+    let mother = t.mother;
+    [
+        child.low,
+        child.high,
+        father.low,
+        father.high,
+        mother.low,
+        mother.high,
+    ]
+}
+
+// In the same order.
 fn six_flags(f: TripleRead) -> [u32; 6]
     ensures { λ r. ⌜ r ≡ sixFlags f ⌝ }
 {
@@ -58,18 +76,7 @@ pub extern "C" fn admulfas_trio(
     let answer = trio_desks::call::call(clusters, counts, weights);
     let refusal = answer.refusal;
     let rests_on = answer.ground;
-    let triple = answer.triple;
-    let child = triple.child;
-    let father = triple.father;
-    let mother = triple.mother;
-    *pairs = [
-        child.low,
-        child.high,
-        father.low,
-        father.high,
-        mother.low,
-        mother.high,
-    ];
+    *pairs = six_pairs(answer.triple);
     *score = answer.score;
     *ground = ground::ground_number(rests_on);
     *runner = flag(answer.has_runner);

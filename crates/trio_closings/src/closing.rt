@@ -82,7 +82,7 @@ fn closed_as(p: Part) -> Closed
     let triple = triple_of(n, first.position);
     let read = triple_read(counts, triple);
     let unread = is_unread(n, counts);
-    let inferred = !alleles_read(read);
+    let allele_unread = !alleles_read(read);
     let has_runner = 2 <= held.count;
     Closed {
         refusal: Refusal::Done,
@@ -90,7 +90,7 @@ fn closed_as(p: Part) -> Closed
         triple,
         read,
         score: first.score,
-        ground: ground_by(unread, inferred, is_tied(held)),
+        ground: ground_by(unread, allele_unread, is_tied(held)),
         quality: trio_quality(unread, has_runner, first.score, runner.score),
         has_runner,
         runner,

@@ -6,4 +6,4 @@ use Rattle.trio_family.specs.declared.ground.Ground.the-variants.{Won, T
 -- T10: the ground by three answers, the first that holds: some animal has no read, some called allele has no read in its animal, the best
 -- score is shared; Won where none does
 abbrev pub groundBy : Bool → Bool → Bool → Ground
-groundBy unread inferred shared = cond unread Unread (cond inferred Inferred (cond shared Tied Won))
+groundBy unread allele-unread shared = cond unread Unread (cond allele-unread Inferred (cond shared Tied Won))

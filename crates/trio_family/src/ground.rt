@@ -27,13 +27,13 @@ pub fn ground_number(g: Ground) -> u32
 
 // The ground of a call by what speaks against it: an animal without a read, a called allele that its animal has no read of, a best score
 // that is shared.
-pub fn ground_by(unread: bool, inferred: bool, shared: bool) -> Ground
-    ensures { λ g. ⌜ g ≡ groundBy unread inferred shared ⌝ }
+pub fn ground_by(unread: bool, allele_unread: bool, shared: bool) -> Ground
+    ensures { λ g. ⌜ g ≡ groundBy unread «allele_unread» shared ⌝ }
 {
     if unread {
         return Ground::Unread;
     }
-    if inferred {
+    if allele_unread {
         return Ground::Inferred;
     }
     if shared {

@@ -202,8 +202,8 @@ module _ (n : ℕ) (counts : List ℕ) (weights : List Float) (accepted : openSt
         (quality-least (c .score) (c .runner .score) best-finite (next-finite e) (not-below e))
     least false e = let q = by-runner false e ∙ alone-most (c .score) (c .runner .score) in omega arith
 
-    -- 3 where another position has the key of the one called: the runner-up has it then
-    shared-three : BestShared n counts weights (calledAt c) → c .quality ≡ 3
+    -- 3 where another position has the key of the one called, whatever the ground: the runner-up has it then
+    pub shared-three : BestShared n counts weights (calledAt c) → c .quality ≡ 3
     shared-three s = go (c .«has_runner») refl
       where
         same : c .«has_runner» ≡ true → key second ≡ key (calledAt c)

@@ -1,22 +1,30 @@
--- D4: no ground and no quality changes a call, of any part, forged or not; and beside the three grounds that there were before Inferred,
--- only Won and Tied became it. Assumes nothing.
+-- D4: no ground and no quality changes a call, of any part, forged or not, and of any input that opening accepts; and beside the three
+-- grounds that there were before Inferred, only Won and Tied became it. Assumes nothing.
+use Prim.Native.Nat.{ℕ}
 use mathlib.Core.Bool.{Bool, true, false, not, cond}
+use mathlib.Core.List.{List}
 use mathlib.Core.Logic.{inl, inr}
-use mathlib.Core.Path.{_≡_, refl}
+use mathlib.Core.Path.{_≡_, refl, sym, subst}
 use lib.Dec.{eqb}
-use Rattle.refusals.specs.declared.Refusal.the-variants.{NotComplete, BadPart}
+use lib.Ieee.{Float}
+use Rattle.refusals.specs.declared.Refusal.the-variants.{Done, NotComplete, BadPart}
 use Rattle.trio_family.specs.Grounds.{groundBy}
 use Rattle.trio_parts.specs.declared.part.Part.{Part}
 use Rattle.trio_parts.specs.Part.{rowCount}
 use Rattle.trio_parts.specs.Right.{rightPart}
 use Rattle.trio_search.specs.Marks.{fullMarks}
+use Rattle.trio_opening.specs.Opening.{openStep}
 use Rattle.trio_quality.specs.Quality.{trioQuality}
+use Rattle.trio_triples.specs.Score.{scoreOf}
 use Rattle.trio_triples.specs.Genotypes.{tripleOf}
 use Rattle.trio_reads.specs.Flags.{tripleRead, allelesRead}
 use Rattle.trio_reads.specs.Unread.{unread}
 use Rattle.trio_closings.specs.declared.closing.Closed.{Closed}
 use Rattle.trio_closings.specs.Closing.{tied, GroundRule, QualityRule, closedBy, closedAs, refusedClosing, closeBy, closeStep}
+use Rattle.trio_desks.specs.Call.{callOf}
+use Rattle.trio_meanings.specs.Called.{positionCount}
 use Rattle.trio_meanings.specs.SameCalls.{SameCall, threeGrounds, StaysOrInferred}
+use Rattle.trio_meanings.proofs.CallLaws.{answerBy, call-is}
 
 same-itself : (c : Closed) → SameCall c c
 same-itself c =
@@ -62,6 +70,12 @@ module _ (ground-by : GroundRule) (quality-by : QualityRule) (p : Part) where
   unfolding closeStep
   closing-same = closing-both SameCall (closedBy ground-by quality-by) closedAs p closed-same same-itself
 
+-- by whatever ground, a complete part says the same quality too
+pub closed-any-ground : (ground-by : GroundRule) (p : Part)
+    → let c = closedBy ground-by trioQuality p in SameCall c (closedAs p) × (c .quality ≡ closedAs p .quality)
+unfolding closedAs
+closed-any-ground ground-by p = (closed-same ground-by trioQuality p, refl)
+
 -- of any part: by whatever ground, closing gives the same call, and the same quality
 pub any-ground : (ground-by : GroundRule) (p : Part)
     → let c = closeBy (closedBy ground-by trioQuality) p in SameCall c (closeStep p) × (c .quality ≡ closeStep p .quality)
@@ -101,3 +115,24 @@ unfolding closeStep
 closing-stays p =
     closing-both (λ c d. StaysOrInferred (c .ground) (d .ground)) (closedBy threeGrounds trioQuality) closedAs p
     (closed-stays p) (λ c. inl refl)
+
+-- ---- of the call of an accepted input, which hands back the part that it closed
+
+module _ (n : ℕ) (counts : List ℕ) (weights : List Float) (accepted : openStep n counts weights .refusal ≡ Done) where
+  abbrev c : Closed
+  c = callOf n counts weights
+
+  -- what holds of every answer to a complete part, and of that part, holds of the call and of its part
+  of-call : (P : Part → Closed → Type 0) → ((p : Part) → P p (closedAs p)) → P (c .part) c
+  unfolding closedAs
+  of-call P each =
+      subst (λ (d : Closed). P (d .part) d) (sym (call-is n counts weights accepted))
+      (each (answerBy n counts weights (scoreOf n counts weights) (positionCount n) .part))
+
+  pub call-any-ground : (ground-by : GroundRule)
+      → let d = closedBy ground-by trioQuality (c .part) in SameCall d c × (d .quality ≡ c .quality)
+  call-any-ground ground-by =
+      of-call (λ p e. let d = closedBy ground-by trioQuality p in SameCall d e × (d .quality ≡ e .quality)) (closed-any-ground ground-by)
+
+  pub call-stays : StaysOrInferred (closedBy threeGrounds trioQuality (c .part) .ground) (c .ground)
+  call-stays = of-call (λ p e. StaysOrInferred (closedBy threeGrounds trioQuality p .ground) (e .ground)) closed-stays

@@ -19,10 +19,10 @@ pub record SameCall (c d : Closed) : Type 0 where
 
 -- ---- for the laws
 
--- the grounds as they were while there was no Inferred: what was read of the called alleles was not looked at
+-- T10: the grounds as they were while there was no Inferred: what was read of the called alleles was not looked at
 abbrev pub threeGrounds : GroundRule
-threeGrounds unread inferred shared = cond unread Unread (cond shared Tied Won)
+threeGrounds unread allele-unread shared = cond unread Unread (cond shared Tied Won)
 
--- a ground is what it was before, or it was Won or Tied and is Inferred
+-- T10: a ground is what it was before, or it was Won or Tied and is Inferred
 abbrev pub StaysOrInferred : Ground → Ground → Type 0
 StaysOrInferred before after = (after ≡ before) ⊎ ((after ≡ Inferred) × ((before ≡ Won) ⊎ (before ≡ Tied)))

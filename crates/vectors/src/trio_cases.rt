@@ -77,7 +77,7 @@ fn flag(b: bool) -> u64
 }
 
 // Six flags as bits of a number, that of the child's lower allele the highest.
-fn six(f: TripleRead) -> u64 {
+fn flag_bits(f: TripleRead) -> u64 {
     let child = 32 * flag(f.child.low) + 16 * flag(f.child.high);
     let father = 8 * flag(f.father.low) + 4 * flag(f.father.high);
     child + father + 2 * flag(f.mother.low) + flag(f.mother.high)
@@ -104,7 +104,7 @@ fn closed(c: Closed) -> Answer {
         c.runner.position,
         bits(c.runner.score),
         c.quality as u64,
-        six(read),
+        flag_bits(read),
     ]
 }
 

@@ -19,25 +19,25 @@ pub fn mark(text: &mut Text, at: usize, b: u8) -> usize {
     lay(text, at, &[b])
 }
 
-// A flag as text.
-fn flag(x: u64) -> u8 {
+// A bit as text.
+fn bit(x: u64) -> u8 {
     if x == 0 { b'0' } else { b'1' }
 }
 
-// The six lowest bits of a number, the highest of them first.
-fn six(text: &mut Text, at: usize, x: u64) -> usize {
+// Six flags, the lowest bits of a number, the highest of them first.
+fn lay_flags(text: &mut Text, at: usize, x: u64) -> usize {
     let flags = [
-        flag(x / 32 % 2),
+        bit(x / 32 % 2),
         b' ',
-        flag(x / 16 % 2),
+        bit(x / 16 % 2),
         b' ',
-        flag(x / 8 % 2),
+        bit(x / 8 % 2),
         b' ',
-        flag(x / 4 % 2),
+        bit(x / 4 % 2),
         b' ',
-        flag(x / 2 % 2),
+        bit(x / 2 % 2),
         b' ',
-        flag(x % 2),
+        bit(x % 2),
     ];
     lay(text, at, &flags)
 }
@@ -48,7 +48,7 @@ fn bare(text: &mut Text, at: usize, digit: u64, x: u64) -> usize {
         0xf => lay_bits(text, at, x),
         1 => lay(text, at, b"ok"),
         2 => lay(text, at, b"?"),
-        6 => six(text, at, x),
+        6 => lay_flags(text, at, x),
         _ => lay_whole(text, at, x),
     }
 }

@@ -82,6 +82,15 @@ fn qualities() -> Vec<String> {
     lines
 }
 
+/// The trios of each ground that `vectors` is asked too.
+fn grounded() -> Vec<String> {
+    let line = |(n, counts): (u32, &[u32])| {
+        let numbers = [n].into_iter().chain(counts.iter().copied()).chain((0..n).map(|_| 1));
+        joined("trio", "grounded", &numbers.map(|number| number.to_string()).collect::<Vec<_>>())
+    };
+    trio::cases::GROUNDED.into_iter().map(line).collect()
+}
+
 /// Each refusal, and what is at its edge.
 const REFUSED: [&str; 26] = [
     "trio\ts\t0",
@@ -170,6 +179,7 @@ pub fn write() -> io::Result<()> {
     let mut lines: Vec<String> = sample.lines().chain(REFUSED).chain(SPELLED).map(String::from).collect();
     lines.extend(edges());
     lines.extend(qualities());
+    lines.extend(grounded());
     lines.extend(long_lines());
     lines.extend(random_lines(90, 160));
     exchange(lines).store("calls", "sites")

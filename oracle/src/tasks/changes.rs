@@ -1,7 +1,6 @@
 //! What changes at a site when kanpig runs with the standard library's functions in place of the kernels of the rules, counted as a clerk would: the call,
 //! whether it is a tie, and the ground and the quality of a trio. C's lgamma stands in for that of statrs.
 use crate::floor::random::Random;
-use crate::kernels::plain::key;
 use crate::trio::inputs::{few, usual_trio};
 use crate::trio::kanpig::{OURS, STD};
 use crate::trio::pass::called;
@@ -64,7 +63,7 @@ fn of_diploid(input: diploid::types::Input) -> [Seen; 2] {
 fn of_trio(input: trio::types::Input) -> [Seen; 2] {
     [&OURS, &STD].map(|functions| called(&input, functions)).map(|answer| Seen {
         call: answer.pairs.iter().map(|&allele| u64::from(allele)).collect(),
-        tie: answer.ground != 3 && answer.runner.is_some_and(|(_, second)| key(f64::from_bits(second)) == key(f64::from_bits(answer.score))),
+        tie: answer.is_tie(),
         ground: answer.ground,
         quality: answer.quality,
     })

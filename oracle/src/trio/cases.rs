@@ -100,8 +100,11 @@ fn add(cases: &mut Exchange, input: &Input) {
 }
 
 /// Trios of each ground: parents that are given an allele of the calf's, which no read of theirs shows, alone and with a tie behind it; ties
-/// of alleles that were all read; a homozygote of an allele that was not.
-const GROUNDED: [(u32, &[u32]); 10] = [
+/// of alleles that were all read; a calf with two alleles that were not, and with one that was not, twice.
+pub const GROUNDED: [(u32, &[u32]); 13] = [
+    (3, &[1, 0, 0, 0, 2, 1, 0, 1, 2]),
+    (3, &[0, 8, 8, 1, 0, 0, 0, 0, 0]),
+    (2, &[4, 9, 9, 5, 1, 1]),
     (2, &[4, 8, 8, 5, 0, 0]),
     (2, &[4, 8, 8, 5, 1, 0]),
     (2, &[0, 8, 8, 5, 0, 0]),

@@ -36,22 +36,23 @@ impl Grounds {
     }
 }
 
-/// A line of the table: grounds, and how many of those that are Inferred have a tie behind them, which their quality of 3 tells.
+/// A line of the table: grounds, and of those that are Inferred how many have a quality of 3, and how many a tie behind them.
 fn row(name: &str, sites: impl Iterator<Item = Input>) {
-    let (mut grounds, mut three) = (Grounds::default(), 0);
+    let (mut grounds, mut three, mut hidden) = (Grounds::default(), 0, 0);
     for site in sites {
         let answer = called(&site, &OURS);
         grounds.add(&answer);
         three += usize::from(answer.ground == 4 && answer.quality == 3);
+        hidden += usize::from(answer.ground == 4 && answer.is_tie());
     }
     let [_, won, tied, unread, inferred] = grounds.0;
-    println!("| {name} | {} | {won} | {tied} | {inferred} | {three} | {unread} |", grounds.0.iter().sum::<usize>());
+    println!("| {name} | {} | {won} | {tied} | {inferred} | {three} | {hidden} | {unread} |", grounds.0.iter().sum::<usize>());
 }
 
 /// How many sites of each kind have each ground, as a Markdown table.
 pub fn run() {
-    println!("| sites of 2 to 4 clusters | how many | Won | Tied | Inferred | of these with quality 3 | Unread |");
-    println!("|---|---|---|---|---|---|---|");
+    println!("| sites of 2 to 4 clusters | how many | Won | Tied | Inferred | of these with quality 3 | of these tied | Unread |");
+    println!("|---|---|---|---|---|---|---|---|");
     let random = &mut Random::new(46);
     row("usual reads, the animals unrelated", (0..60_000).map(|i| usual_trio(random, 2 + i % 3)));
     for reads in [30, 20, 10, 8, 4, 2] {

@@ -1,5 +1,7 @@
 //! What the trio genotyper is asked, what it answers, and what the limits refuse (docs/RULES.md, L, R and O); genotypes and triples in their order.
 
+use crate::kernels::plain::key;
+
 /// A genotype: two cluster numbers.
 pub type Pair = (usize, usize);
 
@@ -29,6 +31,11 @@ pub struct Answer {
 }
 
 impl Answer {
+    /// Whether the runner-up has the key of the best score, which of an unread trio says nothing.
+    pub fn is_tie(&self) -> bool {
+        self.ground != 3 && self.runner.is_some_and(|(_, second)| key(f64::from_bits(second)) == key(f64::from_bits(self.score)))
+    }
+
     pub fn refused(number: u32) -> Answer {
         Answer { number, pairs: [0; 6], score: 0, ground: 0, runner: None, quality: 0, read: [0; 6] }
     }

@@ -7,6 +7,9 @@ use Rattle.trio_c.proofs.admulfas_trio.Tie as tie
 call-requires : tie.Need-call-requires
 call-requires c κs = search needs
 
+six-pairs-requires : tie.Need-six-pairs-requires
+six-pairs-requires c κs = search needs
+
 ground-number-requires : tie.Need-ground-number-requires
 ground-number-requires c κs = search needs
 
@@ -19,33 +22,27 @@ six-flags-requires c κs = search needs
 number-requires : tie.Need-number-requires
 number-requires c κs = search needs
 
-abbrev told : tie.After-number → tie.After-six-flags
-told c = c .before
-
-abbrev flagged : tie.After-six-flags → tie.After-flag
-flagged c = c .before .before
-
-abbrev called : tie.After-flag → tie.After-call
-called c = c .before .before .before .before .before .before .before
-
 returns : tie.Need-returns
 returns c =
-    let runner = flagged (told c) in
+    let flags = c .before in
+    let runner = flags .before .before in
     let grounded = runner .before in
+    let paired = grounded .before in
+    let called = paired .before in
     rw
-    (sym (called runner .call .ensures))
+    (sym (called .call .ensures))
     (record {
       refusal-is = c .number .ensures;
-      pairs-are = refl;
+      pairs-are = paired .six-pairs .ensures;
       score-is = refl;
       ground-is = grounded .ground-number .ensures;
       runner-is = runner .flag .ensures;
       position-is = refl;
       second-is = refl;
       quality-is = refl;
-      read-are = told c .six-flags .ensures;
+      read-are = flags .six-flags .ensures;
     })
 
 pub admulfas-trio-spec : {M : Type 1} → statement M
 admulfas-trio-spec =
-    tie.close (tie.spec call-requires ground-number-requires flag-requires six-flags-requires number-requires returns)
+    tie.close (tie.spec call-requires six-pairs-requires ground-number-requires flag-requires six-flags-requires number-requires returns)

@@ -1,6 +1,7 @@
 -- `trio_reads::flags::alleles_read` meets its contract. By each animal in turn.
 use mathlib.Core.Path.{_≡_, sym, _∙_}
 use borrow.Author.Needs.{needs}
+use Rattle.trio_reads.specs.declared.flags.TripleRead.{TripleRead}
 use Rattle.trio_reads.specs.Flags.{bothRead, allelesRead}
 use Rattle.trio_reads.proofs.flags.alleles_read.Statement.{statement}
 use Rattle.trio_reads.proofs.flags.alleles_read.Tie as tie
@@ -14,11 +15,17 @@ both-read-requires-2 c κs = search needs
 both-read-requires-3 : tie.Need-both-read-requires-3
 both-read-requires-3 c κs = search needs
 
+abbrev given : tie.After-both-read → TripleRead
+given c = let parts = c .before .before .before in parts .before .args .f
+
+abbrev first : tie.After-both-read2 → tie.After-both-read
+first c = c .before .before
+
 -- what was asked of the calf, and of the sire
-child : (c : tie.After-both-read) → bothRead (c .before .before .before .before .args .f .child) ≡ c .both-read .result
+child : (c : tie.After-both-read) → bothRead (given c .child) ≡ c .both-read .result
 child c = sym (c .both-read .ensures)
 
-father : (c : tie.After-both-read2) → bothRead (c .before .before .before .before .before .before .args .f .father) ≡ c .both-read2 .result
+father : (c : tie.After-both-read2) → bothRead (given (first c) .father) ≡ c .both-read2 .result
 father c = sym (c .both-read2 .ensures)
 
 returns : tie.Need-returns
@@ -26,15 +33,13 @@ unfolding allelesRead
 returns c =
     let second = c .before in
     let asked = second .before in
-    let first = asked .before in
-    rw (child (first .before) ∙ first .if1 .taken, father asked ∙ second .if2 .taken) (c .both-read3 .ensures)
+    rw (child (first asked) ∙ asked .before .if1 .taken, father asked ∙ second .if2 .taken) (c .both-read3 .ensures)
 
 returns-2 : tie.Need-returns-2
 unfolding allelesRead
 returns-2 c =
     let asked = c .before in
-    let first = asked .before in
-    rw (child (first .before) ∙ first .if1 .taken, father asked ∙ c .if2 .left, c .if2 .left)
+    rw (child (first asked) ∙ asked .before .if1 .taken, father asked ∙ c .if2 .left, c .if2 .left)
 
 returns-3 : tie.Need-returns-3
 unfolding allelesRead
