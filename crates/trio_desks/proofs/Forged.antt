@@ -58,7 +58,8 @@ right-parts : (p : Part) → rightPart p ≡ true → (inputRight p ≡ true) ×
 unfolding rightPart
 right-parts p r = and-eq-true-iff (inputRight p) (workRight (rowCount p) (p .marks) (p .held)) .0 r
 
-right-with : (p : Part) (v : Work) → inputRight p ≡ true → workRight (rowCount p) (v .marks) (heldOf (v .held)) ≡ true → rightPart (withWork p v) ≡ true
+right-with : (p : Part) (v : Work) → inputRight p ≡ true → workRight (rowCount p) (v .marks) (heldOf (v .held)) ≡ true
+    → rightPart (withWork p v) ≡ true
 unfolding rightPart inputRight
 right-with p v i w = and-intro i w
 
@@ -69,7 +70,8 @@ same-clusters : (a b : Part) → sameInput a b ≡ true → b .clusters ≡ a .c
 unfolding sameInput
 same-clusters a b e = sym (eqb-true (a .clusters) (b .clusters) (and-elim-left (eqb (a .clusters) (b .clusters)) _ e))
 
-both-right : (a b : Part) → rightPart a ≡ true → rightPart b ≡ true → sameInput a b ≡ true → rightPart (withWork a (joined (workIn a) (workIn b))) ≡ true
+both-right : (a b : Part) → rightPart a ≡ true → rightPart b ≡ true → sameInput a b ≡ true
+    → rightPart (withWork a (joined (workIn a) (workIn b))) ≡ true
 both-right a b r s e =
     right-with a (joined (workIn a) (workIn b)) (right-parts a r .0)
     (joined-right (rowCount a) (a .marks) (b .marks) (a .held) (b .held) (right-parts a r .1)
@@ -80,8 +82,11 @@ pub merge-keeps-right : (a b : Part) → rightPart a ≡ true → rightPart (mer
 unfolding mergeStep
 merge-keeps-right a b r = rw r (go (rightPart b) (sameInput a b) refl refl)
   where
+    merged : Part
+    merged = withWork a (joined (workIn a) (workIn b))
+
     go : (t u : Bool) → rightPart b ≡ t → sameInput a b ≡ u
-        → rightPart (cond t (cond u (gives Done (withWork a (joined (workIn a) (workIn b)))) (gives OtherTrio a)) (gives BadPart a) .part) ≡ true
+        → rightPart (cond t (cond u (gives Done merged) (gives OtherTrio a)) (gives BadPart a) .part) ≡ true
     go true true s e = both-right a b r s e
     go true false s e = r
     go false u s e = r
@@ -110,10 +115,11 @@ module _ (p : Part) where
       row-right : (r : ℕ) → r < rows → rightPart (withWork p (joined (workIn p) (rowWork width score r))) ≡ true
       row-right r h =
           let s = row-sound (mul-pos (shaped .some) (shaped .some)) r h in
-          right-with p (joined (workIn p) (rowWork width score r)) (right-parts p right .0)
-          (subst (λ (l : List Entry). workRight rows (bitOr (p .marks) (rowWork width score r .marks)) (heldOf (mergedHeld (heldList (p .held)) l)) ≡ true)
-          (held-back (InRows width score (eqb r)) (rowWork width score r .held) (s .held-best))
-          (joined-right rows (p .marks) (rowWork width score r .marks) (p .held) (heldOf (rowWork width score r .held)) (right-parts p right .1)
+          let row = rowWork width score r in
+          right-with p (joined (workIn p) row) (right-parts p right .0)
+          (subst (λ (l : List Entry). workRight rows (bitOr (p .marks) (row .marks)) (heldOf (mergedHeld (heldList (p .held)) l)) ≡ true)
+          (held-back (InRows width score (eqb r)) (row .held) (s .held-best))
+          (joined-right rows (p .marks) (row .marks) (p .held) (heldOf (row .held)) (right-parts p right .1)
           (work-right (scores-numbers p (right-parts p right .0) eight) (shaped .some) (shaped .few) s)))
 
       -- a part of the right shape keeps it whatever row is worked into it
@@ -121,7 +127,10 @@ module _ (p : Part) where
       unfolding rowStep
       row-keeps-right r = rw right (go (ltb r rows) refl)
         where
-          go : (t : Bool) → ltb r rows ≡ t → rightPart (cond t (gives Done (withWork p (joined (workIn p) (rowWork width score r)))) (gives Row p) .part) ≡ true
+          worked : Part
+          worked = withWork p (joined (workIn p) (rowWork width score r))
+
+          go : (t : Bool) → ltb r rows ≡ t → rightPart (cond t (gives Done worked) (gives Row p) .part) ≡ true
           go true e = row-right r (ltb-true r rows e)
           go false e = right
 
@@ -142,7 +151,8 @@ module _ (p : Part) where
         let e = p .held .first in
         let i = first-held (p .held .count) (p .held .first) (p .held .second) (closes-with-triple m) in
         let k = and-elim-right (not (isNan (e .score))) (inMarked rows (p .marks) e) (shaped .scored e i) in
-        div-lt-iff-lt-mul (mul-pos (shaped .some) (shaped .some)) .0 (unmarked-above rows (p .marks) (e .position / width) (shaped .below) k)
+        div-lt-iff-lt-mul (mul-pos (shaped .some) (shaped .some)) .0
+        (unmarked-above rows (p .marks) (e .position / width) (shaped .below) k)
 
 -- so whatever closes has a triple to give
 pub closed-has-triple : (p : Part) → closeStep p .refusal ≡ Done → 1 ≤ p .held .count
@@ -171,7 +181,8 @@ module _ (p : Part) (right : rightPart p ≡ true) (eight : length (p .weights) 
   -- two entries at most
   again-fits : (k : ℕ) → heldList (heldOf (again k .held)) ≡ again k .held
   again-fits zero = in-use-back (p .held .count) (p .held .first) (p .held .second)
-  again-fits (suc k) = subst (λ (v : Work). heldList (heldOf (v .held)) ≡ v .held) (again-next k) (merged-fits (again k .held) (rowAlone k .held))
+  again-fits (suc k) =
+      subst (λ (v : Work). heldList (heldOf (v .held)) ≡ v .held) (again-next k) (merged-fits (again k .held) (rowAlone k .held))
 
   -- the first k rows worked, step by step, with none refused
   abbrev Reached : ℕ → Type 0
@@ -186,21 +197,25 @@ module _ (p : Part) (right : rightPart p ≡ true) (eight : length (p .weights) 
   )
     where
       next : joined (workIn (withWork p (again (suc k)))) (rowAlone (suc k)) ≡ again (suc (suc k))
-      next = ap (λ (l : List Entry). joined (record { marks = again (suc k) .marks; held = l }) (rowAlone (suc k))) (again-fits (suc k)) ∙ again-next (suc k)
+      next =
+          ap (λ (l : List Entry). joined (record { marks = again (suc k) .marks; held = l }) (rowAlone (suc k))) (again-fits (suc k))
+          ∙ again-next (suc k)
 
   all-reached : Reached (rows p)
   all-reached =
       let e : suc (rows p - 1) ≡ rows p = omega (arith, shaped p right .some) in
       subst Reached e (reached (rows p - 1) (omega arith))
 
-  -- where the entries that it holds have their true scores, working all its rows again and closing gives the one pass, whatever else it claims
+  -- where the entries that it holds have their true scores, working all its rows again and closing gives the one pass, whatever else it
+  -- claims
   pub reworked-part : ((e : Entry) → In (heldList (p .held)) e → IsEntry (scoreIn p) e) → closeStep (workedTo p (rowsIn p)) ≡ onePassCall p
   unfolding rowsIn
   reworked-part true-scores =
       let w : again (rows p) ≡ wholeWork (rows p) (width p) (score p) =
       reworked-rising (rows p) (score p) (p .marks) (p .held) (right-parts p right .1) true-scores in
       let r = subst (λ (v : Work). rightPart (withWork p v) ≡ true) w (all-reached .1) in
-      rw right (ap closeStep (all-reached .0 ∙ ap (withWork p) w) ∙ closing-says (withWork p (wholeWork (rows p) (width p) (score p))) r refl)
+      rw right
+      (ap closeStep (all-reached .0 ∙ ap (withWork p) w) ∙ closing-says (withWork p (wholeWork (rows p) (width p) (score p))) r refl)
 
 -- ---- a forged part
 
@@ -212,7 +227,9 @@ forged-right = refl
 -- its true scores are all minus infinity
 forged-least : (q : ℕ) → scoreIn forged q ≡ inf true
 unfolding columnTotal forged
-forged-least q = unread-least 2 (forged .counts) (forged .weights) (input-accepted forged (right-parts forged forged-right .0) refl) q Child refl
+forged-least q =
+    let accepted = input-accepted forged (right-parts forged forged-right .0) refl in
+    unread-least 2 (forged .counts) (forged .weights) accepted q Child refl
 
 forged-full : forged .marks ≡ fullMarks (rowCount forged)
 unfolding genotypeCount forged
@@ -245,7 +262,8 @@ unfolding rowsIn genotypeCount beatsOf keyOf toBits ofInt isNan forged mergedHel
 reworking-keeps-lies =
     rw forged-right
     (all-reached forged forged-right refl .0
-    ∙ ap (λ (s : ℕ → Float). withWork forged (workedAll (rowWidth 2) s (numbers 0 (genotypeCount 2)) (workIn forged))) (λ i q. forged-least q i))
+    ∙ ap (λ (s : ℕ → Float). withWork forged (workedAll (rowWidth 2) s (numbers 0 (genotypeCount 2)) (workIn forged)))
+    (λ i q. forged-least q i))
 
 -- ---- the part of a refused opening, and where a forged call lies
 

@@ -76,7 +76,7 @@ module _ (start : Part) where
     pub held-best : Best beatsOf 2 (InRows (rowWidth (start .clusters)) (scoreIn start) (rowsOf h)) (heldList (partOf h .held))
     -- while a row has not been worked, closing is refused
     pub incomplete : (r : ℕ) → r < rowCount start → rowsOf h r ≡ false → closeStep (partOf h) ≡ refusedClosing NotComplete (partOf h)
-    -- once all have been, closing gives what one pass over all triples gives: triple, score, runner-up, ground and quality
+    -- once all have been, closing gives what one pass over all triples gives: triple, flags, score, runner-up, ground and quality
     pub complete : AllWorked h → closeStep (partOf h) ≡ onePassCall start
     -- and so it does after whatever follows
     pub for-ever : AllWorked h → (k : History start) → Later h k → closeStep (partOf k) ≡ onePassCall start

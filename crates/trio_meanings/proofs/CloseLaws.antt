@@ -1,7 +1,8 @@
--- Closing gives each refusal exactly where its line says so, for every part, forged or not. Assumes nothing (RULES.md, R10, R12, O1).
+-- Closing gives each refusal exactly where its line says so, for every part, forged or not; what is to be shown of an answer, once for a
+-- complete part and once for a refused one. Assumes nothing (RULES.md, R10, R12, O1).
 use Prim.Native.Nat.{ℕ, _<_}
 use mathlib.Core.Bool.{Bool, true, false, cond, true≢false}
-use mathlib.Core.Logic.{_↔_}
+use mathlib.Core.Logic.{_↔_, _≢_}
 use mathlib.Core.Path.{_≡_, refl, sym, ap, subst, _∙_}
 use mathlib.Mathlib.Data.Bool.Basic.{and-elim-right}
 use native.Mathlib.Nat.{zero-add}
@@ -15,6 +16,7 @@ use Rattle.lists.proofs.PlaceLaws.{number-at, numbers-length}
 use Rattle.refusals.specs.declared.Refusal.{Refusal}
 use Rattle.refusals.specs.declared.Refusal.the-variants.{Done, NoCluster, TooMany, Shape, Count, Weight, Model, Table}
 use Rattle.refusals.specs.declared.Refusal.the-variants.{Row, OtherTrio, NotComplete, NoCall, BadPart}
+use Rattle.refusals.specs.Refusals.{numberOf}
 use Rattle.trio_search.specs.Marks.{isMarked, fullMarks}
 use Rattle.trio_search.specs.Shape.{workRight}
 use Rattle.trio_search_laws.proofs.ShapeLaws.{Shaped, right-shaped}
@@ -22,9 +24,32 @@ use Rattle.trio_search_laws.proofs.WordLaws.{full-marked, marked-full}
 use Rattle.trio_parts.specs.declared.part.Part.{Part}
 use Rattle.trio_parts.specs.Part.{rowCount}
 use Rattle.trio_parts.specs.Right.{inputRight, rightPart}
-use Rattle.trio_closings.specs.Closing.{closedAs, refusedClosing, closeStep}
+use Rattle.trio_closings.specs.declared.closing.Closed.{Closed}
+use Rattle.trio_closings.specs.Closing.{closedAs, refusedClosing, closeBy, closeStep}
 use Rattle.trio_meanings.specs.Marked.{SomeUnmarked, AllMarked, ClosesWith}
 use Rattle.trio_meanings.proofs.Settled.{Settles, settled}
+
+-- ---- the three answers that closing can give
+
+module _ (p : Part) where
+  -- what holds of two answers to a complete part, and of every refusal with itself, holds of closing by the two
+  pub closing-both : (R : Closed → Closed → Type 0) (says other : Part → Closed) → R (says p) (other p)
+      → ((r : Refusal) → r ≢ Done → R (refusedClosing r p) (refusedClosing r p)) → R (closeBy says p) (closeBy other p)
+  closing-both R says other both refused = go (rightPart p) (eqb (p .marks) (fullMarks (rowCount p)))
+    where
+      go : (t u : Bool) → R
+          (cond t (cond u (says p) (refusedClosing NotComplete p)) (refusedClosing BadPart p))
+          (cond t (cond u (other p) (refusedClosing NotComplete p)) (refusedClosing BadPart p))
+      go true true = both
+      go true false = refused NotComplete (λ e. omega (arith, ap numberOf e))
+      go false u = refused BadPart (λ e. omega (arith, ap numberOf e))
+
+  -- so what holds of the answer to a complete part, and of every refusal, holds of closing
+  pub closing-each : (P : Closed → Type 0) → P (closedAs p) → ((r : Refusal) → r ≢ Done → P (refusedClosing r p)) → P (closeStep p)
+  unfolding closeStep
+  closing-each P says refused = closing-both (λ c d. P d) closedAs closedAs says refused
+
+-- ---- when each is given
 
 module _ (p : Part) where
   abbrev rows : ℕ

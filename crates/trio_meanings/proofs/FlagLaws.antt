@@ -1,24 +1,17 @@
 -- T12 of calls and closings: the flags say exactly which called alleles their animals have a read of, all six are set exactly on Won and
 -- Tied, and a refusal has none. Assumes nothing.
 use Prim.Native.Nat.{ℕ}
-use mathlib.Core.Bool.{Bool, true, false, not, cond, true≢false}
+use mathlib.Core.Bool.{Bool, true, false, not, true≢false}
 use mathlib.Core.List.{List}
-use mathlib.Core.Logic.{_↔_, _⊎_, inl, inr, _≢_}
+use mathlib.Core.Logic.{_⊎_, inl, inr, _≢_}
 use mathlib.Core.Path.{_≡_, refl, sym, ap, subst, _∙_}
-use lib.Dec.{eqb}
 use lib.Ieee.{Float}
-use Rattle.refusals.specs.declared.Refusal.the-variants.{Done, NotComplete, BadPart}
-use Rattle.refusals.specs.Refusals.{numberOf}
+use Rattle.refusals.specs.declared.Refusal.the-variants.{Done}
 use Rattle.trio_family.specs.declared.ground.Ground.{Ground}
 use Rattle.trio_family.specs.declared.ground.Ground.the-variants.{NoGround, Won, Tied, Unread, Inferred}
-use Rattle.trio_family.specs.declared.pair.Triple.{Triple}
 use Rattle.trio_parts.specs.declared.part.Part.{Part}
 use Rattle.trio_parts.specs.declared.part.Stepped.{Stepped}
-use Rattle.trio_parts.specs.Part.{rowCount}
-use Rattle.trio_parts.specs.Right.{rightPart}
-use Rattle.trio_search.specs.Marks.{fullMarks}
 use Rattle.trio_opening.specs.Opening.{openStep}
-use Rattle.trio_reads.specs.declared.flags.TripleRead.{TripleRead}
 use Rattle.trio_reads.specs.Flags.{tripleRead, noneRead, allelesRead}
 use Rattle.trio_closings.specs.declared.closing.Closed.{Closed}
 use Rattle.trio_closings.specs.Closing.{closedAs, refusedClosing, closeStep}
@@ -31,6 +24,7 @@ use Rattle.trio_meanings.specs.Called.{calledAt, Called}
 use Rattle.trio_meanings.specs.Grounds.{AllRead, CalledRead, FlagsTell, AllSetExactly}
 use Rattle.trio_meanings.proofs.ReadLaws.{called-settles, flags-tell, called-all-read}
 use Rattle.trio_meanings.proofs.CallLaws.{limits, call-called, closing-is}
+use Rattle.trio_meanings.proofs.CloseLaws.{closing-each}
 use Rattle.trio_meanings.proofs.GroundLaws.{ground-means}
 
 module _ (n : ℕ) (counts : List ℕ) (weights : List Float) (accepted : openStep n counts weights .refusal ≡ Done) where
@@ -98,14 +92,8 @@ module _ (n : ℕ) (counts : List ℕ) (weights : List Float) (accepted : openSt
 
 -- of any part, forged or not
 pub refused-none : (p : Part) → closeStep p .refusal ≢ Done → closeStep p .read ≡ noneRead
-unfolding closeStep closedAs refusedClosing
-refused-none p = go (rightPart p) (eqb (p .marks) (fullMarks (rowCount p)))
-  where
-    go : (t u : Bool) → cond t (cond u (closedAs p) (refusedClosing NotComplete p)) (refusedClosing BadPart p) .refusal ≢ Done
-        → cond t (cond u (closedAs p) (refusedClosing NotComplete p)) (refusedClosing BadPart p) .read ≡ noneRead
-    go true true other = absurd (other refl)
-    go true false other = refl
-    go false u other = refl
+unfolding closedAs refusedClosing
+refused-none p = closing-each p (λ d. d .refusal ≢ Done → d .read ≡ noneRead) (λ other. absurd (other refl)) (λ r given other. refl)
 
 -- of any input that opening refuses
 pub refused-call-none : (n : ℕ) (counts : List ℕ) (weights : List Float) → openStep n counts weights .refusal ≢ Done

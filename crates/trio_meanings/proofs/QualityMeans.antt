@@ -13,7 +13,7 @@ use lib.Signed.{ltZ, _≤ℤ_, ltZ-yes, clashℤ}
 use lib.Dec.{T, eqb}
 use Rattle.floats.specs.Key.{keyOf}
 use Rattle.floats.specs.Zeros.{Number}
-use Rattle.refusals.specs.declared.Refusal.the-variants.{Done, NotComplete, BadPart}
+use Rattle.refusals.specs.declared.Refusal.the-variants.{Done}
 use Rattle.refusals.specs.Refusals.{numberOf}
 use Rattle.trio_family.specs.declared.ground.Ground.{Ground}
 use Rattle.trio_family.specs.declared.ground.Ground.the-variants.{NoGround, Won, Tied, Unread, Inferred}
@@ -28,7 +28,6 @@ use Rattle.trio_triples.specs.Score.{scoreOf}
 use Rattle.trio_parts.specs.declared.part.Part.{Part}
 use Rattle.trio_parts.specs.declared.part.Stepped.{Stepped}
 use Rattle.trio_parts.specs.Part.{rowCount}
-use Rattle.trio_parts.specs.Right.{rightPart}
 use Rattle.trio_search.specs.Marks.{fullMarks}
 use Rattle.trio_opening.specs.Opening.{openStep}
 use Rattle.trio_quality.specs.Quality.{trioQuality}
@@ -49,7 +48,7 @@ use Rattle.trio_meanings.specs.Called.{calledAt, keyAt, Called}
 use Rattle.trio_meanings.specs.Grounds.{SomeUnread, AllRead, BestShared}
 use Rattle.trio_meanings.specs.Qualities.{QualityBeside, Rated, bestScores}
 use Rattle.trio_meanings.proofs.CallLaws.{limits, call-called, closing-is}
-use Rattle.trio_meanings.proofs.CloseLaws.{complete-exactly}
+use Rattle.trio_meanings.proofs.CloseLaws.{closing-each, complete-exactly}
 use Rattle.trio_meanings.proofs.EdgeLaws.{flat, unread-score}
 use Rattle.trio_meanings.proofs.FloatLaws.{allowed, key-below}
 use Rattle.trio_meanings.proofs.GroundLaws.{below-or-equal, unread-settles, ground-means}
@@ -58,13 +57,11 @@ use Rattle.trio_meanings.proofs.GroundLaws.{below-or-equal, unread-sett
 
 -- of any part, whatever closing answers
 pub closing-most : (p : Part) → closeStep p .quality ≤ 100
-unfolding closeStep refusedClosing closedAs
-closing-most p = go (rightPart p) (eqb (p .marks) (fullMarks (rowCount p)))
-  where
-    go : (t u : Bool) → cond t (cond u (closedAs p) (refusedClosing NotComplete p)) (refusedClosing BadPart p) .quality ≤ 100
-    go true true = quality-most (unread (p .clusters) (p .counts)) (hasRunner (p .held)) (p .held .first .score) (p .held .second .score)
-    go true false = omega arith
-    go false u = omega arith
+unfolding refusedClosing closedAs
+closing-most p =
+    closing-each p (λ d. d .quality ≤ 100)
+    (quality-most (unread (p .clusters) (p .counts)) (hasRunner (p .held)) (p .held .first .score) (p .held .second .score))
+    (λ r given. omega arith)
 
 -- ---- a tie of two finite scores
 
@@ -105,25 +102,17 @@ module _ (p : Part) (f : Number (p .held .first .score)) (g : Number (p .held .s
   -- so whatever part closes with a best score that is shared has 3, Tied or Inferred
   pub shared-closing : closeStep p .refusal ≡ Done → unread (p .clusters) (p .counts) ≡ false → tied (p .held) ≡ true
       → closeStep p .quality ≡ 3
-  unfolding closeStep refusedClosing
-  shared-closing d u e = go (rightPart p) (eqb (p .marks) (fullMarks (rowCount p))) d
-    where
-      go : (t w : Bool) → cond t (cond w (closedAs p) (refusedClosing NotComplete p)) (refusedClosing BadPart p) .refusal ≡ Done
-          → cond t (cond w (closedAs p) (refusedClosing NotComplete p)) (refusedClosing BadPart p) .quality ≡ 3
-      go true true d = shared-finite u e
-      go true false d = absurd (omega (arith, ap numberOf d))
-      go false w d = absurd (omega (arith, ap numberOf d))
+  unfolding refusedClosing
+  shared-closing done u e =
+      closing-each p (λ d. d .refusal ≡ Done → d .quality ≡ 3) (λ d. shared-finite u e) (λ r other d. absurd (other d)) done
 
   -- and whatever part closes as Tied
   pub tied-closing : closeStep p .ground ≡ Tied → closeStep p .quality ≡ 3
-  unfolding closeStep refusedClosing
-  tied-closing = go (rightPart p) (eqb (p .marks) (fullMarks (rowCount p)))
-    where
-      go : (t w : Bool) → cond t (cond w (closedAs p) (refusedClosing NotComplete p)) (refusedClosing BadPart p) .ground ≡ Tied
-          → cond t (cond w (closedAs p) (refusedClosing NotComplete p)) (refusedClosing BadPart p) .quality ≡ 3
-      go true true e = let says = tied-says e in shared-finite (says .0) (says .1)
-      go true false e = absurd (omega (arith, ap groundNumber e))
-      go false w e = absurd (omega (arith, ap groundNumber e))
+  unfolding refusedClosing
+  tied-closing =
+      closing-each p (λ d. d .ground ≡ Tied → d .quality ≡ 3)
+      (λ e. let says = tied-says e in shared-finite (says .0) (says .1))
+      (λ r other e. absurd (omega (arith, ap groundNumber e)))
 
 -- ---- kanpig's function of the best scores, which is not told whether an animal is unread
 

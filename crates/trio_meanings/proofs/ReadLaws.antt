@@ -3,7 +3,7 @@
 use Prim.Native.Nat.{ℕ, zero, suc, _+_, _*_, _≤_, _<_}
 use mathlib.Core.Bool.{Bool, true, false, not, _&&_, true≢false}
 use mathlib.Core.List.{List, [], _∷_, _++_}
-use mathlib.Core.Logic.{_≢_, _⊎_, inl, inr}
+use mathlib.Core.Logic.{_≢_, inl, inr}
 use mathlib.Core.Path.{_≡_, refl, sym, ap, subst, _∙_}
 use mathlib.Mathlib.Data.Bool.Basic.{and-elim-left, and-elim-right, and-intro}
 use native.Mathlib.Omega.{arith}
@@ -20,7 +20,7 @@ use Rattle.trio_family.specs.declared.sample.Sample.{Sample}
 use Rattle.trio_family.specs.declared.sample.Sample.the-variants.{Child, Father, Mother}
 use Rattle.trio_family.specs.Numbers.{sampleNumber}
 use Rattle.trio_family.specs.Genotypes.{pair, pairsWith, pairsFrom, genotypes}
-use Rattle.trio_samples.specs.Samples.{upToEight, reads, columnTotal}
+use Rattle.trio_samples.specs.Samples.{reads, columnTotal}
 use Rattle.trio_samples.proofs.SampleLaws.{in-use, count-at-most}
 use Rattle.trio_triples.specs.Genotypes.{genotypeAt, tripleAt, tripleOf}
 use Rattle.trio_triples.proofs.GenotypesLaws.{triple-within}

@@ -1,18 +1,14 @@
 -- D4: no ground and no quality changes a call, of any part, forged or not, and of any input that opening accepts; and beside the three
 -- grounds that there were before Inferred, only Won and Tied became it. Assumes nothing.
 use Prim.Native.Nat.{ℕ}
-use mathlib.Core.Bool.{Bool, true, false, not, cond}
+use mathlib.Core.Bool.{Bool, true, false, not}
 use mathlib.Core.List.{List}
 use mathlib.Core.Logic.{inl, inr}
 use mathlib.Core.Path.{_≡_, refl, sym, subst}
-use lib.Dec.{eqb}
 use lib.Ieee.{Float}
-use Rattle.refusals.specs.declared.Refusal.the-variants.{Done, NotComplete, BadPart}
+use Rattle.refusals.specs.declared.Refusal.the-variants.{Done}
 use Rattle.trio_family.specs.Grounds.{groundBy}
 use Rattle.trio_parts.specs.declared.part.Part.{Part}
-use Rattle.trio_parts.specs.Part.{rowCount}
-use Rattle.trio_parts.specs.Right.{rightPart}
-use Rattle.trio_search.specs.Marks.{fullMarks}
 use Rattle.trio_opening.specs.Opening.{openStep}
 use Rattle.trio_quality.specs.Quality.{trioQuality}
 use Rattle.trio_triples.specs.Score.{scoreOf}
@@ -25,6 +21,7 @@ use Rattle.trio_desks.specs.Call.{callOf}
 use Rattle.trio_meanings.specs.Called.{positionCount}
 use Rattle.trio_meanings.specs.SameCalls.{SameCall, threeGrounds, StaysOrInferred}
 use Rattle.trio_meanings.proofs.CallLaws.{answerBy, call-is}
+use Rattle.trio_meanings.proofs.CloseLaws.{closing-both}
 
 same-itself : (c : Closed) → SameCall c c
 same-itself c =
@@ -37,18 +34,6 @@ same-itself c =
       same-has-runner = refl;
       same-runner = refl;
     }
-
--- what holds of two answers to a complete part, and of every answer with itself, holds of closing by the two
-closing-both : (R : Closed → Closed → Type 0) (says tells : Part → Closed) (p : Part) → R (says p) (tells p) → ((c : Closed) → R c c)
-    → R (closeBy says p) (closeBy tells p)
-closing-both R says tells p both itself = go (rightPart p) (eqb (p .marks) (fullMarks (rowCount p)))
-  where
-    go : (t u : Bool) → R
-        (cond t (cond u (says p) (refusedClosing NotComplete p)) (refusedClosing BadPart p))
-        (cond t (cond u (tells p) (refusedClosing NotComplete p)) (refusedClosing BadPart p))
-    go true true = both
-    go true false = itself (refusedClosing NotComplete p)
-    go false u = itself (refusedClosing BadPart p)
 
 module _ (ground-by : GroundRule) (quality-by : QualityRule) (p : Part) where
   -- of a complete part, and so of the one pass: by whatever ground and whatever quality, the same call
@@ -68,7 +53,8 @@ module _ (ground-by : GroundRule) (quality-by : QualityRule) (p : Part) where
   -- of any part
   pub closing-same : SameCall (closeBy (closedBy ground-by quality-by) p) (closeStep p)
   unfolding closeStep
-  closing-same = closing-both SameCall (closedBy ground-by quality-by) closedAs p closed-same same-itself
+  closing-same =
+      closing-both p SameCall (closedBy ground-by quality-by) closedAs closed-same (λ r other. same-itself (refusedClosing r p))
 
 -- by whatever ground, a complete part says the same quality too
 pub closed-any-ground : (ground-by : GroundRule) (p : Part)
@@ -82,7 +68,7 @@ pub any-ground : (ground-by : GroundRule) (p : Part)
 unfolding closeStep closedAs
 any-ground ground-by p = (
   closing-same ground-by trioQuality p,
-  closing-both (λ c d. c .quality ≡ d .quality) (closedBy ground-by trioQuality) (closedBy groundBy trioQuality) p refl (λ c. refl),
+  closing-both p (λ c d. c .quality ≡ d .quality) (closedBy ground-by trioQuality) (closedBy groundBy trioQuality) refl (λ r other. refl),
 )
 
 -- by whatever quality, the same call, and the same ground
@@ -91,7 +77,7 @@ pub any-quality : (quality-by : QualityRule) (p : Part)
 unfolding closeStep closedAs
 any-quality quality-by p = (
   closing-same groundBy quality-by p,
-  closing-both (λ c d. c .ground ≡ d .ground) (closedBy groundBy quality-by) (closedBy groundBy trioQuality) p refl (λ c. refl),
+  closing-both p (λ c d. c .ground ≡ d .ground) (closedBy groundBy quality-by) (closedBy groundBy trioQuality) refl (λ r other. refl),
 )
 
 -- ---- beside the grounds that there were
@@ -113,8 +99,8 @@ closed-stays p =
 pub closing-stays : (p : Part) → StaysOrInferred (closeBy (closedBy threeGrounds trioQuality) p .ground) (closeStep p .ground)
 unfolding closeStep
 closing-stays p =
-    closing-both (λ c d. StaysOrInferred (c .ground) (d .ground)) (closedBy threeGrounds trioQuality) closedAs p
-    (closed-stays p) (λ c. inl refl)
+    closing-both p (λ c d. StaysOrInferred (c .ground) (d .ground)) (closedBy threeGrounds trioQuality) closedAs
+    (closed-stays p) (λ r other. inl refl)
 
 -- ---- of the call of an accepted input, which hands back the part that it closed
 

@@ -16,7 +16,10 @@ both-read-requires-3 : tie.Need-both-read-requires-3
 both-read-requires-3 c κs = search needs
 
 abbrev given : tie.After-both-read → TripleRead
-given c = let parts = c .before .before .before in parts .before .args .f
+given c =
+    let split = c .before in
+    let of-child = split .before .before in
+    of-child .before .args .f
 
 abbrev first : tie.After-both-read2 → tie.After-both-read
 first c = c .before .before

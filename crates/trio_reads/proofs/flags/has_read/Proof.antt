@@ -1,10 +1,10 @@
 -- `trio_reads::flags::has_read` meets its contract: past the eighth cluster there is no count.
-use Prim.Native.Nat.{ℕ, _+_, _*_, _≤_, _<_}
-use mathlib.Core.Path.{_≡_, sym, ap, _∙_}
+use Prim.Native.Nat.{_+_, _*_, _<_}
+use mathlib.Core.Path.{_≡_, sym, ap}
 use native.Mathlib.Omega.{arith}
 use borrow.Author.Needs.{needs}
 use lib.Dec.{ltb}
-use lib.ListN.{length, getD, List·getD-eq-default}
+use lib.ListN.{length, List·getD-eq-default}
 use Rattle.trio_family.specs.Numbers.{sampleNumber}
 use Rattle.trio_samples.proofs.SampleLaws.{sample-below}
 use Rattle.trio_reads.proofs.flags.has_read.Statement.{statement}
