@@ -14,7 +14,7 @@ use Rattle.trio_family.specs.Numbers.{groundNumber}
 abbrev pub sixOf : Triple → List ℕ
 sixOf t = t .child .low ∷ t .child .high ∷ t .father .low ∷ t .father .high ∷ t .mother .low ∷ t .mother .high ∷ []
 
--- T12, F7: 1 for a flag that is set
+-- T9, T12, F7: 1 for a flag that is set
 abbrev pub flagNumber : Bool → ℕ
 flagNumber f = cond f 1 0
 
