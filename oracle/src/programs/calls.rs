@@ -82,7 +82,7 @@ fn qualities() -> Vec<String> {
     lines
 }
 
-/// The trios of each ground that `vectors` is asked too.
+/// The trios that `vectors` is asked too for the sake of their grounds.
 fn grounded() -> Vec<String> {
     let line = |(n, counts): (u32, &[u32])| {
         let numbers = [n].into_iter().chain(counts.iter().copied()).chain((0..n).map(|_| 1));

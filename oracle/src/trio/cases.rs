@@ -99,8 +99,8 @@ fn add(cases: &mut Exchange, input: &Input) {
     cases.add(words::call(input), words::answer(&expected(input)));
 }
 
-/// Trios of each ground: parents that are given an allele of the calf's, which no read of theirs shows, alone and with a tie behind it; ties
-/// of alleles that were all read; a calf with two alleles that were not, and with one that was not, twice.
+/// Trios of each ground but Unread: parents that are given an allele of the calf's, which no read of theirs shows, alone and with a tie
+/// behind it; ties of alleles that were all read; a calf with two alleles that were not, and with one that was not, twice.
 pub const GROUNDED: [(u32, &[u32]); 13] = [
     (3, &[1, 0, 0, 0, 2, 1, 0, 1, 2]),
     (3, &[0, 8, 8, 1, 0, 0, 0, 0, 0]),

@@ -32,6 +32,6 @@ pub fn answer(answer: &Answer) -> String {
         None => "0".to_string(),
     };
     let score = word(f64::from_bits(answer.score));
-    let worth = format!("{} {}", answer.quality, numbers(&answer.read));
-    format!("{} {} {score} {} {runner} {worth}", answer.number, numbers(&answer.pairs), answer.ground)
+    let (number, pairs, ground) = (answer.number, numbers(&answer.pairs), answer.ground);
+    format!("{number} {pairs} {score} {ground} {runner} {} {}", answer.quality, numbers(&answer.read))
 }
