@@ -1,65 +1,18 @@
 //! A plain model of the registers and their steps. A part that began with an opening is kept as the set of rows that went into it, and
 //! nothing else (docs/RULES.md, D3): what it holds is looked up when asked. Other parts are kept as they were given.
+use super::faults::Faults;
 use super::grounds::Grounds;
 use super::kanpig::OURS;
+use super::known::{Known, Trio};
+use super::lists;
 use super::part::{rank, Entry, Part};
-use super::pass::{called, found, scores};
+use super::pass::found;
+use super::step::Step;
 use super::types::{genotypes, refusal, Answer, Input};
 use super::words;
-use std::collections::{BTreeSet, HashMap};
+use crate::floor::floats::same;
+use std::collections::BTreeSet;
 use std::rc::Rc;
-
-/// A line that can be read, but for the last kind.
-#[derive(Clone, Debug)]
-pub enum Step {
-    Open(usize, Input),
-    Part(usize, Part),
-    Copy(usize, usize),
-    Row(usize, u32),
-    Merge(usize, usize),
-    Close(usize),
-    Show(usize),
-    Unreadable(String),
-}
-
-impl Step {
-    pub fn question(&self) -> String {
-        match self {
-            Step::Open(r, input) => format!("open {r} {}", words::input(input)),
-            Step::Part(r, part) => format!("part {r} {}", part.words()),
-            Step::Copy(r, s) => format!("copy {r} {s}"),
-            Step::Row(r, f) => format!("row {r} {f}"),
-            Step::Merge(r, s) => format!("merge {r} {s}"),
-            Step::Close(r) => format!("close {r}"),
-            Step::Show(r) => format!("show {r}"),
-            Step::Unreadable(line) => line.clone(),
-        }
-    }
-}
-
-/// An accepted input, with all its triples.
-pub struct Trio {
-    pub input: Input,
-    /// How many rows there are.
-    pub rows: u32,
-    /// Every position and its score, the best first.
-    ranked: Vec<Entry>,
-    answer: Answer,
-}
-
-impl Trio {
-    fn new(input: Input) -> Trio {
-        let mut ranked: Vec<Entry> = (0..).zip(scores(&input, &OURS)).collect();
-        ranked.sort_by_key(rank);
-        let answer = called(&input, &OURS);
-        Trio { rows: genotypes(input.n).len() as u32, ranked, answer, input }
-    }
-
-    /// The best two of some rows.
-    fn best_two(&self, has: impl Fn(u32) -> bool) -> Vec<Entry> {
-        self.ranked.iter().copied().filter(|(position, _)| has(position / (self.rows * self.rows))).take(2).collect()
-    }
-}
 
 #[derive(Clone)]
 pub enum Register {
@@ -73,7 +26,7 @@ impl Register {
         match self {
             Register::Rows(trio, rows) => {
                 let marks = rows.iter().map(|row| 1u64 << row).sum();
-                Part::of(&trio.input, marks, &trio.best_two(|row| rows.contains(&row)))
+                Part::of(&trio.input, &trio.lists, marks, &trio.best_two(marks))
             }
             Register::Given(part) => *part,
         }
@@ -85,7 +38,8 @@ pub struct Desks {
     pub registers: Vec<Register>,
     /// The grounds of all closings.
     pub grounds: Grounds,
-    trios: HashMap<String, Rc<Trio>>,
+    pub faults: Faults,
+    pub known: Known,
 }
 
 /// The first part's work with another's: all marks, and the best two by distinct position, where the first part's entry stays (T8).
@@ -95,7 +49,7 @@ fn joined(first: &Part, marks: u64, given: &[Entry]) -> Part {
     entries.extend(given.iter().filter(|(position, _)| !own.contains(position)));
     entries.sort_by_key(rank);
     entries.truncate(2);
-    Part::of(&first.input(), first.marks | marks, &entries)
+    Part { marks: first.marks | marks, ..first.with(&entries) }
 }
 
 /// What a complete part says.
@@ -106,29 +60,58 @@ fn closed(part: &Part) -> Answer {
 
 impl Desks {
     pub fn new() -> Desks {
-        Desks { registers: vec![Register::Given(Part::ZEROS); 10], grounds: Grounds::default(), trios: HashMap::new() }
+        Desks {
+            registers: vec![Register::Given(Part::ZEROS); 10],
+            grounds: Grounds::default(),
+            faults: Faults::default(),
+            known: Known::default(),
+        }
     }
 
-    pub fn trio(&mut self, input: &Input) -> Rc<Trio> {
-        let known = self.trios.entry(words::input(input));
-        known.or_insert_with(|| Rc::new(Trio::new(input.clone()))).clone()
+    /// Whether a part is sound.
+    pub fn is_sound(&mut self, part: &Part) -> bool {
+        self.known.fault(part).is_none()
+    }
+
+    /// The register's part, if it is sound; if not, the refusal is counted. One that began with an opening always is.
+    fn sound(&mut self, r: usize) -> Option<Part> {
+        let part = self.registers[r].part();
+        let Some(fault) = self.known.fault(&part) else {
+            return Some(part);
+        };
+        assert!(matches!(self.registers[r], Register::Given(_)), "the model's part is not sound: {part:?}");
+        self.faults.refuse(fault);
+        None
     }
 
     fn open(&mut self, r: usize, input: &Input) -> u32 {
         let number = refusal(input);
         self.registers[r] = match number {
-            0 => Register::Rows(self.trio(input), BTreeSet::new()),
+            0 => Register::Rows(self.known.trio(input), BTreeSet::new()),
             _ => Register::Given(Part::ZEROS),
         };
         number
     }
 
-    fn row(&mut self, r: usize, f: u32) -> u32 {
-        let part = self.registers[r].part();
-        if !part.is_right() {
-            return 12;
+    /// A part as its words say it gets the lists of its counts and weights.
+    fn put(&mut self, r: usize, part: &Part) {
+        self.registers[r] = Register::Given(Part { lists: *self.known.lists(part), ..*part });
+    }
+
+    /// What is there already changes nothing.
+    fn forge(&mut self, r: usize, s: usize, k: usize, x: f64) {
+        let mut part = self.registers[r].part();
+        if !same(part.lists[s][k], x) {
+            part.lists[s][k] = x;
+            self.registers[r] = Register::Given(part);
         }
-        let trio = self.trio(&part.input());
+    }
+
+    fn row(&mut self, r: usize, f: u32) -> u32 {
+        let Some(part) = self.sound(r) else {
+            return 12;
+        };
+        let trio = self.known.trio_of(&part);
         if f >= trio.rows {
             return 8;
         }
@@ -136,16 +119,18 @@ impl Desks {
             Register::Rows(_, rows) => {
                 rows.insert(f);
             }
-            Register::Given(given) => *given = joined(&part, 1 << f, &trio.best_two(|row| row == f)),
+            Register::Given(given) => *given = joined(&part, 1 << f, &trio.best_two(1 << f)),
         }
         0
     }
 
     fn merge(&mut self, r: usize, s: usize) -> u32 {
-        let (first, second) = (self.registers[r].part(), self.registers[s].part());
-        if !first.is_right() || !second.is_right() {
+        let Some(first) = self.sound(r) else {
             return 12;
-        }
+        };
+        let Some(second) = self.sound(s) else {
+            return 12;
+        };
         if !first.same_input(&second) {
             return 9;
         }
@@ -158,38 +143,45 @@ impl Desks {
     }
 
     fn close(&mut self, r: usize) -> Answer {
-        let part = self.registers[r].part();
-        if !part.is_right() {
+        let Some(part) = self.sound(r) else {
             return Answer::refused(12);
-        }
+        };
         match &self.registers[r] {
-            Register::Rows(trio, rows) if (0..trio.rows).all(|row| rows.contains(&row)) => trio.answer.clone(),
+            Register::Rows(trio, rows) if (0..trio.rows).all(|row| rows.contains(&row)) => trio.answer().clone(),
             Register::Given(_) if part.marks.count_ones() as usize == genotypes(part.n).len() => closed(&part),
             _ => Answer::refused(10),
         }
     }
 
+    /// Whether a register's lists are others than its counts and weights give.
+    fn has_forged_lists(&mut self, r: usize) -> bool {
+        match self.registers[r] {
+            Register::Rows(..) => false,
+            Register::Given(part) => !lists::equal(&part.lists, self.known.lists(&part)),
+        }
+    }
+
     /// Takes a step, and answers it as `vectors` has to.
     pub fn answer(&mut self, step: &Step) -> String {
+        if step.reads().into_iter().any(|r| self.has_forged_lists(r)) {
+            self.faults.meet_forged_lists();
+        }
         match step {
-            Step::Open(r, input) => self.open(*r, input).to_string(),
-            Step::Part(r, part) => {
-                self.registers[*r] = Register::Given(*part);
-                "ok".to_string()
-            }
-            Step::Copy(r, s) => {
-                self.registers[*r] = self.registers[*s].clone();
-                "ok".to_string()
-            }
-            Step::Row(r, f) => self.row(*r, *f).to_string(),
-            Step::Merge(r, s) => self.merge(*r, *s).to_string(),
+            Step::Open(r, input) => return self.open(*r, input).to_string(),
+            Step::Part(r, part) => self.put(*r, part),
+            Step::Forge(r, s, k, x) => self.forge(*r, *s, *k, *x),
+            Step::Copy(r, s) => self.registers[*r] = self.registers[*s].clone(),
+            Step::Row(r, f) => return self.row(*r, *f).to_string(),
+            Step::Merge(r, s) => return self.merge(*r, *s).to_string(),
             Step::Close(r) => {
                 let answer = self.close(*r);
                 self.grounds.add(&answer);
-                words::answer(&answer)
+                return words::answer(&answer);
             }
-            Step::Show(r) => self.registers[*r].part().words(),
-            Step::Unreadable(_) => "?".to_string(),
+            Step::Show(r) => return self.registers[*r].part().words(),
+            Step::Scores(r) => return lists::as_words(&self.registers[*r].part().lists),
+            Step::Unreadable(_) => return "?".to_string(),
         }
+        "ok".to_string()
     }
 }

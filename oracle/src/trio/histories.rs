@@ -1,9 +1,13 @@
 //! Random histories of parts, through the program `vectors` and through the plain model of desks.rs, line by line.
-use super::desks::{Desks, Register, Step};
-use super::forged::forged;
+use super::desks::{Desks, Register};
+use super::faults::Faults;
+use super::forged::{forged, forged_score};
 use super::grounds::Grounds;
 use super::inputs::{allowed, disturbed};
+use super::part::Part;
+use super::step::Step;
 use super::types::Input;
+use super::words;
 use crate::floor::compared::asked;
 use crate::floor::exchange::Exchange;
 use crate::floor::random::{pick, Random};
@@ -13,16 +17,25 @@ const HISTORIES: usize = 120_000;
 /// How many histories one run of the program has, in which registers are kept from one to the next.
 const TOGETHER: usize = 500;
 
+/// So many steps are compared at least.
+const LEAST_STEPS: usize = 3_000_000;
+
 /// Lines that cannot be read, and would change registers if they were.
 #[rustfmt::skip]
-const UNREADABLE: [&str; 17] = [
+const UNREADABLE: [&str; 29] = [
     "open 10 1 3 1 1 1 1 3ff0000000000000", "row 0", "row 0 ", "row 0 0 0", "row 10 0", "row 0 4294967296", "merge 0", "merge 0 10",
     "copy 0 10", "copy 10 0", "copy 0", "close", "close 10", "close 0 0", "show 10", "part 0 1", "open 0 1 3 1 1 1 2 3ff0000000000000",
+    "forge 10 0 0 3ff0000000000000", "forge 0 3 0 3ff0000000000000", "forge 0 0 36 3ff0000000000000", "forge 0 0 4294967295 3ff0000000000000",
+    "forge 0 0 0", "forge 0 0 0 0", "forge 0 0 0 3FF0000000000000", "forge 0 0 0 3ff0000000000000 0", "forge 0 0 -1 3ff0000000000000",
+    "scores", "scores 10", "scores 0 0",
 ];
 
-/// The inputs of one history: few, small, and some of them alike but for a bit.
+/// The inputs of one history: few, small but for one in two hundred, and some of them alike but for a bit.
 fn inputs(random: &mut Random) -> Vec<Input> {
-    let n = pick(random, &[1, 1, 2, 2, 2, 2, 2, 2, 3, 3, 3, 4]);
+    let n = match random.below(200) {
+        0 => pick(random, &[5, 6, 7, 8, 8]),
+        _ => pick(random, &[1, 1, 2, 2, 2, 2, 2, 2, 3, 3, 3, 4]),
+    };
     let first = allowed(random, n);
     let mut all = vec![first.clone()];
     if random.below(2) == 0 {
@@ -51,59 +64,96 @@ fn row(random: &mut Random, desks: &Desks, r: usize) -> u32 {
     }
 }
 
-fn step(random: &mut Random, desks: &Desks, inputs: &[Input]) -> Step {
+/// A register's part with something changed, or with other triples.
+fn forgery(random: &mut Random, desks: &mut Desks, r: usize) -> Part {
+    let part = desks.registers[r].part();
+    let trio = part.is_right().then(|| desks.known.trio_of(&part));
+    forged(random, &part, trio.as_deref())
+}
+
+/// Something put into a register's lists.
+fn forge(random: &mut Random, desks: &mut Desks, r: usize) -> Step {
+    let part = desks.registers[r].part();
+    let (s, k, x) = forged_score(random, &part, desks.known.lists(&part));
+    Step::Forge(r, s, k, x)
+}
+
+fn step(random: &mut Random, desks: &mut Desks, inputs: &[Input]) -> Step {
     let (r, s) = (register(random), register(random));
-    match random.below(32) {
+    match random.below(36) {
         0..=2 => Step::Open(r, inputs[random.below(inputs.len() as u64) as usize].clone()),
         3 => Step::Open(r, disturbed(random)),
-        4..=5 => Step::Part(r, forged(random, &desks.registers[s].part())),
+        4..=5 => Step::Part(r, forgery(random, desks, s)),
         6..=7 => Step::Copy(r, s),
         8..=17 => Step::Row(r, row(random, desks, r)),
         18..=24 => Step::Merge(r, s),
         25 => Step::Merge(r, r),
         26..=27 => Step::Close(r),
         28..=30 => Step::Show(r),
+        31..=33 => forge(random, desks, r),
+        34 => Step::Scores(r),
         _ => Step::Unreadable(pick(random, &UNREADABLE).to_string()),
     }
 }
 
-/// The rows that a register lacks, in no order.
-fn missing(random: &mut Random, register: &Register) -> Vec<u32> {
-    let Register::Rows(trio, rows) = register else {
-        return vec![];
+/// The rows that a register lacks, in no order; of one that is sound and did not come by opening alone, all its rows, since what it holds need not
+/// be the best.
+fn missing(random: &mut Random, desks: &mut Desks, r: usize) -> Vec<u32> {
+    let mut missing: Vec<u32> = match &desks.registers[r] {
+        Register::Rows(trio, rows) => (0..trio.rows).filter(|row| !rows.contains(row)).collect(),
+        Register::Given(part) => match desks.known.fault(part) {
+            None => (0..desks.known.trio_of(part).rows).collect(),
+            Some(_) => vec![],
+        },
     };
-    let mut missing: Vec<u32> = (0..trio.rows).filter(|row| !rows.contains(row)).collect();
     for i in (1..missing.len()).rev() {
         missing.swap(i, random.below(i as u64 + 1) as usize);
     }
     missing
 }
 
+/// Works the rows that a register lacks, closes it and shows it. Of a sound part the answer is that of one pass, however it came about.
+fn finish(random: &mut Random, desks: &mut Desks, r: usize, exchange: &mut Exchange) {
+    for row in missing(random, desks, r) {
+        take(desks, Step::Row(r, row), exchange);
+    }
+    let part = desks.registers[r].part();
+    let whole = desks.is_sound(&part).then(|| desks.known.trio_of(&part));
+    let answer = take(desks, Step::Close(r), exchange);
+    if let Some(trio) = whole {
+        assert_eq!(answer, words::answer(trio.answer()), "the model's part with all rows closes with another answer: {part:?}");
+    }
+    take(desks, Step::Show(r), exchange);
+    take(desks, Step::Scores(r), exchange);
+}
+
+/// Takes a step, and answers what the model does.
+fn take(desks: &mut Desks, step: Step, exchange: &mut Exchange) -> String {
+    let answer = desks.answer(&step);
+    exchange.add(step.question(), answer.clone());
+    answer
+}
+
 /// One history: openings, a few dozen steps of any kind, and the rows that are left of one part, which is then closed and shown. The answers
 /// are the model's.
 pub fn history(random: &mut Random, desks: &mut Desks, exchange: &mut Exchange) {
     let inputs = inputs(random);
-    let mut take = |desks: &mut Desks, step: Step| exchange.add(step.question(), desks.answer(&step));
     for r in 0..3 {
         let input = inputs[random.below(inputs.len() as u64) as usize].clone();
-        take(desks, Step::Open(r, input));
+        take(desks, Step::Open(r, input), exchange);
     }
     for _ in 0..10 + random.below(20) {
         let step = step(random, desks, &inputs);
-        take(desks, step);
+        take(desks, step, exchange);
     }
     let r = register(random);
-    for row in missing(random, &desks.registers[r]) {
-        take(desks, Step::Row(r, row));
-    }
-    take(desks, Step::Close(r));
-    take(desks, Step::Show(r));
+    finish(random, desks, r, exchange);
 }
 
-/// The steps on registers: `open`, `part`, `copy`, `row`, `merge`, `close` and `show`.
+/// The steps on registers: `open`, `part`, `forge`, `copy`, `row`, `merge`, `close`, `show` and `scores`.
 pub fn run() -> Tally {
     let random = &mut Random::new(50);
-    let (mut all, mut grounds) = (Tally::default(), Grounds::default());
+    let (mut all, mut grounds, mut faults) = (Tally::default(), Grounds::default(), Faults::default());
     for _ in 0..HISTORIES / TOGETHER {
         let (mut desks, mut exchange) = (Desks::new(), Exchange::default());
         for _ in 0..TOGETHER {
@@ -111,6 +161,11 @@ pub fn run() -> Tally {
         }
         all = all + asked("steps", &exchange);
         grounds.join(&desks.grounds);
+        faults.join(&desks.faults);
     }
-    (all + grounds.tally("closings")).line(&format!("steps in {HISTORIES} histories of parts"))
+    if all.cases < LEAST_STEPS {
+        println!("    steps: {} are fewer than {LEAST_STEPS}", all.cases);
+        all.differences += 1;
+    }
+    (all + grounds.tally("closings") + faults.tally()).line(&format!("steps in {HISTORIES} histories of parts"))
 }

@@ -1,4 +1,6 @@
-//! A part as its words say it, forged or not, and when its shape is right (docs/RULES.md, S1), by another way than the port's.
+//! A part as its words say it, forged or not, with its lists; when its shape is right and when it is sound (docs/RULES.md, S1), by another way
+//! than the port's.
+use super::lists::{self, Lists};
 use super::types::{count_allowed, genotypes, weight_allowed, Input};
 use super::words::numbers;
 use crate::floor::floats::words;
@@ -17,23 +19,47 @@ pub struct Part {
     pub scores: [f64; 2],
     pub counts: [u32; 24],
     pub weights: [f64; 8],
+    pub lists: Lists,
+}
+
+/// The first reason why a part is not sound.
+#[derive(Clone, Copy, Debug, PartialEq)]
+pub enum Fault {
+    Shape,
+    Lists,
+    Held,
 }
 
 impl Part {
-    pub const ZEROS: Part = Part { n: 0, marks: 0, held: 0, positions: [0; 2], scores: [0.0; 2], counts: [0; 24], weights: [0.0; 8] };
+    pub const ZEROS: Part = Part {
+        n: 0,
+        marks: 0,
+        held: 0,
+        positions: [0; 2],
+        scores: [0.0; 2],
+        counts: [0; 24],
+        weights: [0.0; 8],
+        lists: lists::ZEROS,
+    };
 
-    /// An input with these marks and at most two entries, the better one first.
-    pub fn of(input: &Input, marks: u64, entries: &[Entry]) -> Part {
-        let mut part = Part { n: input.n, marks, held: entries.len() as u32, ..Part::ZEROS };
+    /// An input with its lists, these marks and at most two entries, the better one first.
+    pub fn of(input: &Input, lists: &Lists, marks: u64, entries: &[Entry]) -> Part {
+        let mut part = Part { n: input.n, marks, lists: *lists, ..Part::ZEROS };
         part.counts[..input.counts.len()].copy_from_slice(&input.counts);
         part.weights[..input.weights.len()].copy_from_slice(&input.weights);
+        part.with(entries)
+    }
+
+    /// The same part with these entries in place of its own.
+    pub fn with(&self, entries: &[Entry]) -> Part {
+        let mut part = Part { held: entries.len() as u32, positions: [0; 2], scores: [0.0; 2], ..*self };
         for (i, &(position, score)) in entries.iter().enumerate() {
             (part.positions[i], part.scores[i]) = (position, score);
         }
         part
     }
 
-    /// The words of `part` behind the register, which `show` answers.
+    /// The words of `part` behind the register, which `show` answers: the lists are not among them.
     pub fn words(&self) -> String {
         let Part { n, marks, held, .. } = self;
         let lists = [numbers(&self.positions), words(&self.scores), numbers(&self.counts), words(&self.weights)];
@@ -52,7 +78,7 @@ impl Part {
         all[..self.held.min(2) as usize].to_vec()
     }
 
-    fn input_is_right(&self) -> bool {
+    pub fn input_is_right(&self) -> bool {
         let n = self.n as usize;
         (1..=8).contains(&n)
             && self.counts[..3 * n].iter().all(|&count| count_allowed(count))
@@ -61,10 +87,9 @@ impl Part {
             && self.weights[n..].iter().all(|x| x.to_bits() == 0)
     }
 
-    /// The positions of the marked rows; marks past the last row make none of them.
-    fn marked_positions(&self) -> Vec<u32> {
-        let g = genotypes(self.n).len() as u32;
-        (0..g * g * g).filter(|position| self.marks >> (position / (g * g)) & 1 == 1).collect()
+    /// Whether a mark stands for a row.
+    pub fn has(&self, row: u32) -> bool {
+        row < 64 && self.marks >> row & 1 == 1
     }
 
     /// S1, in its own order.
@@ -72,11 +97,21 @@ impl Part {
         if !self.input_is_right() || self.marks >> genotypes(self.n).len() != 0 {
             return false;
         }
-        let open = self.marked_positions();
+        let width = genotypes(self.n).len().pow(2) as u32;
+        let open = self.marks.count_ones() * width;
         let entries = self.entries();
         let unused_zero = (entries.len()..2).all(|i| self.positions[i] == 0 && self.scores[i].to_bits() == 0);
-        let sound = entries.iter().all(|(position, score)| open.contains(position) && !score.is_nan());
-        self.held as usize == open.len().min(2) && unused_zero && sound && is_ranked(&entries)
+        let in_place = entries.iter().all(|&(position, score)| self.has(position / width) && !score.is_nan());
+        self.held == open.min(2) && unused_zero && in_place && is_ranked(&entries)
+    }
+
+    /// Why a part of the right shape is not sound, if it is not: its input gives these lists, and these scores by position.
+    pub fn untrue(&self, lists: &Lists, scores: &[f64]) -> Option<Fault> {
+        let is_true = |&(position, score): &Entry| score.to_bits() == scores[position as usize].to_bits();
+        if !lists::equal(&self.lists, lists) {
+            return Some(Fault::Lists);
+        }
+        (!self.entries().iter().all(is_true)).then_some(Fault::Held)
     }
 
     /// Whether two parts have one input, weights by their bits.
