@@ -58,6 +58,8 @@ mod trio {
     pub mod part;
     pub mod pass;
     pub mod port;
+    #[cfg(steps)]
+    pub mod port_steps;
     pub mod quality;
     pub mod quality_cases;
     pub mod quality_inputs;
@@ -93,7 +95,11 @@ mod tasks {
     pub mod changes;
     pub mod compare;
     pub mod limits;
+    pub mod plot;
+    pub mod public_steps;
+    pub mod search;
     pub mod tails;
+    pub mod timing;
 }
 
 use floor::source;

@@ -1,7 +1,9 @@
 //! Times each kernel of the port, of kernels/plain.rs and of the standard library on the same inputs, and one diploid call in each mode beside
-//! kanpig's own text over the same kernels and over the standard library's, and one call of a trio, its quality alone, and one call of mosaic likewise,
-//! and prints a Markdown table.
+//! kanpig's own text over the same kernels and over the standard library's, and a trio's quality and one call of mosaic likewise, and prints a
+//! Markdown table. Behind it come the tables of a trio's search (search.rs), and its plot.
 //! All kernels are called through a pointer to an `extern "C"` function, so that none is inlined where another cannot be.
+use super::search;
+use super::timing::{quickest, timing, Timing};
 use crate::diploid::kanpig::{with_ours, with_std};
 use crate::diploid::types::MODES;
 use crate::floor::random::Random;
@@ -14,7 +16,6 @@ use crate::trio::quality::quality_of;
 use crate::trio::types::Scores;
 use crate::{diploid, mosaic, trio};
 use std::hint::black_box;
-use std::time::Instant;
 
 /// More than a processor learns by heart, so that its guesses at branches are no better than in use.
 const INPUTS: usize = 1 << 15;
@@ -60,36 +61,9 @@ extern "C" fn std_quality(unread: u32, runner: u32, best: f64, next: f64) -> u32
     quality_of(&Scores { unread, runner, best, next }, &STD)
 }
 
-/// One timing of a kernel: ns a call.
-type Timing<'a> = Box<dyn Fn() -> f64 + 'a>;
-
-fn timing<'a, I: Copy, O>(inputs: &'a [I], call: impl Fn(I) -> O + 'a) -> Timing<'a> {
-    Box::new(move || {
-        let began = Instant::now();
-        for &input in inputs {
-            black_box(call(input));
-        }
-        began.elapsed().as_nanos() as f64 / inputs.len() as f64
-    })
-}
-
-/// The quickest of each timing's repeats, which other work on the machine disturbs least. They take turns, so that a slow moment hits all alike.
-fn quickest(repeats: usize, timings: &[Timing]) -> Vec<f64> {
-    let mut best = vec![f64::INFINITY; timings.len()];
-    for _ in 0..repeats {
-        for (timing, time) in timings.iter().zip(&mut best) {
-            *time = time.min(timing());
-        }
-    }
-    best
-}
-
 /// A line of the table. The timings are of the port, of plain Rust, and of the standard library if it has the kernel.
 fn row(name: &str, range: &str, timings: &[Timing]) {
-    row_of(name, range, &quickest(REPEATS, timings));
-}
-
-fn row_of(name: &str, range: &str, ns: &[f64]) {
+    let ns = quickest(REPEATS, timings);
     let (port, plain) = (ns[0], ns[1]);
     let (std, ratio) = match ns.get(2) {
         Some(std) => (format!("{std:.1}"), format!("{:.2}", port / std)),
@@ -125,20 +99,6 @@ fn diploid_row(name: &str, mode: u32, counts: &[[u32; 3]]) {
         timing(counts, |counts| with_std::answer(&std, counts)),
     ];
     row(&format!("diploid, {name}"), "counts to 60", &timings);
-}
-
-/// Clusters, trios and repeats: fewer of them as a search grows.
-const TRIOS: [(u32, usize, usize); 8] =
-    [(1, INPUTS, 31), (2, INPUTS, 15), (3, 4096, 15), (4, 1024, 11), (5, 256, 11), (6, 64, 11), (7, 32, 9), (8, 16, 9)];
-
-/// The whole call of n clusters, on so many inputs, so many times.
-fn trio_row(n: u32, inputs: usize, repeats: usize) {
-    let random = &mut Random::new(70 + u64::from(n));
-    let trios: Vec<_> = (0..inputs).map(|_| trio::inputs::usual_trio(random, n)).collect();
-    let trios: Vec<_> = trios.iter().collect();
-    let timings = [timing(&trios, |input| trio::port::call(input).pairs), timing(&trios, OURS.call), timing(&trios, STD.call)];
-    let genotypes = n * (n + 1) / 2;
-    row_of(&format!("trio, {n} clusters"), &format!("{} triples; {inputs} trios", genotypes.pow(3)), &quickest(repeats, &timings));
 }
 
 /// The quality of two scores, which a call of any number of clusters takes once.
@@ -207,10 +167,9 @@ pub fn run() {
         diploid_row(name, mode, &counts);
     }
     quality_row();
-    for (n, inputs, repeats) in TRIOS {
-        trio_row(n, inputs, repeats);
-    }
     for alleles in [1, 2, 4, 8] {
         mosaic_row(alleles, random);
     }
+    println!();
+    search::run();
 }

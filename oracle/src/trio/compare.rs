@@ -1,30 +1,60 @@
-//! Holds the port's trio genotyper against kanpig's own text and the plain pass of pass.rs: called as C, and asked as text.
+//! Holds the port's trio genotyper against kanpig's own text and the plain pass of pass.rs: called as C, and asked as text. The flat Rust of
+//! flat.rs, which the benchmark has beside the port, must give the same.
 use super::cases::{mendel_case, sample_case};
+use super::flat::Flat;
 use super::grounds::Grounds;
 use super::inputs::{allowed, any_pair, disturbed, few, many, small};
-use super::pass::expected;
-use super::types::{genotypes, Input};
+use super::kanpig::OURS;
+use super::pass::{expected, found};
+use super::types::{genotypes, refusal, Answer, Input};
 use super::{halves, port, quality, quality_inputs, words};
 use crate::floor::compared::{asked, compared};
 use crate::floor::exchange::Exchange;
 use crate::floor::random::Random;
 use crate::floor::tally::Tally;
+use crate::floor::threads::mapped;
 
-/// The whole call; the grounds are counted.
-fn calls(as_text: bool, inputs: impl Iterator<Item = Input>, grounds: &mut Grounds) -> Tally {
-    let (mut count, mut differences, mut exchange) = (0, Vec::new(), Exchange::default());
-    for input in inputs {
-        let (port, plain) = (port::call(&input), expected(&input));
+/// So many calls of six to eight clusters, each beside kanpig's own text.
+const LARGE: usize = 20_000;
+
+/// Flat Rust for every number of clusters. What it answers is no second opinion on the port, but what the benchmark times beside it.
+struct Flats(Vec<Flat>);
+
+impl Flats {
+    fn new() -> Flats {
+        Flats((1..=8).map(Flat::new).collect())
+    }
+
+    fn answer(&self, input: &Input) -> Answer {
+        match refusal(input) {
+            0 => {
+                let (best, runner) = self.0[input.n as usize - 1].search(input);
+                found(input.n, &input.counts, best, runner, &OURS)
+            }
+            number => Answer::refused(number),
+        }
+    }
+}
+
+/// The whole call: the port and flat Rust beside kanpig's text, by all processors; the grounds are counted.
+fn calls(as_text: bool, inputs: impl Iterator<Item = Input>, grounds: &mut Grounds, flats: &Flats) -> Tally {
+    let inputs: Vec<Input> = inputs.collect();
+    let answers = mapped(&inputs, |input| [port::call(input), flats.answer(input), expected(input)]);
+    let (mut of_port, mut of_flat, mut exchange) = (Vec::new(), Vec::new(), Exchange::default());
+    for (input, [port, flat, plain]) in inputs.iter().zip(answers) {
         grounds.add(&plain);
         if as_text {
-            exchange.add(words::call(&input), words::answer(&plain));
+            exchange.add(words::call(input), words::answer(&plain));
+        }
+        if flat != plain {
+            of_flat.push((input, flat, plain.clone()));
         }
         if port != plain {
-            differences.push((input, port, plain));
+            of_port.push((input, port, plain));
         }
-        count += 1;
     }
-    Tally::shown("call", count, &differences) + asked("call", &exchange)
+    let flat = Tally { cases: 0, ..Tally::shown("call, flat Rust for the port", inputs.len(), &of_flat) };
+    Tally::shown("call", inputs.len(), &of_port) + flat + asked("call", &exchange)
 }
 
 /// All triples of genotypes of eight clusters.
@@ -54,14 +84,15 @@ fn samples() -> Tally {
 
 /// Every small trio, trios of 1 to 5 clusters, some that are mostly refused, and some of 6 to 8 clusters.
 fn all_calls() -> Tally {
-    let grounds = &mut Grounds::default();
-    let every = calls(true, small(), grounds);
+    let (grounds, flats) = (&mut Grounds::default(), &Flats::new());
+    let every = calls(true, small(), grounds, flats);
     let random = &mut Random::new(40);
-    let small = calls(true, (0..200_000).map(|_| few(random)), grounds);
+    let small = calls(true, (0..200_000).map(|_| few(random)), grounds, flats);
     let random = &mut Random::new(41);
-    let odd = calls(true, (0..50_000).map(|_| disturbed(random)), grounds);
+    let odd = calls(true, (0..50_000).map(|_| disturbed(random)), grounds, flats);
     let random = &mut Random::new(42);
-    let large = calls(false, (0..2_000).map(|_| many(random)), grounds);
+    let large = calls(false, (0..LARGE).map(|_| many(random)), grounds, flats);
+    println!("    call: {} of 6 to 8 clusters, each beside kanpig's own text; flat Rust answers all of these calls too", large.cases);
     (every + small + odd + large + grounds.tally("call")).line("call")
 }
 

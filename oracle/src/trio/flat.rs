@@ -65,7 +65,8 @@ impl Flat {
         for (log, weight) in weights.iter_mut().zip(&input.weights) {
             *log = ln(weight + 0.001);
         }
-        let counts: [[f64; 8]; 3] = std::array::from_fn(|s| std::array::from_fn(|c| input.counts.get(3 * c + s).map_or(0.0, |&k| f64::from(k))));
+        let counts: [[f64; 8]; 3] =
+            std::array::from_fn(|s| std::array::from_fn(|c| input.counts.get(3 * c + s).map_or(0.0, |&k| f64::from(k))));
         let totals = counts.map(|counts| counts.iter().sum::<f64>());
         let mut lists = [[f64::NEG_INFINITY; 36]; 3];
         for (g, &pair) in self.genotypes.iter().enumerate() {

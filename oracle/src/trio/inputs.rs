@@ -69,6 +69,19 @@ pub fn usual_trio(random: &mut Random, n: u32) -> Input {
     Input { n, counts: usual(random, n), weights: (0..n).map(|_| random.between(0.0, 1.0)).collect() }
 }
 
+/// The same, but that the mother has no read.
+pub fn unread_trio(random: &mut Random, n: u32) -> Input {
+    let mut input = usual_trio(random, n);
+    input.counts.iter_mut().skip(2).step_by(3).for_each(|count| *count = 0);
+    input
+}
+
+/// Every animal has as many reads of one cluster as of another, and as any other animal; all weights 1.
+pub fn equal_trio(random: &mut Random, n: u32) -> Input {
+    let count = 1 + random.below(40) as u32;
+    Input { n, counts: vec![count; 3 * n as usize], weights: vec![1.0; n as usize] }
+}
+
 /// A calf with one allele of each parent, so many reads for each animal, each of one of its two alleles, none astray; all weights 1.
 pub fn family(random: &mut Random, n: u32, reads: u32) -> Input {
     let mut allele = || random.below(u64::from(n)) as usize;

@@ -31,16 +31,8 @@ pub enum Fault {
 }
 
 impl Part {
-    pub const ZEROS: Part = Part {
-        n: 0,
-        marks: 0,
-        held: 0,
-        positions: [0; 2],
-        scores: [0.0; 2],
-        counts: [0; 24],
-        weights: [0.0; 8],
-        lists: lists::ZEROS,
-    };
+    pub const ZEROS: Part =
+        Part { n: 0, marks: 0, held: 0, positions: [0; 2], scores: [0.0; 2], counts: [0; 24], weights: [0.0; 8], lists: lists::ZEROS };
 
     /// An input with its lists, these marks and at most two entries, the better one first.
     pub fn of(input: &Input, lists: &Lists, marks: u64, entries: &[Entry]) -> Part {

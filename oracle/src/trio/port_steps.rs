@@ -1,0 +1,63 @@
+//! The port's public steps under their C names, for timing. What a part is made of is the port's affair.
+use super::types::{Answer, Input};
+
+/// Room for a part, more than it needs.
+#[derive(Clone)]
+#[repr(C, align(16))]
+pub struct Part([u8; 2048]);
+
+#[rustfmt::skip]
+unsafe extern "C" {
+    // a slice is a pointer and a length
+    fn admulfas_open(
+        clusters: u64,
+        counts: *const u32, counts_length: usize,
+        weights: *const f64, weights_length: usize,
+        part: &mut Part,
+    ) -> u32;
+
+    safe fn admulfas_work_row(part: &mut Part, row: u64) -> u32;
+
+    safe fn admulfas_merge(first: &mut Part, second: &Part) -> u32;
+
+    safe fn admulfas_close(
+        part: &Part,
+        pairs: &mut [u64; 6], score: &mut f64, ground: &mut u32, runner: &mut u32, position: &mut u64, second: &mut f64, quality: &mut u32,
+        read: &mut [u32; 6],
+    ) -> u32;
+}
+
+/// The refusal's number, and the part.
+pub fn open(input: &Input) -> (u32, Part) {
+    let mut part = Part([0; 2048]);
+    let (counts, weights) = (&input.counts, &input.weights);
+    // SAFETY: each pointer comes with the length of its slice, which outlives the call, and the port only reads there.
+    let number = unsafe { admulfas_open(u64::from(input.n), counts.as_ptr(), counts.len(), weights.as_ptr(), weights.len(), &mut part) };
+    (number, part)
+}
+
+pub fn work_row(part: &mut Part, row: u64) -> u32 {
+    admulfas_work_row(part, row)
+}
+
+pub fn merge(first: &mut Part, second: &Part) -> u32 {
+    admulfas_merge(first, second)
+}
+
+/// What a part closes with.
+pub fn close(part: &Part) -> Answer {
+    let (mut pairs, mut score, mut ground) = ([0; 6], 0.0, 0);
+    let (mut runner, mut position, mut second) = (0, 0, 0.0);
+    let (mut quality, mut read) = (u32::MAX, [u32::MAX; 6]);
+    let number =
+        admulfas_close(part, &mut pairs, &mut score, &mut ground, &mut runner, &mut position, &mut second, &mut quality, &mut read);
+    Answer {
+        number,
+        pairs: pairs.map(|number| number as u32),
+        score: score.to_bits(),
+        ground,
+        runner: (runner != 0).then_some((position as u32, second.to_bits())),
+        quality,
+        read,
+    }
+}
