@@ -118,10 +118,9 @@ fn labels(svg: &mut String, axis: &Axis, last: &[f64; 4]) {
 
 fn picture(times: &[[f64; 4]]) -> String {
     let axis = Axis::new(times);
-    let mut svg = format!(
-        r#"<svg xmlns="http://www.w3.org/2000/svg" width="{WIDTH}" height="{HEIGHT}" viewBox="0 0 {WIDTH} {HEIGHT}" font-family="sans-serif" font-size="13">"#
-    );
-    svg.push('\n');
+    let mut svg = String::new();
+    let _ = write!(svg, r#"<svg xmlns="http://www.w3.org/2000/svg" width="{WIDTH}" height="{HEIGHT}" viewBox="0 0 {WIDTH} {HEIGHT}""#);
+    let _ = writeln!(svg, r#" font-family="sans-serif" font-size="13">"#);
     let _ = writeln!(svg, "<title>The time of a whole trio call, by the number of clusters</title>");
     let _ = writeln!(svg, r##"<rect width="{WIDTH}" height="{HEIGHT}" fill="#ffffff"/>"##);
     let _ = writeln!(svg, r#"<text x="{}" y="26" font-size="15">Time of a whole call of a trio, usual reads</text>"#, FIELD[0]);

@@ -17,6 +17,7 @@ mod linked {
     use crate::trio::port;
     use crate::trio::port_steps::{close, merge, open, work_row, Part};
     use crate::trio::types::Input;
+    use std::hint::black_box;
 
     const TRIOS: usize = 256;
     const REPEATS: usize = 31;
@@ -33,16 +34,24 @@ mod linked {
 
     /// All rows of each trio, in rising order.
     fn rows(opened: &[Part], rows: u64) -> Timing<'_> {
-        timing_anew(
-            opened.len() * rows as usize,
-            || opened.to_vec(),
-            move |parts| parts.iter_mut().for_each(|part| (0..rows).for_each(|row| drop(work_row(part, row)))),
-        )
+        let work = move |parts: &mut Vec<Part>| {
+            for part in parts {
+                for row in 0..rows {
+                    black_box(work_row(part, row));
+                }
+            }
+        };
+        timing_anew(opened.len() * rows as usize, || opened.to_vec(), work)
     }
 
     /// The part with the even rows takes up the one with the odd rows.
     fn merges<'a>(even: &'a [Part], odd: &'a [Part]) -> Timing<'a> {
-        timing_anew(even.len(), || even.to_vec(), |parts| parts.iter_mut().zip(odd).for_each(|(first, second)| drop(merge(first, second))))
+        let work = move |parts: &mut Vec<Part>| {
+            for (first, second) in parts.iter_mut().zip(odd) {
+                black_box(merge(first, second));
+            }
+        };
+        timing_anew(even.len(), || even.to_vec(), work)
     }
 
     fn row(n: u32) {
@@ -67,6 +76,6 @@ mod linked {
     pub fn run() {
         println!("| clusters | trios | `work_row`, ns | `merge`, ns | `close`, ns |");
         println!("|---|---|---|---|---|");
-        [2, 4, 8].map(row);
+        [2, 4, 8].into_iter().for_each(row);
     }
 }

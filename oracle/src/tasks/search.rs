@@ -1,5 +1,5 @@
-//! Times a trio's search: the whole call of the port, of flat Rust (trio/flat.rs), and of kanpig's own text over the kernels of the rules and over the
-//! standard library's, as a Markdown table and as a plot; and the port's public steps, one by one.
+//! Times a trio's search: the whole call of the port, of flat Rust (trio/flat.rs), and of kanpig's own text over the kernels of the rules and
+//! over the standard library's, as a Markdown table and as a plot; and the port's public steps, one by one.
 use super::plot;
 use super::timing::{quickest, timing};
 use crate::floor::random::Random;
@@ -57,9 +57,11 @@ fn row(kind: &str, size: &Size, draw: fn(&mut Random, u32) -> Input) -> Times {
     ns
 }
 
-/// The whole call: usual reads for every number of clusters, whose times are answered, and for some of them an unread mother and equal counts.
+/// The whole call: usual reads for every number of clusters, whose times are answered, and for some of them an unread mother and equal
+/// counts.
 fn calls() -> Vec<Times> {
-    println!("| clusters | reads | triples | trios (kanpig's) | port, ns | flat Rust, ns | plain Rust, ns | standard library, ns | flat / port | plain / port | standard / port |");
+    print!("| clusters | reads | triples | trios (kanpig's) | port, ns | flat Rust, ns | plain Rust, ns | standard library, ns ");
+    println!("| flat / port | plain / port | standard / port |");
     println!("|---|---|---|---|---|---|---|---|---|---|---|");
     let usual = SIZES.iter().map(|size| row("usual", size, usual_trio)).collect();
     for size in SIZES.iter().filter(|size| [2, 4, 8].contains(&size.n)) {

@@ -29,7 +29,8 @@ pub fn timing_anew<'a, T>(steps: usize, make: impl Fn() -> T + 'a, work: impl Fn
     })
 }
 
-/// The quickest of each timing's repeats, which other work on the machine disturbs least. They take turns, so that a slow moment hits all alike.
+/// The quickest of each timing's repeats, which other work on the machine disturbs least. They take turns, so that a slow moment hits all
+/// alike.
 pub fn quickest(repeats: usize, timings: &[Timing]) -> Vec<f64> {
     let mut best = vec![f64::INFINITY; timings.len()];
     for _ in 0..repeats {

@@ -1,5 +1,5 @@
-//! Holds the port's trio genotyper against kanpig's own text and the plain pass of pass.rs: called as C, and asked as text. The flat Rust of
-//! flat.rs, which the benchmark has beside the port, must give the same.
+//! Holds the port's trio genotyper against kanpig's own text and the plain pass of pass.rs: called as C, and asked as text. The flat Rust
+//! of flat.rs, which the benchmark has beside the port, must give the same.
 use super::cases::{mendel_case, sample_case};
 use super::flat::Flat;
 use super::grounds::Grounds;

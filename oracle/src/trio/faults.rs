@@ -38,7 +38,8 @@ impl Faults {
     /// Shows how many there are; what is too rare counts as a difference.
     pub fn tally(&self) -> Tally {
         let Faults { on_forged_lists, by_shape, by_lists, by_held } = *self;
-        println!("    steps: {on_forged_lists} on parts with forged lists; refused with 12: {by_shape} for the shape, {by_lists} for a list, {by_held} for a held score");
+        print!("    steps: {on_forged_lists} on parts with forged lists; refused with 12: {by_shape} for the shape, ");
+        println!("{by_lists} for a list, {by_held} for a held score");
         let rare = [on_forged_lists, by_shape, by_lists, by_held].iter().filter(|&&count| count < LEAST).count();
         if rare > 0 {
             println!("    steps: of {rare} of these there are fewer than {LEAST}");

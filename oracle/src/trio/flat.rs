@@ -1,5 +1,6 @@
-//! The fastest plain Rust for a trio: each animal scored once under each genotype, the Mendelian terms of all triples in a table made beforehand, and
-//! one rising pass that keeps the best two (docs/RULES.md, T2 to T5). With the kernels of the rules, and answers to the bit the same.
+//! The fastest plain Rust for a trio: each animal scored once under each genotype, the Mendelian terms of all triples in a table made
+//! beforehand, and one rising pass that keeps the best two (docs/RULES.md, T2 to T5). With the kernels of the rules, and answers to the bit
+//! the same.
 use super::kanpig::OURS;
 use super::part::Entry;
 use super::types::{genotypes, Input, Pair};
@@ -58,7 +59,8 @@ impl Flat {
         Flat { genotypes, terms }
     }
 
-    /// The scores of child, father and mother under each genotype. Logarithms are taken once: of each weight, and of the two shares of a genotype.
+    /// The scores of child, father and mother under each genotype. Logarithms are taken once: of each weight, and of the two shares of a
+    /// genotype.
     fn lists(&self, input: &Input) -> [[f64; 36]; 3] {
         let n = input.n as usize;
         let mut weights = [0.0; 8];

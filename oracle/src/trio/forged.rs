@@ -1,5 +1,5 @@
-//! Parts that no opening gave: sound ones with something put in that mostly does not belong there, in their words or in their lists, and sound
-//! ones that hold other triples than the best (docs/RULES.md, S1, S2).
+//! Parts that no opening gave: sound ones with something put in that mostly does not belong there, in their words or in their lists, and
+//! sound ones that hold other triples than the best (docs/RULES.md, S1, S2).
 use super::known::Trio;
 use super::lists::{differing, used, Lists, PLACES};
 use super::part::Part;
@@ -80,8 +80,8 @@ fn poor(random: &mut Random, sound: &Part, trio: &Trio) -> Part {
     trio.part(sound.marks, &positions)
 }
 
-/// A part made of a given one, with its trio if its shape is right. A third of those are sound, with entries that are not the best; the others
-/// have a few changes.
+/// A part made of a given one, with its trio if its shape is right. A third of those are sound, with entries that are not the best; the
+/// others have a few changes.
 pub fn forged(random: &mut Random, given: &Part, trio: Option<&Trio>) -> Part {
     if let Some(trio) = trio.filter(|_| random.below(3) == 0) {
         return poor(random, given, trio);
@@ -104,8 +104,8 @@ fn place(random: &mut Random, n: u32) -> usize {
     pick(random, &[place, place, place, place, place, 0, PLACES - 1])
 }
 
-/// A place of a list and a float for it, where the counts and weights give these lists: mostly one that does not belong there. What was forged
-/// before is put right half the time.
+/// A place of a list and a float for it, where the counts and weights give these lists: mostly one that does not belong there. What was
+/// forged before is put right half the time.
 pub fn forged_score(random: &mut Random, part: &Part, lists: &Lists) -> (usize, usize, f64) {
     let wrong = differing(&part.lists, lists);
     if !wrong.is_empty() && random.below(2) == 0 {

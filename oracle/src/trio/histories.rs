@@ -25,8 +25,8 @@ const LEAST_STEPS: usize = 3_000_000;
 const UNREADABLE: [&str; 29] = [
     "open 10 1 3 1 1 1 1 3ff0000000000000", "row 0", "row 0 ", "row 0 0 0", "row 10 0", "row 0 4294967296", "merge 0", "merge 0 10",
     "copy 0 10", "copy 10 0", "copy 0", "close", "close 10", "close 0 0", "show 10", "part 0 1", "open 0 1 3 1 1 1 2 3ff0000000000000",
-    "forge 10 0 0 3ff0000000000000", "forge 0 3 0 3ff0000000000000", "forge 0 0 36 3ff0000000000000", "forge 0 0 4294967295 3ff0000000000000",
-    "forge 0 0 0", "forge 0 0 0 0", "forge 0 0 0 3FF0000000000000", "forge 0 0 0 3ff0000000000000 0", "forge 0 0 -1 3ff0000000000000",
+    "forge 10 0 0 3ff0000000000000", "forge 0 3 0 3ff0000000000000", "forge 0 0 36 3ff0000000000000",
+    "forge 0 0 4294967295 3ff0000000000000", "forge 0 0 0", "forge 0 0 0 0", "forge 0 0 0 3FF0000000000000", "forge 0 0 0 3ff0000000000000 0", "forge 0 0 -1 3ff0000000000000",
     "scores", "scores 10", "scores 0 0",
 ];
 
@@ -96,8 +96,8 @@ fn step(random: &mut Random, desks: &mut Desks, inputs: &[Input]) -> Step {
     }
 }
 
-/// The rows that a register lacks, in no order; of one that is sound and did not come by opening alone, all its rows, since what it holds need not
-/// be the best.
+/// The rows that a register lacks, in no order; of one that is sound and did not come by opening alone, all its rows, since what it holds
+/// need not be the best.
 fn missing(random: &mut Random, desks: &mut Desks, r: usize) -> Vec<u32> {
     let mut missing: Vec<u32> = match &desks.registers[r] {
         Register::Rows(trio, rows) => (0..trio.rows).filter(|row| !rows.contains(row)).collect(),
@@ -134,8 +134,8 @@ fn take(desks: &mut Desks, step: Step, exchange: &mut Exchange) -> String {
     answer
 }
 
-/// One history: openings, a few dozen steps of any kind, and the rows that are left of one part, which is then closed and shown. The answers
-/// are the model's.
+/// One history: openings, a few dozen steps of any kind, and the rows that are left of one part, which is then closed and shown. The
+/// answers are the model's.
 pub fn history(random: &mut Random, desks: &mut Desks, exchange: &mut Exchange) {
     let inputs = inputs(random);
     for r in 0..3 {

@@ -1,4 +1,5 @@
-//! What the model knows of inputs: the lists that any counts and weights give, and all triples of an accepted trio. Each is worked out once.
+//! What the model knows of inputs: the lists that any counts and weights give, and all triples of an accepted trio. Each is worked out
+//! once.
 use super::kanpig::OURS;
 use super::lists::{worked_out, Lists, ZEROS};
 use super::part::{rank, Entry, Fault, Part};

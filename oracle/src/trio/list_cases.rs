@@ -1,5 +1,5 @@
-//! The stored cases of lists: shown after every step, forged place by place, refused, and put right again (docs/RULES.md, S1; docs/VECTORS.md).
-//! Answers by the plain model of desks.rs.
+//! The stored cases of lists: shown after every step, forged place by place, refused, and put right again (docs/RULES.md, S1;
+//! docs/VECTORS.md). Answers by the plain model of desks.rs.
 use super::cases::{input, plain};
 use super::dialogue::Dialogue;
 use super::forged_cases::with;
@@ -29,7 +29,8 @@ fn wrongs(n: u32, lists: &Lists) -> Vec<Wrong> {
     all
 }
 
-/// Each of them in a copy of register 0: every step refuses it, the part comes back with its lists, and with the right float it is sound again.
+/// Each of them in a copy of register 0: every step refuses it, the part comes back with its lists, and with the right float it is sound
+/// again.
 fn wrong_scores(dialogue: &mut Dialogue, input: &Input) {
     dialogue.worked(0, input);
     let lists = dialogue.part(0).lists;
@@ -78,7 +79,8 @@ fn other_lists(dialogue: &mut Dialogue) {
     dialogue.every_step(1, 0, 2);
 }
 
-/// Several faults at once: one put right leaves the others; 12 goes before 8, 9 and 10, and a part that is opened anew has lists of its own.
+/// Several faults at once: one put right leaves the others; 12 goes before 8, 9 and 10, and a part that is opened anew has lists of its
+/// own.
 fn several(dialogue: &mut Dialogue) {
     let (two, other) = (plain(2, &[8, 9, 1, 1, 7, 9]), plain(2, &[8, 9, 1, 1, 7, 8]));
     dialogue.all([Step::Open(0, two.clone()), Step::Row(0, 1), Step::Open(3, other)]);

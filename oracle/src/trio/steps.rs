@@ -1,5 +1,5 @@
-//! The cases that work with registers (docs/VECTORS.md): opening, rows, merging, closing, showing, lines that cannot be read, and some histories.
-//! Parts and lists that are put in are in forged_cases.rs and list_cases.rs. Answers by the plain model of desks.rs.
+//! The cases that work with registers (docs/VECTORS.md): opening, rows, merging, closing, showing, lines that cannot be read, and some
+//! histories. Parts and lists that are put in are in forged_cases.rs and list_cases.rs. Answers by the plain model of desks.rs.
 use super::cases::{input, plain};
 use super::desks::Desks;
 use super::dialogue::Dialogue;
