@@ -26,7 +26,7 @@ const UNREADABLE: [&str; 29] = [
     "open 10 1 3 1 1 1 1 3ff0000000000000", "row 0", "row 0 ", "row 0 0 0", "row 10 0", "row 0 4294967296", "merge 0", "merge 0 10",
     "copy 0 10", "copy 10 0", "copy 0", "close", "close 10", "close 0 0", "show 10", "part 0 1", "open 0 1 3 1 1 1 2 3ff0000000000000",
     "forge 10 0 0 3ff0000000000000", "forge 0 3 0 3ff0000000000000", "forge 0 0 36 3ff0000000000000",
-    "forge 0 0 4294967295 3ff0000000000000", "forge 0 0 0", "forge 0 0 0 0", "forge 0 0 0 3FF0000000000000", "forge 0 0 0 3ff0000000000000 0", 
+    "forge 0 0 4294967295 3ff0000000000000", "forge 0 0 0", "forge 0 0 0 0", "forge 0 0 0 3FF0000000000000", "forge 0 0 0 3ff0000000000000 0",
     "forge 0 0 -1 3ff0000000000000", "scores", "scores 10", "scores 0 0",
 ];
 
