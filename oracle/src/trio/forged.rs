@@ -51,14 +51,14 @@ fn score(random: &mut Random, part: &mut Part) {
 /// One change, or none, to a part of n clusters.
 fn change(random: &mut Random, part: &mut Part) {
     let rows = genotypes(part.n.clamp(1, 8)).len() as u64;
-    match random.below(9) {
+    match random.below(12) {
         0 => part.n = pick(random, &[0, 1, 2, 3, 8, 9, u32::MAX, part.n.saturating_sub(1), part.n.saturating_add(1)]),
         1 => count(random, part),
         2 => weight(random, part),
         3 => marks(random, part, rows),
         4 => part.held = pick(random, &[0, 1, 2, 3, u32::MAX]),
         5 | 6 => position(random, part, rows),
-        7 => score(random, part),
+        7..=10 => score(random, part),
         _ => {
             part.positions.swap(0, 1);
             part.scores.swap(0, 1);
