@@ -1,6 +1,6 @@
 //! Runs the port and the plain Rust on the same inputs and compares every bit; any NaN equals any NaN. A line for each kind of
-//! docs/VECTORS.md, two for the exponential's tail, and one each for the histories of parts and for the sites of docs/CALLS.md. Calls go
-//! through the C functions, and some of each kind through the program `vectors` as text too.
+//! docs/VECTORS.md, two for the exponential's tail, and one each for the histories of parts, forged ones among them, and for the sites of
+//! docs/CALLS.md. Calls go through the C functions, and some of each kind through the program `vectors` as text too.
 use crate::floor::source;
 use crate::floor::tally::Tally;
 use crate::programs::calls;

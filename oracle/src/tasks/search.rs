@@ -43,12 +43,7 @@ fn row(kind: &str, size: &Size, draw: fn(&mut Random, u32) -> Input) -> Times {
     let trios: Vec<Input> = (0..trios).map(|_| draw(random, n)).collect();
     let trios: Vec<&Input> = trios.iter().collect();
     let (flat, few) = (Flat::new(n), &trios[..of_kanpig]);
-    let timings = [
-        timing(&trios, |input| port::call(input)),
-        timing(&trios, |input| flat.search(input)),
-        timing(few, OURS.call),
-        timing(few, STD.call),
-    ];
+    let timings = [timing(&trios, port::call), timing(&trios, |input| flat.search(input)), timing(few, OURS.call), timing(few, STD.call)];
     let ns: Times = quickest(repeats, &timings).try_into().expect("there are four timings");
     let [port, others @ ..] = ns;
     let triples = (n * (n + 1) / 2).pow(3);

@@ -3,7 +3,7 @@ use super::desks::Desks;
 use super::part::Part;
 use super::step::Step;
 use super::types::Input;
-use crate::floor::exchange::Exchange;
+use crate::floor::exchange::{with_word, Exchange};
 
 pub struct Dialogue<'a> {
     pub cases: &'a mut Exchange,
@@ -18,6 +18,12 @@ impl Dialogue<'_> {
 
     pub fn all(&mut self, steps: impl IntoIterator<Item = Step>) {
         steps.into_iter().for_each(|step| self.take(step));
+    }
+
+    /// A step whose line has another spelling of one of its words.
+    pub fn spelt(&mut self, step: Step, at: usize, word: &str) {
+        let answer = self.desks.answer(&step);
+        self.cases.add(with_word(&step.question(), at, word), answer);
     }
 
     /// Register r, opened with all rows worked.

@@ -97,6 +97,21 @@ fn several(dialogue: &mut Dialogue) {
     dialogue.all([Step::Close(4), Step::Row(4, 0), Step::Forge(4, 1, 35, 0.0), Step::Close(4)]);
 }
 
+/// Numbers with zeros before them, and every NaN as one value, whatever its digits.
+fn spellings(dialogue: &mut Dialogue) {
+    dialogue.worked(0, &plain(2, &[8, 9, 1, 1, 7, 9]));
+    let right = dialogue.part(0).lists[2][5];
+    for (at, word) in [(1, "00"), (2, "02"), (3, "0000000005")] {
+        dialogue.spelt(Step::Forge(0, 2, 5, 1.0), at, word);
+        dialogue.all([Step::Close(0), Step::Forge(0, 2, 5, right), Step::Close(0)]);
+    }
+    for digits in ["7ff8000000000000", "fff8000000000000", "7ff0000000000001", "ffffffffffffffff"] {
+        dialogue.spelt(Step::Forge(0, 1, 2, f64::NAN), 4, digits);
+        dialogue.all([Step::Scores(0), Step::Close(0)]);
+    }
+    dialogue.spelt(Step::Scores(0), 1, "000");
+}
+
 /// What counts and weights give that no opening takes.
 fn not_allowed(dialogue: &mut Dialogue) {
     let part = |n, counts, weights| Part { n, counts, weights, ..Part::ZEROS };
@@ -122,5 +137,6 @@ pub fn write(dialogue: &mut Dialogue) {
     }
     other_lists(dialogue);
     several(dialogue);
+    spellings(dialogue);
     not_allowed(dialogue);
 }
