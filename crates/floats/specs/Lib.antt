@@ -8,3 +8,4 @@ pub mod Sums
 pub mod Tiny
 pub mod Zeros
 pub mod MaxMin
+pub mod Bits

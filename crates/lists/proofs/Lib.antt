@@ -5,3 +5,4 @@ pub mod PassingLaws
 pub mod PaddedLaws
 pub mod OverLaws
 pub mod EveryLaws
+pub mod SameLaws

@@ -1,7 +1,9 @@
--- Lists that the rules of several crates are said over. Definitions only (RULES.md, T1 to T3, T8, T9, M1, M7, M8).
+-- Lists that the rules of several crates are said over. Definitions only (RULES.md, T1 to T3, T8, T9, R9, S4, M1,
+-- M7, M8).
 use Prim.Native.Nat.{ℕ, zero, suc, _-_}
-use mathlib.Core.Bool.{Bool, true, false, not, cond}
+use mathlib.Core.Bool.{Bool, true, false, not, cond, _&&_}
 use mathlib.Core.List.{List, [], _∷_, _++_}
+use lib.Dec.{eqb}
 use lib.ListN.{length, replicate}
 
 -- T1, T2, M1: the numbers i, i + 1, .., n of them
@@ -27,3 +29,10 @@ distinctBy same (x ∷ l) = x ∷ passing (λ y. not (same x y)) (distinctBy sam
 -- M7, M8: a list in n places, what is left of them filled with d; one that is longer stays as it is
 abbrev pub padded : {A : Type 0} → ℕ → A → List A → List A
 padded n d l = l ++ replicate (n - length l) d
+
+-- R9, S4: the same list of numbers
+abbrev pub sameNumbers : List ℕ → List ℕ → Bool
+sameNumbers [] [] = true
+sameNumbers [] (y ∷ ys) = false
+sameNumbers (x ∷ xs) [] = false
+sameNumbers (x ∷ xs) (y ∷ ys) = eqb x y && sameNumbers xs ys

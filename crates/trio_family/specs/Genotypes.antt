@@ -1,7 +1,7 @@
 -- The genotypes of n clusters. Definitions only (RULES.md, T1).
 use Prim.Native.Nat.{ℕ, zero, suc}
 use mathlib.Core.List.{List, [], _++_, map}
-use lib.ListN.{length}
+use lib.ListN.{length, getD}
 use Rattle.lists.specs.Lists.{numbers}
 use Rattle.trio_family.specs.declared.pair.Pair.{Pair}
 
@@ -25,3 +25,7 @@ genotypes n = pairsFrom 0 n
 -- T1: G, counted from the list; also the number of rows, since a row is one genotype of the father
 unfoldable pub genotypeCount : ℕ → ℕ
 genotypeCount n = length (genotypes n)
+
+-- T1: genotype number k; past the last, zeros
+unfoldable pub genotypeAt : ℕ → ℕ → Pair
+genotypeAt n k = getD (genotypes n) k (pair 0 0)

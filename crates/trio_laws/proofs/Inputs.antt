@@ -12,10 +12,9 @@ use lib.ListN.{length, getD, List·getD-eq-default}
 use lib.Ieee.{nan, isNan}
 use Rattle.trio_parts.specs.declared.part.Part.{Part}
 use Rattle.limits.specs.Limits.{countAllowed}
-use Rattle.trio_parts.specs.Part.{weightAllowed}
+use Rattle.trio_parts.specs.Part.{scoreIn, weightAllowed}
 use Rattle.trio_parts.specs.Right.{noCount, noWeight, placesRight, inputRight}
 use Rattle.trio_parts.proofs.RightLaws.{few-clusters}
-use Rattle.trio.specs.Steps.{scoreIn}
 use Rattle.trio_laws.specs.Accepted.{AcceptedTrio}
 use Rattle.trio_laws.proofs.ScoreBounds.{score-number}
 

@@ -26,8 +26,7 @@ use Rattle.kernels_laws.proofs.BinomialBounds.{term-within}
 use Rattle.trio_family.specs.declared.pair.Pair.{Pair}
 use Rattle.trio_family.specs.declared.sample.Sample.{Sample}
 use Rattle.trio_family.specs.Numbers.{sampleNumber}
-use Rattle.trio_family.specs.Genotypes.{pairsWith, pairsFrom, genotypes, pair}
-use Rattle.trio_triples.specs.Genotypes.{genotypeAt}
+use Rattle.trio_family.specs.Genotypes.{pairsWith, pairsFrom, genotypes, pair, genotypeAt}
 use Rattle.lists.specs.Lists.{numbers}
 use Rattle.trio_samples.specs.Samples.{upToEight, clusters, reads, sum, columnTotal, logBinomial}
 use Rattle.trio_samples.specs.Samples.{expectation, expectationTotal, clusterTerm, sampleScore}

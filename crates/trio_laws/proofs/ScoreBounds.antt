@@ -19,8 +19,8 @@ use Rattle.kernels_laws.proofs.LnBounds.{within-ln}
 use Rattle.trio_family.specs.declared.pair.Pair.{Pair}
 use Rattle.trio_family.specs.declared.sample.Sample.{Sample}
 use Rattle.trio_family.specs.declared.sample.Sample.the-variants.{Child, Father, Mother}
-use Rattle.trio_family.specs.Genotypes.{genotypeCount}
-use Rattle.trio_triples.specs.Genotypes.{rowWidth, genotypeAt, tripleAt}
+use Rattle.trio_family.specs.Genotypes.{genotypeCount, genotypeAt}
+use Rattle.trio_triples.specs.Genotypes.{rowWidth, tripleAt}
 use Rattle.trio_mendel.specs.Mendel.{ordered, among, childPairs, mendelTerm}
 use Rattle.lists.specs.Lists.{numbers}
 use Rattle.trio_samples.specs.Samples.{columnTotal, sampleScore}

@@ -16,10 +16,10 @@ use lib.Seq.{getD-append-add}
 use Rattle.lists.proofs.PlaceLaws.{map-at}
 use Rattle.trio_family.specs.declared.pair.Pair.{Pair}
 use Rattle.trio_family.specs.declared.pair.Triple.{Triple}
-use Rattle.trio_family.specs.Genotypes.{genotypes, genotypeCount, pair, pairsWith, pairsFrom}
-use Rattle.trio_triples.specs.Genotypes.{genotypeAt, rowWidth, tripleAt, each, triples}
+use Rattle.trio_family.specs.Genotypes.{genotypes, genotypeCount, pair, pairsWith, pairsFrom, genotypeAt}
+use Rattle.trio_triples.specs.Genotypes.{rowWidth, tripleAt, each, triples}
 use Rattle.trio_family.proofs.GenotypesLaws.{with-length, genotype-count}
-use Rattle.trio_triples.proofs.GenotypesLaws.{at-first, at-later}
+use Rattle.trio_family.proofs.PlaceLaws.{at-first, at-later}
 
 -- ---- lists put one after the other, all of one length
 

@@ -1,7 +1,8 @@
 -- How well a genotype explains the reads of one animal. Definitions only (RULES.md, T2, L2).
-use Prim.Native.Nat.{ℕ, _+_, _-_, _*_}
+use Prim.Native.Nat.{ℕ, _+_, _-_, _*_, _<_}
 use mathlib.Core.Bool.{Bool, cond, true, _&&_, _||_}
 use mathlib.Core.List.{List, [], _∷_, map}
+use mathlib.Core.Path.{_≡_}
 use lib.Dec.{eqb, leb, ltb}
 use lib.ListN.{getD}
 use lib.Ieee.{Float, nan, inf, le, eq}
@@ -12,6 +13,7 @@ use Rattle.trio_family.specs.declared.pair.Pair.{Pair}
 use Rattle.trio_family.specs.declared.sample.Sample.{Sample}
 use Rattle.trio_family.specs.Numbers.{sampleNumber}
 use Rattle.trio_samples.specs.declared.samples.Share.{Share}
+use Rattle.trio_samples.specs.declared.samples.Shares.{Shares}
 
 -- L2: the smaller of n and 8, since there are eight places and no more
 abbrev pub upToEight : ℕ → ℕ
@@ -78,3 +80,22 @@ sampleScore n counts weights s h =
 -- that of any other: `share-by-kind` (trio_samples/proofs/SampleLaws.antt)
 abbrev pub withLogs : Float → Share
 withLogs p = record { p = p; log = lnOf p; rest = lnOf (nat 1 ⊖ p) }
+
+-- T2: that of the clusters which a genotype names, and that of the others
+unfoldable pub sharesOf : ℕ → Pair → Shares
+sharesOf n h =
+    record { called = withLogs (expectation h (h .low) ⊘ expectationTotal n h); other = withLogs (decimal 1 3 ⊘ expectationTotal n h) }
+
+-- T2: `logs` has the logarithm of each weight in use
+abbrev pub WeightLogs : ℕ → List Float → List Float → Type 0
+WeightLogs n weights logs = (c : ℕ) → c < upToEight n → getD logs c nan ≡ lnOf (getD weights c nan ⊕ decimal 1 3)
+
+-- T2: what cluster c adds, the logarithm of its weight being taken already
+abbrev pub loggedTerm : ℕ → List ℕ → List Float → Sample → Pair → ℕ → Float
+loggedTerm n counts logs s h c =
+    logBinomial (reads counts (sampleNumber s) c) (columnTotal n counts s) (clusterShare n h c) ⊕ getD logs c nan
+
+-- T2: the score from these logarithms; from those of the weights it is `sampleScore`: `logged-is` (trio_samples/proofs/SampleLaws.antt)
+unfoldable pub loggedScore : ℕ → List ℕ → List Float → Sample → Pair → Float
+loggedScore n counts logs s h =
+    cond (eqb (columnTotal n counts s) 0) (inf true) (sumFrom (nat 0) (map (loggedTerm n counts logs s h) (clusters n)))

@@ -6,7 +6,7 @@ ghost use Prim.Native.Nat.{_^_, _≤_, _<_};
 ghost use Rattle.floats.specs.F64.{_⊘_, nat, sumFrom};
 ghost use Rattle.lists.specs.Lists.{numbers};
 ghost use Rattle.trio_samples.specs.Samples.{upToEight, reads, sum, columnTotal, impossibleAt, logBinomial, named, expectation};
-ghost use Rattle.trio_samples.specs.Samples.{sampleScore, withLogs};
+ghost use Rattle.trio_samples.specs.Samples.{sampleScore, withLogs, sharesOf, WeightLogs, loggedScore};
 use kernels::ln::ln;
 use trio_family::pair::Pair;
 use trio_family::sample::Sample;
@@ -60,6 +60,12 @@ struct Share {
     p: f64,
     log: f64,
     rest: f64,
+}
+
+// The share of the clusters that a genotype names, and that of the others.
+pub(crate) struct Shares {
+    called: Share,
+    other: Share,
 }
 
 fn share_of(expected: f64, whole: f64) -> Share
@@ -130,8 +136,62 @@ fn expected_total(many: u64, pair: Pair) -> f64
     total
 }
 
-// The log likelihood of an animal's reads under a genotype. The clusters that it names have one share, all others another: logarithms are
-// taken of these two.
+// ln(weight + 0.001) of each of the first `many` weights, and zeros.
+pub(crate) fn weight_logs(n: u64, weights: [f64; 8]) -> [f64; 8]
+    ensures { λ r. ⌜ WeightLogs n weights r ⌝ }
+{
+    let many = in_use(n);
+    let mut logs = [0.0f64; 8];
+    let mut c: u64 = 0;
+    while c < many {
+        logs[c as usize] = ln(weights[c as usize] + 1e-3);
+        c += 1;
+    }
+    logs
+}
+
+// The shares of a genotype among n clusters: those that it names have one, all others another, so logarithms are taken of these two.
+pub(crate) fn shares_of(n: u64, pair: Pair) -> Shares
+    ensures { λ r. ⌜ r ≡ sharesOf n pair ⌝ }
+{
+    let whole = expected_total(in_use(n), pair);
+    let called = share_of(expected(pair, pair.low), whole);
+    let other = share_of(1e-3, whole);
+    Shares { called, other }
+}
+
+// The score of an animal under a genotype, from the logarithms of the weights and of the genotype's shares.
+pub(crate) fn score_by(
+    n: u64,
+    counts: [u32; 24],
+    logs: [f64; 8],
+    s: Sample,
+    pair: Pair,
+    shares: Shares,
+) -> f64
+    requires { ⌜ shares ≡ sharesOf n pair ⌝ }
+    ensures { λ r. ⌜ r ≡ loggedScore n counts logs s pair ⌝ }
+{
+    let many = in_use(n);
+    let column = sample_number(s);
+    let total = column_sum(many, counts, column);
+    if total == 0 {
+        return -1.0 / 0.0;
+    }
+    let called = shares.called;
+    let other = shares.other;
+    let mut log_lik = 0.0;
+    let mut c: u64 = 0;
+    while c < many {
+        let obs = counts[(3 * c + column) as usize] as u64;
+        let exp = either(pair, c, called, other);
+        log_lik = log_lik + (log_binomial(obs, total, exp) + logs[c as usize]);
+        c += 1;
+    }
+    log_lik
+}
+
+// The log likelihood of an animal's reads under a genotype.
 pub fn compute_log_likelihood(
     n: u64,
     counts: [u32; 24],
@@ -141,23 +201,7 @@ pub fn compute_log_likelihood(
 ) -> f64
     ensures { λ r. ⌜ r ≡ sampleScore n counts weights s pair ⌝ }
 {
-    let many = in_use(n);
-    let column = sample_number(s);
-    let total = column_sum(many, counts, column);
-    if total == 0 {
-        return -1.0 / 0.0;
-    }
-    let whole = expected_total(many, pair);
-    let called = share_of(expected(pair, pair.low), whole);
-    let other = share_of(1e-3, whole);
-    let mut log_lik = 0.0;
-    let mut c: u64 = 0;
-    while c < many {
-        let obs = counts[(3 * c + column) as usize] as u64;
-        let exp = either(pair, c, called, other);
-        let q = weights[c as usize];
-        log_lik = log_lik + (log_binomial(obs, total, exp) + ln(q + 1e-3));
-        c += 1;
-    }
-    log_lik
+    let logs = weight_logs(n, weights);
+    let shares = shares_of(n, pair);
+    score_by(n, counts, logs, s, pair, shares)
 }

@@ -1,16 +1,11 @@
--- Which genotype stands where, and the triples in the order of the search. Definitions only (RULES.md, T1).
+-- The triples in the order of the search. Definitions only (RULES.md, T1).
 use Prim.Native.Nat.{ℕ, _*_, _/_, _%_}
 use mathlib.Core.List.{List, [], _∷_, _++_, map}
 use mathlib.Core.Bool.{cond, _&&_}
 use lib.Dec.{leb}
-use lib.ListN.{getD}
 use Rattle.trio_family.specs.declared.pair.Pair.{Pair}
 use Rattle.trio_family.specs.declared.pair.Triple.{Triple}
-use Rattle.trio_family.specs.Genotypes.{pair, genotypes, genotypeCount}
-
--- T1: genotype number k; past the last, zeros
-unfoldable pub genotypeAt : ℕ → ℕ → Pair
-genotypeAt n k = getD (genotypes n) k (pair 0 0)
+use Rattle.trio_family.specs.Genotypes.{pair, genotypes, genotypeCount, genotypeAt}
 
 -- T1: how many triples a row has: G·G
 abbrev pub rowWidth : ℕ → ℕ

@@ -1,29 +1,11 @@
-// The genotype at a place of the list, and the triple at a position (docs/RULES.md, T1).
+// The triple at a position (docs/RULES.md, T1).
 ghost use mathlib.Core.Path.{_≡_};
 ghost use Prim.Native.Nat.{_≤_};
-ghost use Rattle.trio_triples.specs.Genotypes.{genotypeAt, tripleAt, tripleOf};
+ghost use Rattle.trio_triples.specs.Genotypes.{tripleAt, tripleOf};
+use trio_family::genotypes::genotype_at;
 use trio_family::genotypes::genotype_count;
 use trio_family::pair::Pair;
 use trio_family::pair::Triple;
-
-// Genotype k of n clusters: those with the lower number i are n - i in a row.
-fn genotype_at(n: u64, k: u64) -> Pair
-    ensures { λ r. ⌜ r ≡ genotypeAt n k ⌝ }
-{
-    let mut i: u64 = 0;
-    let mut left = k;
-    while i < n {
-        if left < n - i {
-            return Pair {
-                low: i,
-                high: i + left,
-            };
-        }
-        left -= n - i;
-        i += 1;
-    }
-    Pair { low: 0, high: 0 }
-}
 
 // The triple at a position of a search over n clusters.
 fn triple_at(n: u64, position: u64) -> Triple

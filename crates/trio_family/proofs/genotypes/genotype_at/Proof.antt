@@ -1,15 +1,14 @@
--- `trio_triples::genotypes::genotype_at` meets its contract. The loop's invariant: what is looked for is number `left` of the pairs from `i` on.
--- Assumes nothing.
+-- `trio_family::genotypes::genotype_at` meets its contract. The loop's invariant: what is looked for is number `left` of the pairs from `i`
+-- on. Assumes nothing.
 use Prim.Native.Nat.{_≤_, _-_}
 use mathlib.Core.Path.{_≡_, sym, ap, _∙_}
 use native.Mathlib.Nat.{sub-zero}
 use native.Mathlib.Omega.{arith}
 use lib.ListN.{getD}
-use Rattle.trio_family.specs.Genotypes.{pairsFrom, pair}
-use Rattle.trio_triples.specs.Genotypes.{genotypeAt}
-use Rattle.trio_triples.proofs.GenotypesLaws.{at-first, at-later}
-use Rattle.trio_triples.proofs.genotypes.genotype_at.Statement.{statement}
-use Rattle.trio_triples.proofs.genotypes.genotype_at.Tie as tie
+use Rattle.trio_family.specs.Genotypes.{pairsFrom, pair, genotypeAt}
+use Rattle.trio_family.proofs.PlaceLaws.{at-first, at-later}
+use Rattle.trio_family.proofs.genotypes.genotype_at.Statement.{statement}
+use Rattle.trio_family.proofs.genotypes.genotype_at.Tie as tie
 
 abbrev Inv-loop : tie.InvT-loop
 Inv-loop n k i₀ left₀ i left = (i ≤ n) × (getD (pairsFrom i (n - i)) left (pair 0 0) ≡ genotypeAt n k)
