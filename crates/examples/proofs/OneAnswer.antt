@@ -41,16 +41,25 @@ use Rattle.trio_search.proofs.marks.row_marked.Reads as row-marked
 use Rattle.trio_search.proofs.marks.all_marked.Reads as all-marked
 use Rattle.trio_search.proofs.shape.work_right.Reads as work-right
 use Rattle.trio_family.proofs.genotypes.genotype_count.Reads as genotype-count
+use Rattle.trio_family.proofs.genotypes.genotype_at.Reads as genotype-at
 use Rattle.trio_mendel.proofs.mendel.distinct_pairs.Reads as distinct-pairs
 use Rattle.trio_mendel.proofs.mendel.mendelian_prior.Reads as mendelian-prior
 use Rattle.trio_family.proofs.sample.sample_number.Reads as sample-number
 use Rattle.trio_samples.proofs.samples.column_total.Reads as column-total
 use Rattle.trio_samples.proofs.samples.compute_log_likelihood.Reads as compute-log-likelihood
+use Rattle.trio_samples.proofs.scores.Scores.none.Reads as scores-none
+use Rattle.trio_samples.proofs.scores.fill_scores.Reads as fill-scores
+use Rattle.trio_samples.proofs.scores.same_scores.Reads as same-scores
+use Rattle.trio_stored.proofs.rows.best_of_row.Reads as best-of-row
+use Rattle.trio_stored.proofs.rows.best_of_all.Reads as best-of-all
 use Rattle.trio_parts.proofs.part.Part.empty.Reads as part-empty
 use Rattle.trio_parts.proofs.shape.right_part.Reads as right-part
+use Rattle.trio_parts.proofs.sound.sound_part.Reads as sound-part
 use Rattle.trio_parts.proofs.input.same_input.Reads as same-input
 use Rattle.trio_numbers.proofs.numbers.numbers_of.Reads as numbers-of
 use Rattle.trio_numbers.proofs.numbers.part_at.Reads as part-at
+use Rattle.trio_numbers.proofs.numbers.line_part.Reads as line-part
+use Rattle.trio_numbers.proofs.scores.score_numbers.Reads as score-numbers
 use Rattle.trio_numbers.proofs.numbers.put_part.Reads as put-part
 use Rattle.trio_closings.proofs.animal.sample_score.Reads as sample-score
 use Rattle.trio_opening.proofs.opening.open_part.Reads as open-part
@@ -67,6 +76,7 @@ use Rattle.trio_reads.proofs.flags.alleles_read.Reads as alleles-read
 use Rattle.trio_quality.proofs.quality.trio_quality.Reads as trio-quality
 use Rattle.trio_closings.proofs.closing.refused_closing.Reads as refused-closing
 use Rattle.trio_closings.proofs.closing.close.Reads as close
+use Rattle.trio_closings.proofs.closing.closed_as.Reads as closed-as
 use Rattle.trio_desks.proofs.call.call.Reads as call
 use Rattle.kernels_stirling.proofs.stirling.stirling.Reads as stirling
 use Rattle.kernels_stirling.proofs.stirling.ln_factorial.Reads as ln-factorial
@@ -94,6 +104,10 @@ use Rattle.kernels_c.proofs.admulfas_stirling.Reads as c-stirling
 use Rattle.diploid_c.proofs.admulfas_diploid.Reads as c-diploid
 use Rattle.trio_c.proofs.admulfas_trio.Reads as c-trio
 use Rattle.trio_c.proofs.admulfas_trio_quality.Reads as c-trio-quality
+use Rattle.trio_c.proofs.steps.admulfas_open.Reads as c-open
+use Rattle.trio_c.proofs.steps.admulfas_work_row.Reads as c-work-row
+use Rattle.trio_c.proofs.steps.admulfas_merge.Reads as c-merge
+use Rattle.trio_c.proofs.steps.admulfas_close.Reads as c-close
 use Rattle.mosaic_c.proofs.admulfas_mosaic.Reads as c-mosaic
 use Rattle.trio_triples.proofs.genotypes.triple_of.Reads as triple-of
 use Rattle.trio_triples.proofs.score.score_at.Reads as score-at
@@ -266,6 +280,9 @@ work-right-once κ a v w e f = only
 pub genotype-count-once : OneAnswer genotype-count.Post
 genotype-count-once κ a v w e f = only
 
+pub genotype-at-once : OneAnswer genotype-at.Post
+genotype-at-once κ a v w e f = only
+
 pub triple-of-once : OneAnswer triple-of.Post
 triple-of-once κ a v w e f = only
 
@@ -284,14 +301,32 @@ column-total-once κ a v w e f = only
 pub compute-log-likelihood-once : OneAnswer compute-log-likelihood.Post
 compute-log-likelihood-once κ a v w e f = only
 
+pub scores-none-once : OneAnswer scores-none.Post
+scores-none-once κ a v w e f = only
+
+pub fill-scores-once : OneAnswer fill-scores.Post
+fill-scores-once κ a v w e f = only
+
+pub same-scores-once : OneAnswer same-scores.Post
+same-scores-once κ a v w e f p q = only (p .0) (q .0)
+
 pub score-at-once : OneAnswer score-at.Post
 score-at-once κ a v w e f = only
+
+pub best-of-row-once : OneAnswer best-of-row.Post
+best-of-row-once κ a v w e f = only
+
+pub best-of-all-once : OneAnswer best-of-all.Post
+best-of-all-once κ a v w e f = only
 
 pub part-empty-once : OneAnswer part-empty.Post
 part-empty-once κ a v w e f = only
 
 pub right-part-once : OneAnswer right-part.Post
 right-part-once κ a v w e f = only
+
+pub sound-part-once : OneAnswer sound-part.Post
+sound-part-once κ a v w e f p q = only (p .0) (q .0)
 
 pub same-input-once : OneAnswer same-input.Post
 same-input-once κ a v w e f = only
@@ -341,11 +376,20 @@ trio-quality-once κ a v w e f = only
 pub close-once : OneAnswer close.Post
 close-once κ a v w e f = only
 
+pub closed-as-once : OneAnswer closed-as.Post
+closed-as-once κ a v w e f = only
+
 pub numbers-of-once : OneAnswer numbers-of.Post
 numbers-of-once κ a v w e f = only
 
 pub part-at-once : OneAnswer part-at.Post
 part-at-once κ a v w e f = only
+
+pub line-part-once : OneAnswer line-part.Post
+line-part-once κ a v w e f = only
+
+pub score-numbers-once : OneAnswer score-numbers.Post
+score-numbers-once κ a v w e f = only
 
 -- the numbers, its first parameter
 pub put-part-ends : (κ : _) (a : _) (v w : _) (e f : _) → put-part.Post κ a v e → put-part.Post κ a w f → e .0 .now ≡ f .0 .now
@@ -466,6 +510,50 @@ c-trio-ends κ a v w e f p q = (
 
 pub c-trio-quality-once : OneAnswer c-trio-quality.Post
 c-trio-quality-once κ a v w e f = only
+
+pub c-open-once : OneAnswer c-open.Post
+c-open-once κ a v w e f p q = only (p .part-is) (q .part-is)
+
+pub c-work-row-once : OneAnswer c-work-row.Post
+c-work-row-once κ a v w e f p q = only (p .part-is) (q .part-is)
+
+pub c-merge-once : OneAnswer c-merge.Post
+c-merge-once κ a v w e f p q = only (p .part-is) (q .part-is)
+
+-- and so is the refusal's number that each leaves behind its `&mut`, its last parameter
+pub c-open-ends : (κ : _) (a : _) (v w : _) (e f : _) → c-open.Post κ a v e → c-open.Post κ a w f → e .1 .1 .1 .0 .now ≡ f .1 .1 .1 .0 .now
+c-open-ends κ a v w e f p q = only (p .refusal-is) (q .refusal-is)
+
+pub c-work-row-ends : (κ : _) (a : _) (v w : _) (e f : _) → c-work-row.Post κ a v e → c-work-row.Post κ a w f
+    → e .1 .1 .0 .now ≡ f .1 .1 .0 .now
+c-work-row-ends κ a v w e f p q = only (p .refusal-is) (q .refusal-is)
+
+pub c-merge-ends : (κ : _) (a : _) (v w : _) (e f : _) → c-merge.Post κ a v e → c-merge.Post κ a w f → e .1 .1 .0 .now ≡ f .1 .1 .0 .now
+c-merge-ends κ a v w e f p q = only (p .refusal-is) (q .refusal-is)
+
+pub c-close-once : OneAnswer c-close.Post
+c-close-once κ a v w e f p q = only (p .refusal-is) (q .refusal-is)
+
+-- and so is what it leaves behind its `&mut`, its second to ninth parameter, which are the whole call's
+pub c-close-ends : (κ : _) (a : _) (v w : _) (e f : _) → c-close.Post κ a v e → c-close.Post κ a w f
+    → (e .1 .0 .now ≡ f .1 .0 .now)
+    × (e .1 .1 .0 .now ≡ f .1 .1 .0 .now)
+    × (e .1 .1 .1 .0 .now ≡ f .1 .1 .1 .0 .now)
+    × (e .1 .1 .1 .1 .0 .now ≡ f .1 .1 .1 .1 .0 .now)
+    × (e .1 .1 .1 .1 .1 .0 .now ≡ f .1 .1 .1 .1 .1 .0 .now)
+    × (e .1 .1 .1 .1 .1 .1 .0 .now ≡ f .1 .1 .1 .1 .1 .1 .0 .now)
+    × (e .1 .1 .1 .1 .1 .1 .1 .0 .now ≡ f .1 .1 .1 .1 .1 .1 .1 .0 .now)
+    × (e .1 .1 .1 .1 .1 .1 .1 .1 .0 .now ≡ f .1 .1 .1 .1 .1 .1 .1 .1 .0 .now)
+c-close-ends κ a v w e f p q = (
+  only (p .pairs-are) (q .pairs-are),
+  only (p .score-is) (q .score-is),
+  only (p .ground-is) (q .ground-is),
+  only (p .runner-is) (q .runner-is),
+  only (p .position-is) (q .position-is),
+  only (p .second-is) (q .second-is),
+  only (p .quality-is) (q .quality-is),
+  only (p .read-are) (q .read-are),
+)
 
 pub c-mosaic-once : OneAnswer c-mosaic.Post
 c-mosaic-once κ a v w e f p q = only (p .refusal-is) (q .refusal-is)

@@ -8,20 +8,22 @@ use trio_entries::merging::merge_held;
 use trio_parts::input::same_input;
 use trio_parts::part::Part;
 use trio_parts::part::Stepped;
-use trio_parts::shape::right_part;
+use trio_parts::sound::sound_part;
 
-// The input of `a`, with the work of both.
+// The input and the lists of `a`, with the work of both.
 pub(crate) fn joined(a: Part, b: Part) -> Part
     ensures { λ r. ⌜ r ≡ withWork a (work.joined (workIn a) (workIn b)) ⌝ }
 {
     let counts = a.counts;
     let weights = a.weights;
+    let scores = a.scores;
     let ha = a.held;
     let hb = b.held;
     Part {
         clusters: a.clusters,
         counts,
         weights,
+        scores,
         marks: a.marks | b.marks,
         held: merge_held(ha, hb),
     }
@@ -31,8 +33,8 @@ pub(crate) fn joined(a: Part, b: Part) -> Part
 pub fn merge(a: Part, b: Part) -> Stepped
     ensures { λ r. ⌜ r ≡ mergeStep a b ⌝ }
 {
-    if right_part(a) {
-        if right_part(b) {
+    if sound_part(a) {
+        if sound_part(b) {
             if same_input(a, b) {
                 return Stepped {
                     refusal: Refusal::Done,

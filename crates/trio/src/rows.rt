@@ -1,54 +1,34 @@
 // Working a row: all triples of one father's genotype (docs/RULES.md, T6).
 ghost use mathlib.Core.Path.{_≡_};
-ghost use Prim.Native.Nat.{_+_, _*_, _≤_, _<_, _^_};
-ghost use Rattle.trio_entries.specs.Held.{heldOf};
-ghost use Rattle.trio_search.specs.Work.{onePass, entriesFrom, rowWork};
-ghost use Rattle.trio_parts.specs.Part.{withWork};
-ghost use Rattle.trio_triples.specs.Score.{scoreOf};
+ghost use Prim.Native.Nat.{_≤_, _<_};
+ghost use Rattle.trio_search.specs.Work.{rowWork};
+ghost use Rattle.trio_triples.specs.Genotypes.{rowWidth};
+ghost use Rattle.trio_parts.specs.Part.{listsIn, scoreIn, rowCount, withWork};
 ghost use Rattle.trio.specs.Steps.{rowsIn, rowStep};
 use crate::merging::joined;
 use refusals::Refusal;
-use trio_entries::entry::Entry;
-use trio_entries::held::Held;
-use trio_entries::held::offer;
 use trio_family::genotypes::genotype_count;
 use trio_parts::part::Part;
 use trio_parts::part::Stepped;
-use trio_parts::shape::right_part;
+use trio_parts::sound::sound_part;
 use trio_search::marks::row_marked;
-use trio_triples::score::score_at;
+use trio_stored::rows::best_of_row;
 
-// The best two of `many` positions from `from` on.
-fn best_of(clusters: u64, counts: [u32; 24], weights: [f64; 8], from: u64, many: u64) -> Held
-    requires { ⌜ from + many < 2 ^ 64 ⌝ }
-    ensures { λ r. ⌜ r ≡ heldOf (onePass 2 (entriesFrom (scoreOf clusters counts weights) from many)) ⌝ }
-{
-    let mut h = Held::nothing();
-    let mut i: u64 = 0;
-    while i < many {
-        let position = from + i;
-        let score = score_at(clusters, counts, weights, position);
-        h = offer(h, Entry { position, score });
-        i += 1;
-    }
-    h
-}
-
-// The input of p, marked with row r alone, one of g, and holding its best two.
-fn row_part(p: Part, r: u64, g: u64) -> Part
-    requires { ⌜ (r < g) × (g ≤ 36) ⌝ }
-    ensures { λ q. ⌜ q ≡ withWork p (rowWork (g * g) (scoreOf (p .clusters) (p .counts) (p .weights)) r) ⌝ }
+// The input of p and its lists, marked with row r alone, and holding its best two, which are found over the lists.
+fn row_part(p: Part, r: u64) -> Part
+    requires { ⌜ (1 ≤ p .clusters) × (p .clusters ≤ 8) × (r < rowCount p) × (p .scores ≡ listsIn p) ⌝ }
+    ensures { λ q. ⌜ q ≡ withWork p (rowWork (rowWidth (p .clusters)) (scoreIn p) r) ⌝ }
 {
     let counts = p.counts;
     let weights = p.weights;
-    let many = g * g;
-    let held = best_of(p.clusters, counts, weights, r * many, many);
+    let scores = p.scores;
     Part {
         clusters: p.clusters,
         counts,
         weights,
+        scores,
         marks: row_marked(0, r),
-        held,
+        held: best_of_row(p.clusters, r, scores),
     }
 }
 
@@ -56,7 +36,7 @@ fn row_part(p: Part, r: u64, g: u64) -> Part
 pub fn row_count(p: Part) -> u64
     ensures { λ r. ⌜ r ≡ rowsIn p ⌝ }
 {
-    if right_part(p) {
+    if sound_part(p) {
         return genotype_count(p.clusters as u32);
     }
     0
@@ -66,10 +46,10 @@ pub fn row_count(p: Part) -> u64
 pub fn work_row(p: Part, r: u64) -> Stepped
     ensures { λ s. ⌜ s ≡ rowStep p r ⌝ }
 {
-    if right_part(p) {
+    if sound_part(p) {
         let g = genotype_count(p.clusters as u32);
         if r < g {
-            let q = row_part(p, r, g);
+            let q = row_part(p, r);
             return Stepped {
                 refusal: Refusal::Done,
                 part: joined(p, q),

@@ -1,4 +1,4 @@
-// The whole call of a trio, and a quality by itself, for callers in other languages: a cluster number and slices, or two scores, in;
+// The whole call of a trio, its steps, and a quality by itself, for callers in other languages: a cluster number and slices, or two scores, in;
 // numbers out (docs/RULES.md, T9 to T12).
 // It answers every argument; what the foreign caller answers for is in docs/TRUST.md.
 ghost use mathlib.Core.Path.{_≡_};
@@ -11,15 +11,17 @@ use trio_family::ground;
 use trio_family::pair::Triple;
 use trio_reads::flags::TripleRead;
 
+pub mod steps;
+
 // 1 for true.
-fn flag(b: bool) -> u32
+pub(crate) fn flag(b: bool) -> u32
     ensures { λ r. ⌜ r ≡ cond b 1 0 ⌝ }
 {
     if b { 1 } else { 0 }
 }
 
 // Animal by animal, the lower allele first.
-fn six_pairs(t: Triple) -> [u64; 6]
+pub(crate) fn six_pairs(t: Triple) -> [u64; 6]
     ensures { λ r. ⌜ r ≡ sixOf t ⌝ }
 {
     let child = t.child;
@@ -36,7 +38,7 @@ fn six_pairs(t: Triple) -> [u64; 6]
 }
 
 // In the same order.
-fn six_flags(f: TripleRead) -> [u32; 6]
+pub(crate) fn six_flags(f: TripleRead) -> [u32; 6]
     ensures { λ r. ⌜ r ≡ sixFlags f ⌝ }
 {
     let child = f.child;

@@ -18,7 +18,7 @@ use Rattle.trio_family.specs.Genotypes.{pair}
 use Rattle.trio_family.specs.Grounds.{groundBy}
 use Rattle.trio_parts.specs.declared.part.Part.{Part}
 use Rattle.trio_parts.specs.Part.{rowCount}
-use Rattle.trio_parts.specs.Right.{rightPart}
+use Rattle.trio_parts.specs.Sound.{soundPart}
 use Rattle.trio_quality.specs.Quality.{trioQuality}
 use Rattle.trio_reads.specs.Flags.{tripleRead, noneRead, allelesRead}
 use Rattle.trio_reads.specs.Unread.{unread}
@@ -84,7 +84,7 @@ refusedClosing r p =
 -- O1: a bad part (R12), a row that is not marked (R10); else what a complete part says
 abbrev pub closeBy : (Part → Closed) → Part → Closed
 closeBy says p =
-    cond (rightPart p)
+    cond (soundPart p)
     (cond (eqb (p .marks) (fullMarks (rowCount p))) (says p) (refusedClosing NotComplete p))
     (refusedClosing BadPart p)
 

@@ -5,7 +5,7 @@ use refusals::Refusal;
 use trio_family::pair::Pair;
 use trio_family::sample::Sample;
 use trio_parts::part::Part;
-use trio_parts::shape::right_part;
+use trio_parts::sound::sound_part;
 use trio_samples::samples::compute_log_likelihood;
 
 // The log likelihood of an animal's reads under a genotype, or a refusal with zero.
@@ -17,7 +17,7 @@ pub struct AnimalScore {
 pub fn sample_score(p: Part, s: Sample, pair: Pair) -> AnimalScore
     ensures { λ r. ⌜ r ≡ sampleStep p s pair ⌝ }
 {
-    if right_part(p) {
+    if sound_part(p) {
         let counts = p.counts;
         let weights = p.weights;
         return AnimalScore {

@@ -11,7 +11,7 @@ use trio_family::ground::ground_by;
 use trio_family::pair::Pair;
 use trio_family::pair::Triple;
 use trio_parts::part::Part;
-use trio_parts::shape::right_part;
+use trio_parts::sound::sound_part;
 use trio_quality::quality::trio_quality;
 use trio_reads::flags::TripleRead;
 use trio_reads::flags::alleles_read;
@@ -70,8 +70,8 @@ pub fn refused_closing(refusal: Refusal, p: Part) -> Closed
     }
 }
 
-// What a complete part says.
-fn closed_as(p: Part) -> Closed
+// What a part says that is known to be complete.
+pub fn closed_as(p: Part) -> Closed
     ensures { λ r. ⌜ r ≡ closedAs p ⌝ }
 {
     let n = p.clusters;
@@ -101,7 +101,7 @@ fn closed_as(p: Part) -> Closed
 pub fn close(p: Part) -> Closed
     ensures { λ r. ⌜ r ≡ closeStep p ⌝ }
 {
-    if right_part(p) {
+    if sound_part(p) {
         if all_marked(genotype_count(p.clusters as u32), p.marks) {
             return closed_as(p);
         }

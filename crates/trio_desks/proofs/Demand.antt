@@ -5,29 +5,22 @@ use mathlib.Core.List.{List}
 use mathlib.Core.Logic.{_≢_}
 use mathlib.Core.Path.{_≡_, refl, sym, ap, subst, _∙_}
 use borrow.Author.Tests.{eq-eqb, ne-eqb}
-use lib.Ieee.{Float, isNan}
+use lib.Ieee.{Float}
 use Rattle.refusals.specs.Refusals.{numberOf}
-use Rattle.trio_search.specs.Work.{noWork}
+use Rattle.trio_search_laws.specs.Sound.{Covers}
 use Rattle.trio_parts.specs.declared.part.Part.{Part}
 use Rattle.trio_parts.specs.declared.part.Stepped.{Stepped}
-use Rattle.trio_parts.specs.Part.{withWork, freshPart}
-use Rattle.trio_parts.specs.Right.{rightPart}
+use Rattle.trio_parts.specs.Part.{rowCount, freshPart}
 use Rattle.trio_parts.proofs.RightLaws.{right-input}
 use Rattle.trio_opening.specs.Opening.{openStep}
-use Rattle.trio.specs.Steps.{scoreIn, rowsIn}
 use Rattle.trio_closings.specs.Closing.{refusedClosing, closeStep}
-use Rattle.trio_desks.specs.Call.{calledBy, callOf, workedTo}
+use Rattle.trio_desks.specs.Call.{onePassCall, calledBy, callOf}
+use Rattle.trio_desks.specs.Steps.{workedRows}
 use Rattle.trio_desks.specs.History.{History, merged, partOf, rowsOf, Promised}
 use Rattle.trio_laws.proofs.Inputs.{scores-numbers}
 use Rattle.trio_desks.proofs.Opening.{opened-is, fresh-places, fresh-right}
-use Rattle.trio_desks.proofs.Promises.{promised, same-rows}
-use Rattle.trio_desks.proofs.Rising.{rising-closes}
-
--- an opened part: of the right shape, with no work in it, and its scores are numbers
-record Fresh (start : Part) : Type 0 where
-  right : rightPart start ≡ true
-  no-work : start ≡ withWork start noWork
-  numbers : (p : ℕ) → isNan (scoreIn start p) ≡ false
+use Rattle.trio_desks.proofs.Promises.{Fresh, promised, same-rows}
+use Rattle.trio_desks.proofs.SoundParts.{true-reworked}
 
 module _ (n : ℕ) (counts : List ℕ) (weights : List Float) where
   module _ (accepted : numberOf (openStep n counts weights .refusal) ≡ 0) where
@@ -40,6 +33,7 @@ module _ (n : ℕ) (counts : List ℕ) (weights : List Float) where
         let r = fresh-right n counts weights accepted in
         record {
           right = r;
+          lists = refl;
           no-work = refl;
           numbers = scores-numbers p (right-input p r) (fresh-places n counts weights accepted);
         }
@@ -49,11 +43,11 @@ module _ (n : ℕ) (counts : List ℕ) (weights : List Float) where
 
     -- every history of its parts keeps every promise
     pub demand-three : (h : History start) → Promised start h
-    demand-three = promised start (opened-fresh .right) (opened-fresh .no-work) (opened-fresh .numbers)
+    demand-three = promised start opened-fresh
 
     -- two parts into which the same rows have been worked are the same part
     pub same-part : (h k : History start) → ((r : ℕ) → rowsOf start h r ≡ rowsOf start k r) → partOf start h ≡ partOf start k
-    same-part = same-rows start (opened-fresh .right) (opened-fresh .no-work) (opened-fresh .numbers)
+    same-part = same-rows start opened-fresh
 
     -- so merging is free of order, of grouping and of repeats
     pub merging-commutes : (h k : History start) → partOf start (merged h k) ≡ partOf start (merged k h)
@@ -69,11 +63,18 @@ module _ (n : ℕ) (counts : List ℕ) (weights : List Float) where
     unfolding rowsOf
     merging-with-itself h = same-part (merged h h) h (λ r. or-self (rowsOf start h r))
 
-    -- with every row worked in rising order, closing gives the call
-    pub worked-call : closeStep (workedTo start (rowsIn start)) ≡ callOf n counts weights
+    fresh-reworked : (l : List ℕ) → Covers (rowCount (freshPart n counts weights)) l
+        → closeStep (workedRows (freshPart n counts weights) l) ≡ onePassCall (freshPart n counts weights)
+    fresh-reworked =
+        true-reworked (freshPart n counts weights) (fresh-places n counts weights accepted)
+        (record { shape = fresh .right; lists = refl; entries = λ e i. absurd i })
+
+    -- with every row worked, in any order, closing gives the call
+    pub worked-call : (l : List ℕ) → Covers (rowCount start) l → closeStep (workedRows start l) ≡ callOf n counts weights
     unfolding calledBy
-    worked-call =
-        rising-closes start (opened-fresh .right) (opened-fresh .no-work) (opened-fresh .numbers)
+    worked-call l c =
+        subst (λ (p : Part). Covers (rowCount p) l → closeStep (workedRows p l) ≡ onePassCall p)
+        (sym (ap (λ (s : Stepped). s .part) (opened-is n counts weights accepted))) (fresh-reworked l) c
         ∙ rw (eq-eqb (numberOf (openStep n counts weights .refusal)) 0 accepted)
 
   -- a refused opening is the call

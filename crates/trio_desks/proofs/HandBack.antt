@@ -1,4 +1,4 @@
--- O2: a refused step hands back the part that it was given, whatever its shape and wherever it came from. Assumes nothing.
+-- O2: a refused step hands back the part that it was given, sound or not and wherever it came from. Assumes nothing.
 use mathlib.Core.Bool.{Bool, true, false, cond, _&&_}
 use mathlib.Core.Logic.{_≢_}
 use mathlib.Core.Path.{_≡_, refl}
@@ -8,10 +8,10 @@ use Rattle.trio_search.specs.Marks.{fullMarks}
 use Rattle.trio_search.specs.Work.{joined, rowWork}
 use Rattle.trio_triples.specs.Genotypes.{rowWidth}
 use Rattle.trio_parts.specs.declared.part.Part.{Part}
-use Rattle.trio_parts.specs.Part.{rowCount, workIn, withWork, gives}
-use Rattle.trio_parts.specs.Right.{rightPart}
+use Rattle.trio_parts.specs.Part.{scoreIn, rowCount, workIn, withWork, gives}
+use Rattle.trio_parts.specs.Sound.{soundPart}
 use Rattle.trio_parts.specs.Same.{sameInput}
-use Rattle.trio.specs.Steps.{scoreIn, rowStep, mergeStep}
+use Rattle.trio.specs.Steps.{rowStep, mergeStep}
 use Rattle.trio_closings.specs.Closing.{closedAs, refusedClosing, closeStep}
 use Rattle.trio_desks.specs.Steps.{Step, work, mergeWith, close, refusalOf, partAfter}
 
@@ -32,7 +32,7 @@ module _ (p : Part) where
   -- closing does so in every case
   pub close-back : closeStep p .part ≡ p
   unfolding closeStep closedAs refusedClosing
-  close-back = go (rightPart p) (eqb (p .marks) (fullMarks (rowCount p)))
+  close-back = go (soundPart p) (eqb (p .marks) (fullMarks (rowCount p)))
     where
       go : (s t : Bool) → cond s (cond t (closedAs p) (refusedClosing NotComplete p)) (refusedClosing BadPart p) .part ≡ p
       go true true = refl
@@ -43,6 +43,6 @@ module _ (p : Part) where
 pub refused-back : (s : Step) (p : Part) → refusalOf s p ≢ Done → partAfter s p ≡ p
 unfolding rowStep mergeStep
 refused-back (work r) p =
-    work-back p (withWork p (joined (workIn p) (rowWork (rowWidth (p .clusters)) (scoreIn p) r))) (rightPart p) (ltb r (rowCount p))
-refused-back (mergeWith q) p = merge-back p (withWork p (joined (workIn p) (workIn q))) (rightPart p && rightPart q) (sameInput p q)
+    work-back p (withWork p (joined (workIn p) (rowWork (rowWidth (p .clusters)) (scoreIn p) r))) (soundPart p) (ltb r (rowCount p))
+refused-back (mergeWith q) p = merge-back p (withWork p (joined (workIn p) (workIn q))) (soundPart p && soundPart q) (sameInput p q)
 refused-back close p = λ h. close-back p

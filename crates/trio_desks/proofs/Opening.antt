@@ -64,7 +64,7 @@ module _ (n : ℕ) (counts : List ℕ) (weights : List Float) where
     unfolding openStep
     tests = passed (eqb n 0) (ltb 8 n) shaped (every countAllowed counts) (every weightAllowed weights) accepted
 
-    some-clusters : 1 ≤ n
+    pub some-clusters : 1 ≤ n
     some-clusters = let z = eqb-false n 0 (tests .no-first) in omega arith
 
     pub few-clusters : n ≤ 8

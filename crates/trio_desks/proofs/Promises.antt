@@ -9,9 +9,12 @@ use borrow.Author.Tests.{ltb-true, eq-eqb, ne-eqb}
 use lib.Dec.{T, eqb, ltb}
 use lib.Ieee.{Float, binary64, isNan, toBits}
 use Rattle.lists.proofs.NumberLaws.{eqb-swap}
+use Rattle.lists.proofs.SameLaws.{same-self, same-swap}
 use Rattle.refusals.specs.declared.Refusal.the-variants.{Done, Row, OtherTrio, NotComplete, BadPart}
-use Rattle.trio_entries.specs.Best.{Best}
-use Rattle.trio_entries.specs.Held.{heldList}
+use Rattle.trio_entries.specs.declared.entry.Entry.{Entry}
+use Rattle.trio_entries.specs.Best.{In, Best}
+use Rattle.trio_entries.specs.Held.{heldOf, heldList}
+use Rattle.trio_entries.proofs.BestLaws.{best-in}
 use Rattle.trio_search.specs.Marks.{isMarked, fullMarks}
 use Rattle.trio_entries.specs.Rank.{beatsOf}
 use Rattle.trio_search.specs.Shape.{workRight}
@@ -23,26 +26,18 @@ use Rattle.trio_search_laws.proofs.WorkLaws.{none-sound, row-sound, joined-soun
 use Rattle.trio_parts.specs.declared.part.Part.{Part}
 use Rattle.trio_parts.specs.declared.part.Stepped.{Stepped}
 use Rattle.trio_triples.specs.Genotypes.{rowWidth}
-use Rattle.trio_parts.specs.Part.{rowCount, workIn, withWork, gives}
+use Rattle.trio_parts.specs.Part.{listsIn, scoreIn, rowCount, workIn, withWork, gives}
 use Rattle.trio_parts.specs.Right.{inputRight, rightPart}
-use Rattle.trio_parts.specs.Same.{sameNumbers, sameInput}
+use Rattle.trio_parts.specs.Sound.{soundPart}
+use Rattle.trio_parts.specs.Same.{sameInput}
 use Rattle.trio_parts.proofs.RightLaws.{right-input}
-use Rattle.trio.specs.Steps.{scoreIn, rowStep, mergeStep}
+use Rattle.trio_parts.proofs.SoundLaws.{true-sound}
+use Rattle.trio.specs.Steps.{rowStep, mergeStep}
 use Rattle.trio_closings.specs.Closing.{closedAs, refusedClosing, closeStep}
 use Rattle.trio_desks.specs.Call.{onePassCall}
 use Rattle.trio_desks.proofs.HandBack.{close-back, refused-back}
 use Rattle.trio_desks.specs.History.{History, opened, worked, merged, mergedOther, closed, partOf, rowsOf, Later, itself}
 use Rattle.trio_desks.specs.History.{then-worked, then-merged, merged-into, then-refused, then-closed, Promised}
-
-same-self : (a : List ℕ) → sameNumbers a a ≡ true
-same-self [] = refl
-same-self (x ∷ a) = rw (eq-eqb x x refl) (same-self a)
-
-same-swap : (a b : List ℕ) → sameNumbers a b ≡ sameNumbers b a
-same-swap [] [] = refl
-same-swap [] (y ∷ b) = refl
-same-swap (x ∷ a) [] = refl
-same-swap (x ∷ a) (y ∷ b) = ap₂ _&&_ (eqb-swap x y) (same-swap a b)
 
 -- two parts have one input, whichever is named first
 input-swap : (a b : Part) → sameInput a b ≡ sameInput b a
@@ -71,10 +66,16 @@ module _ (start : Part) where
   later-keeps r (then-refused l q o) e = later-keeps r l e
   later-keeps r (then-closed l) e = later-keeps r l e
 
--- start is an opened part: of the right shape, with no work in it, and its scores are numbers
-module _ (start : Part) (right-start : rightPart start ≡ true) (none : start ≡ withWork start noWork) (solid : (p : ℕ) → isNan (scoreIn start p) ≡ false) where
+-- an opened part: of the right shape, with the lists of its input and no work in it, and its scores are numbers
+pub record Fresh (start : Part) : Type 0 where
+  pub right : rightPart start ≡ true
+  pub lists : start .scores ≡ listsIn start
+  pub no-work : start ≡ withWork start noWork
+  pub numbers : (p : ℕ) → isNan (scoreIn start p) ≡ false
+
+module _ (start : Part) (fresh : Fresh start) where
   input-right : inputRight start ≡ true
-  input-right = right-input start right-start
+  input-right = right-input start (fresh .right)
 
   abbrev rows : ℕ
   rows = rowCount start
@@ -87,7 +88,9 @@ module _ (start : Part) (right-start : rightPart start ≡ true) (none : start �
 
   shaped : Shaped rows (start .marks) (start .held)
   unfolding rightPart
-  shaped = right-shaped rows (start .marks) (start .held) (and-elim-right (inputRight start) (workRight rows (start .marks) (start .held)) right-start)
+  shaped =
+      right-shaped rows (start .marks) (start .held)
+      (and-elim-right (inputRight start) (workRight rows (start .marks) (start .held)) (fresh .right))
 
   some-width : 0 < width
   some-width = mul-pos (shaped .some) (shaped .some)
@@ -98,23 +101,40 @@ module _ (start : Part) (right-start : rightPart start ≡ true) (none : start �
   module _ (w : ℕ → Bool) (v : Work) (s : IsSound w v) where
     right-with : rightPart (withWork start v) ≡ true
     unfolding rightPart inputRight
-    right-with = rw input-right (work-right solid (shaped .some) (shaped .few) s)
+    right-with = rw input-right (work-right (fresh .numbers) (shaped .some) (shaped .few) s)
+
+    held-as : heldList (heldOf (v .held)) ≡ v .held
+    held-as = held-back (InRows width score w) (v .held) (s .held-best)
 
     work-back : workIn (withWork start v) ≡ v
-    work-back = λ i. record { marks = v .marks; held = held-back (InRows width score w) (v .held) (s .held-best) i }
+    work-back = λ i. record { marks = v .marks; held = held-as i }
+
+    -- what it holds are triples with their scores
+    sound-with : soundPart (withWork start v) ≡ true
+    sound-with =
+        true-sound (withWork start v)
+        (record {
+          shape = right-with;
+          lists = fresh .lists;
+          entries = λ e i.
+              best-in beatsOf 2 (InRows width score w) (v .held) (s .held-best) e (subst (λ (l : List Entry). In l e) held-as i) .0;
+        })
 
     -- what a row gives
     row-on : (r : ℕ) → rowStep (withWork start v) r
         ≡ cond (ltb r rows) (gives Done (withWork start (joined v (rowWork width score r)))) (gives Row (withWork start v))
     unfolding rowStep
     row-on r =
-        rw right-with
-        (ap (λ (z : Work). cond (ltb r rows) (gives Done (withWork start (joined z (rowWork width score r)))) (gives Row (withWork start v))) work-back)
+        rw sound-with
+        (ap (λ (z : Work). cond (ltb r rows) (gives Done (withWork start (joined z (rowWork width score r)))) (gives Row (withWork start v)))
+        work-back)
 
-    other-on : (q : Part) → T (not (rightPart q && sameInput start q))
-        → mergeStep (withWork start v) q ≡ gives (cond (rightPart q) OtherTrio BadPart) (withWork start v)
+    other-on : (q : Part) → T (not (soundPart q && sameInput start q))
+        → mergeStep (withWork start v) q ≡ gives (cond (soundPart q) OtherTrio BadPart) (withWork start v)
     unfolding mergeStep sameInput
-    other-on q o = rw right-with (go (rightPart q) (sameInput start q) o (withWork (withWork start v) (joined (workIn (withWork start v)) (workIn q))))
+    other-on q o =
+        rw sound-with
+        (go (soundPart q) (sameInput start q) o (withWork (withWork start v) (joined (workIn (withWork start v)) (workIn q))))
       where
         go : (t u : Bool) → T (not (t && u)) → (p : Part)
             → cond t (cond u (gives Done p) (gives OtherTrio (withWork start v))) (gives BadPart (withWork start v))
@@ -124,12 +144,12 @@ module _ (start : Part) (right-start : rightPart start ≡ true) (none : start �
         go false u n p = refl
 
     -- theirs comes first, and comes back
-    second-on : (q : Part) → T (not (rightPart q && sameInput start q))
-        → mergeStep q (withWork start v) ≡ gives (cond (rightPart q) OtherTrio BadPart) q
+    second-on : (q : Part) → T (not (soundPart q && sameInput start q))
+        → mergeStep q (withWork start v) ≡ gives (cond (soundPart q) OtherTrio BadPart) q
     unfolding mergeStep sameInput
     second-on q o =
-        rw (right-with, input-swap q (withWork start v))
-        (go (rightPart q) (sameInput start q) o (withWork q (joined (workIn q) (workIn (withWork start v)))))
+        rw (sound-with, input-swap q (withWork start v))
+        (go (soundPart q) (sameInput start q) o (withWork q (joined (workIn q) (workIn (withWork start v)))))
       where
         go : (t u : Bool) → T (not (t && u)) → (p : Part)
             → cond (t && true) (cond u (gives Done p) (gives OtherTrio q)) (gives BadPart q) ≡ gives (cond t OtherTrio BadPart) q
@@ -147,14 +167,14 @@ module _ (start : Part) (right-start : rightPart start ≡ true) (none : start �
       → mergeStep (withWork start v) (withWork start z) ≡ gives Done (withWork start (joined v z))
   unfolding mergeStep
   merge-on w u v z s t =
-      rw (right-with w v s, right-with u z t, same-on v z)
+      rw (sound-with w v s, sound-with u z t, same-on v z)
       (ap (λ (x : Work). gives Done (withWork start (joined x (workIn (withWork start z))))) (work-back w v s)
       ∙ ap (λ (x : Work). gives Done (withWork start (joined v x))) (work-back u z t))
 
   -- a part is the input with sound work for the rows worked into it
   came : (h : History start) → (v : Work) × (partOf start h ≡ withWork start v) × IsSound (rowsOf start h) v
   unfolding partOf rowsOf
-  came opened = (noWork, none, none-sound)
+  came opened = (noWork, fresh .no-work, none-sound)
   came (worked h r) =
       let c = came h in (
         cond (ltb r rows) (joined (c .0) (rowWork width score r)) (c .0),
@@ -191,13 +211,13 @@ module _ (start : Part) (right-start : rightPart start ≡ true) (none : start �
     complete-on : ((r : ℕ) → r < rows → w r ≡ true) → closeStep (withWork start v) ≡ onePassCall start
     unfolding closeStep
     complete-on all =
-        rw (right-with w v s, eq-eqb (v .marks) (fullMarks rows) (sound-full s all))
+        rw (sound-with w v s, eq-eqb (v .marks) (fullMarks rows) (sound-full s all))
         (ap (λ (z : Work). closedAs (withWork start z)) (whole all))
 
     incomplete-on : (r : ℕ) → r < rows → w r ≡ false → closeStep (withWork start v) ≡ refusedClosing NotComplete (withWork start v)
     unfolding closeStep
     incomplete-on r k e =
-        rw (right-with w v s, ne-eqb (v .marks) (fullMarks rows) (sound-not-full s r k e))
+        rw (sound-with w v s, ne-eqb (v .marks) (fullMarks rows) (sound-not-full s r k e))
 
     accepted-on : (r : ℕ) → rowStep (withWork start v) r .refusal ≡ cond (ltb r rows) Done Row
     accepted-on r = ap (λ (x : Stepped). x .refusal) (row-on w v s r) ∙ go (ltb r rows)
@@ -218,8 +238,9 @@ module _ (start : Part) (right-start : rightPart start ≡ true) (none : start �
       let c = came h in
       let l = held-back (InRows width score (rowsOf start h)) (c .0 .held) (c .2 .held-best) in
       record {
-        right = ap rightPart (c .1) ∙ right-with (rowsOf start h) (c .0) (c .2);
+        sound = ap soundPart (c .1) ∙ sound-with (rowsOf start h) (c .0) (c .2);
         input-kept = (ap (λ (p : Part). p .clusters) (c .1), ap (λ (p : Part). p .counts) (c .1), ap (λ (p : Part). p .weights) (c .1));
+        lists-are = ap (λ (p : Part). p .scores) (c .1) ∙ fresh .lists;
         marks-are = λ r. ap (λ (p : Part). isMarked (p .marks) r) (c .1) ∙ c .2 .marks-are r;
         held-best = subst (Best beatsOf 2 (InRows width score (rowsOf start h))) (sym (ap (λ (p : Part). heldList (p .held)) (c .1) ∙ l)) (c .2 .held-best);
         incomplete = λ r k f.
@@ -230,13 +251,13 @@ module _ (start : Part) (right-start : rightPart start ≡ true) (none : start �
             ap closeStep (d .1) ∙ complete-on (rowsOf start k) (d .0) (d .2) (λ r m. later-keeps start r l (all r m));
         row-accepted = λ r. ap (λ (p : Part). rowStep p r .refusal) (c .1) ∙ accepted-on (rowsOf start h) (c .0) (c .2) r;
         other-refused = λ q o.
-            subst (λ (p : Part). mergeStep p q ≡ gives (cond (rightPart q) OtherTrio BadPart) p) (sym (c .1)) (other-on (rowsOf start h) (c .0) (c .2) q o);
+            subst (λ (p : Part). mergeStep p q ≡ gives (cond (soundPart q) OtherTrio BadPart) p) (sym (c .1)) (other-on (rowsOf start h) (c .0) (c .2) q o);
         merge-accepted = λ k.
             let d = came k in
             ap (λ (p : Part). mergeStep p (partOf start k) .refusal) (c .1) ∙ ap (λ (p : Part). mergeStep (withWork start (c .0)) p .refusal) (d .1)
             ∙ ap (λ (s : Stepped). s .refusal) (merge-on (rowsOf start h) (rowsOf start k) (c .0) (d .0) (c .2) (d .2));
         handed-back = λ s. refused-back s (partOf start h);
         refused-second = λ q o.
-            subst (λ (p : Part). mergeStep q p ≡ gives (cond (rightPart q) OtherTrio BadPart) q) (sym (c .1))
+            subst (λ (p : Part). mergeStep q p ≡ gives (cond (soundPart q) OtherTrio BadPart) q) (sym (c .1))
             (second-on (rowsOf start h) (c .0) (c .2) q o);
       }

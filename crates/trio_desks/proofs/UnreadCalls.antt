@@ -19,15 +19,14 @@ use Rattle.trio_parts.specs.declared.part.Stepped.{Stepped}
 use Rattle.trio_family.specs.declared.sample.Sample.{Sample}
 use Rattle.trio_family.specs.declared.sample.Sample.the-variants.{Child, Father, Mother}
 use Rattle.trio_family.specs.Numbers.{sampleNumber}
-use Rattle.trio_family.specs.Genotypes.{genotypeCount}
-use Rattle.trio_triples.specs.Genotypes.{genotypeAt, rowWidth, tripleAt, tripleOf}
+use Rattle.trio_family.specs.Genotypes.{genotypeCount, genotypeAt}
+use Rattle.trio_triples.specs.Genotypes.{rowWidth, tripleAt, tripleOf}
 use Rattle.lists.specs.Lists.{numbers, padded}
 use Rattle.lists.proofs.PaddedLaws.{padded-at}
 use Rattle.trio_samples.specs.Samples.{upToEight, reads, sum, columnTotal}
-use Rattle.trio_parts.specs.Part.{rowCount, freshPart}
+use Rattle.trio_parts.specs.Part.{scoreIn, rowCount, freshPart}
 use Rattle.trio_parts.proofs.RightLaws.{right-input}
 use Rattle.trio_opening.specs.Opening.{openStep}
-use Rattle.trio.specs.Steps.{scoreIn}
 use Rattle.trio_reads.specs.Unread.{unread}
 use Rattle.trio_closings.specs.Closing.{closedAs}
 use Rattle.trio_quality.specs.Quality.{trioQuality}

@@ -1,5 +1,5 @@
 -- The call of a whole trio. Definitions only (RULES.md, D2, T5, T9).
-use Prim.Native.Nat.{ℕ, zero, suc}
+use Prim.Native.Nat.{ℕ}
 use mathlib.Core.Bool.{cond}
 use mathlib.Core.List.{List}
 use lib.Dec.{eqb}
@@ -10,9 +10,8 @@ use Rattle.trio_closings.specs.declared.closing.Closed.{Closed}
 use Rattle.trio_parts.specs.declared.part.Part.{Part}
 use Rattle.trio_parts.specs.declared.part.Stepped.{Stepped}
 use Rattle.trio_triples.specs.Genotypes.{rowWidth}
-use Rattle.trio_parts.specs.Part.{rowCount, withWork}
+use Rattle.trio_parts.specs.Part.{scoreIn, rowCount, withWork}
 use Rattle.trio_opening.specs.Opening.{openStep}
-use Rattle.trio.specs.Steps.{scoreIn, rowStep}
 use Rattle.trio_closings.specs.Closing.{closedAs, refusedClosing}
 
 -- D3, T5: what one undivided pass over the input of a part says: it keeps the best triple and the best of the rest, a later equal score
@@ -27,11 +26,3 @@ calledBy o = cond (eqb (numberOf (o .refusal)) 0) (onePassCall (o .part)) (refus
 -- D2: the whole call, of a cluster number, counts and weights
 abbrev pub callOf : ℕ → List ℕ → List Float → Closed
 callOf n counts weights = calledBy (openStep n counts weights)
-
--- ---- for the code
-
--- T6: the part after its first k rows, in rising order; with all of them, closing it is the call: `worked-call`
--- (trio_desks/proofs/Demand.antt)
-unfoldable pub workedTo : Part → ℕ → Part
-workedTo p zero = p
-workedTo p (suc k) = rowStep (workedTo p k) k .part

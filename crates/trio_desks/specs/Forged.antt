@@ -1,12 +1,13 @@
--- For the laws: a part of the right shape that nobody's work made. Definitions only (RULES.md, S2).
+-- For the laws: a sound part that nobody's work made. Definitions only (RULES.md, S2, S4).
+use mathlib.Core.Bool.{true}
 use mathlib.Core.List.{[], _∷_}
-use Rattle.floats.specs.F64.{nat}
+use lib.Ieee.{inf}
 use Rattle.trio_parts.specs.declared.part.Part.{Part}
 use Rattle.trio_parts.specs.Part.{freshPart, withWork}
 
--- S2: two clusters without reads, all rows marked, and the first two triples held with scores that nobody worked out. Its shape is right,
--- and it calls what one pass does not: `forged-right`, `forged-lies` (trio_desks/proofs/Forged.antt)
+-- S2, S4: two clusters without reads, all rows marked, and the triples at positions 1 and 0 held, each with its own score, minus infinity.
+-- It is sound, and it calls what one pass does not: `forged-sound`, `forged-calls-another` (trio_desks/proofs/Forged.antt)
 unfoldable pub forged : Part
 forged =
     withWork (freshPart 2 [] [])
-    (record { marks = 7; held = record { position = 0; score = nat 1 } ∷ record { position = 1; score = nat 0 } ∷ [] })
+    (record { marks = 7; held = record { position = 1; score = inf true } ∷ record { position = 0; score = inf true } ∷ [] })

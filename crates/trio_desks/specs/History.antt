@@ -12,10 +12,10 @@ use Rattle.trio_entries.specs.Rank.{beatsOf}
 use Rattle.trio_search.specs.Work.{InRows}
 use Rattle.trio_parts.specs.declared.part.Part.{Part}
 use Rattle.trio_triples.specs.Genotypes.{rowWidth}
-use Rattle.trio_parts.specs.Part.{rowCount, gives}
-use Rattle.trio_parts.specs.Right.{rightPart}
+use Rattle.trio_parts.specs.Part.{listsIn, scoreIn, rowCount, gives}
+use Rattle.trio_parts.specs.Sound.{soundPart}
 use Rattle.trio_parts.specs.Same.{sameInput}
-use Rattle.trio.specs.Steps.{scoreIn, rowStep, mergeStep}
+use Rattle.trio.specs.Steps.{rowStep, mergeStep}
 use Rattle.trio_closings.specs.Closing.{closeStep, refusedClosing}
 use Rattle.trio_desks.specs.Call.{onePassCall}
 use Rattle.trio_desks.specs.Steps.{Step, refusalOf, partAfter}
@@ -28,8 +28,8 @@ pub data History (start : Part) : Type 0 where
   worked : History start → ℕ → History start
   -- two parts of the input merged, also a part with itself
   merged : History start → History start → History start
-  -- merged with a part of a wrong shape or of another input, which is refused
-  mergedOther : History start → (q : Part) → T (not (rightPart q && sameInput start q)) → History start
+  -- merged with a part that is not sound or of another input, which is refused
+  mergedOther : History start → (q : Part) → T (not (soundPart q && sameInput start q)) → History start
   -- closed, too early or not
   closed : History start → History start
 
@@ -60,16 +60,18 @@ module _ (start : Part) where
     then-worked : {k : History start} → Later h k → (r : ℕ) → Later h (worked k r)
     then-merged : {k : History start} → Later h k → (l : History start) → Later h (merged k l)
     merged-into : {k : History start} → Later h k → (l : History start) → Later h (merged l k)
-    then-refused : {k : History start} → Later h k → (q : Part) (o : T (not (rightPart q && sameInput start q)))
+    then-refused : {k : History start} → Later h k → (q : Part) (o : T (not (soundPart q && sameInput start q)))
         → Later h (mergedOther k q o)
     then-closed : {k : History start} → Later h k → Later h (closed k)
 
   -- D3, and D1 and O2 for what is refused: what is promised of the part that a history ends with
   pub record Promised (h : History start) : Type 0 where
-    -- its shape is right, so that no step refuses it as a bad part
-    pub right : rightPart (partOf h) ≡ true
+    -- it is sound, so that no step refuses it as a bad part
+    pub sound : soundPart (partOf h) ≡ true
     -- its input is the one that was opened
     pub input-kept : (partOf h .clusters ≡ start .clusters) × (partOf h .counts ≡ start .counts) × (partOf h .weights ≡ start .weights)
+    -- its lists are what that input says
+    pub lists-are : partOf h .scores ≡ listsIn start
     -- its marks are those rows and no others
     pub marks-are : (r : ℕ) → isMarked (partOf h .marks) r ≡ rowsOf h r
     -- what it holds are the two best of the triples of these rows, fewer only where there are no more
@@ -83,12 +85,12 @@ module _ (start : Part) where
     -- a row is accepted exactly when there is such a row
     pub row-accepted : (r : ℕ) → rowStep (partOf h) r .refusal ≡ cond (ltb r (rowCount start)) Done Row
     -- a merge with a bad part is refused as such, one with a part of another input as that, and either hands the part back
-    pub other-refused : (q : Part) → T (not (rightPart q && sameInput start q))
-        → mergeStep (partOf h) q ≡ gives (cond (rightPart q) OtherTrio BadPart) (partOf h)
+    pub other-refused : (q : Part) → T (not (soundPart q && sameInput start q))
+        → mergeStep (partOf h) q ≡ gives (cond (soundPart q) OtherTrio BadPart) (partOf h)
     -- and a merge with the part of another history is always accepted
     pub merge-accepted : (k : History start) → mergeStep (partOf h) (partOf k) .refusal ≡ Done
     -- whatever step is not answered with Done, the part that comes back is the one that was given
     pub handed-back : (s : Step) → refusalOf s (partOf h) ≢ Done → partAfter s (partOf h) ≡ partOf h
     -- as the second of somebody's merge, theirs being a bad part or one of another input: refused as such, and theirs comes back
-    pub refused-second : (q : Part) → T (not (rightPart q && sameInput start q))
-        → mergeStep q (partOf h) ≡ gives (cond (rightPart q) OtherTrio BadPart) q
+    pub refused-second : (q : Part) → T (not (soundPart q && sameInput start q))
+        → mergeStep q (partOf h) ≡ gives (cond (soundPart q) OtherTrio BadPart) q

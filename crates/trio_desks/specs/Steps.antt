@@ -1,6 +1,6 @@
 -- For the laws: the part that is opened, and the steps that take a part, as one kind of thing. Definitions only (RULES.md, T6, O1, O2, O3).
 use Prim.Native.Nat.{ℕ}
-use mathlib.Core.List.{List}
+use mathlib.Core.List.{List, [], _∷_}
 use lib.Ieee.{Float}
 use Rattle.refusals.specs.declared.Refusal.{Refusal}
 use Rattle.trio_parts.specs.declared.part.Part.{Part}
@@ -29,3 +29,8 @@ abbrev pub partAfter : Step → Part → Part
 partAfter (work r) p = rowStep p r .part
 partAfter (mergeWith q) p = mergeStep p q .part
 partAfter close p = closeStep p .part
+
+-- T6: the part after the rows of a list, worked one after the other
+abbrev pub workedRows : Part → List ℕ → Part
+workedRows p [] = p
+workedRows p (r ∷ more) = workedRows (rowStep p r .part) more

@@ -1,28 +1,36 @@
-// The call of a whole trio: opened, every row worked, and closed (docs/RULES.md, D2).
+// The call of a whole trio: opened, searched and closed in one go (docs/RULES.md, D2). The lists are filled once, and nothing is checked
+// again.
 ghost use mathlib.Core.Path.{_≡_};
-ghost use Rattle.trio.specs.Steps.{rowsIn};
-ghost use Rattle.trio_desks.specs.Call.{callOf, workedTo};
-use trio::rows::row_count;
-use trio::rows::work_row;
+ghost use Prim.Native.Nat.{_≤_};
+ghost use Rattle.trio_search.specs.Work.{wholeWork};
+ghost use Rattle.trio_triples.specs.Genotypes.{rowWidth};
+ghost use Rattle.trio_parts.specs.Part.{listsIn, scoreIn, rowCount, withWork};
+ghost use Rattle.trio_desks.specs.Call.{callOf};
 use trio_closings::closing::Closed;
-use trio_closings::closing::close;
+use trio_closings::closing::closed_as;
 use trio_closings::closing::refused_closing;
+use trio_family::genotypes::genotype_count;
 use trio_opening::opening::open_part;
 use trio_parts::part::Part;
+use trio_stored::rows::best_of_all;
 
-// The part with every row worked into it, in rising order.
-fn all_rows(p: Part) -> Part
-    ensures { λ r. ⌜ r ≡ workedTo p (rowsIn p) ⌝ }
+// The input of p and its lists, with every row marked and the best two of all triples, which are found over the lists.
+fn searched(p: Part) -> Part
+    requires { ⌜ (1 ≤ p .clusters) × (p .clusters ≤ 8) × (p .scores ≡ listsIn p) ⌝ }
+    ensures { λ r. ⌜ r ≡ withWork p (wholeWork (rowCount p) (rowWidth (p .clusters)) (scoreIn p)) ⌝ }
 {
-    let rows = row_count(p);
-    let mut part = p;
-    let mut r: u64 = 0;
-    while r < rows {
-        let s = work_row(part, r);
-        part = s.part;
-        r += 1;
+    let counts = p.counts;
+    let weights = p.weights;
+    let scores = p.scores;
+    let rows = genotype_count(p.clusters as u32);
+    Part {
+        clusters: p.clusters,
+        counts,
+        weights,
+        scores,
+        marks: (1 << rows) - 1,
+        held: best_of_all(p.clusters, scores),
     }
-    part
 }
 
 // The call of n clusters with these counts and weights, or the opening's refusal with zeros.
@@ -33,7 +41,7 @@ pub fn call(n: u64, counts: &[u32], weights: &[f64]) -> Closed
     let refusal = opened.refusal;
     let part = opened.part;
     if refusals::number(refusal) == 0 {
-        return close(all_rows(part));
+        return closed_as(searched(part));
     }
     refused_closing(refusal, part)
 }

@@ -6,6 +6,7 @@ ghost use Rattle.trio_entries.specs.Rank.{beatsOf};
 use floats::key::key;
 
 // A position of the search and its score.
+#[repr(C)]
 pub struct Entry {
     pub position: u64,
     pub score: f64,

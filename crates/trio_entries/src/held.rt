@@ -9,6 +9,7 @@ use crate::entry::Entry;
 use crate::entry::beats;
 
 // The best entries so far, better first: `count` of them, unused places zero.
+#[repr(C)]
 pub struct Held {
     pub count: u64,
     pub first: Entry,

@@ -24,6 +24,8 @@ use Rattle.trio_search_laws.proofs.WordLaws.{full-marked, marked-full}
 use Rattle.trio_parts.specs.declared.part.Part.{Part}
 use Rattle.trio_parts.specs.Part.{rowCount}
 use Rattle.trio_parts.specs.Right.{inputRight, rightPart}
+use Rattle.trio_parts.specs.Sound.{soundPart}
+use Rattle.trio_parts.proofs.SoundLaws.{sound-right}
 use Rattle.trio_closings.specs.declared.closing.Closed.{Closed}
 use Rattle.trio_closings.specs.Closing.{closedAs, refusedClosing, closeBy, closeStep}
 use Rattle.trio_meanings.specs.Marked.{SomeUnmarked, AllMarked, ClosesWith}
@@ -35,7 +37,7 @@ module _ (p : Part) where
   -- what holds of two answers to a complete part, and of every refusal with itself, holds of closing by the two
   pub closing-both : (R : Closed → Closed → Type 0) (says other : Part → Closed) → R (says p) (other p)
       → ((r : Refusal) → r ≢ Done → R (refusedClosing r p) (refusedClosing r p)) → R (closeBy says p) (closeBy other p)
-  closing-both R says other both refused = go (rightPart p) (eqb (p .marks) (fullMarks (rowCount p)))
+  closing-both R says other both refused = go (soundPart p) (eqb (p .marks) (fullMarks (rowCount p)))
     where
       go : (t u : Bool) → R
           (cond t (cond u (says p) (refusedClosing NotComplete p)) (refusedClosing BadPart p))
@@ -70,17 +72,19 @@ module _ (p : Part) where
       let l : s .0 < rows = omega (arith, s .1, numbers-length 0 rows) in
       (s .0, l, ap marked (sym (number-at 0 rows (s .0) l ∙ zero-add (s .0))) ∙ s .2)
 
-  -- the word of a part of the right shape is full exactly where every row is marked
-  full-settles : rightPart p ≡ true → Settles full (AllMarked p) (SomeUnmarked p)
+  -- the word of a sound part is full exactly where every row is marked
+  full-settles : soundPart p ≡ true → Settles full (AllMarked p) (SomeUnmarked p)
   unfolding rightPart
-  full-settles right =
+  full-settles sound =
       settled full (AllMarked p) (SomeUnmarked p)
       (λ e r l. ap (λ m. isMarked m r) (eqb-true (p .marks) (fullMarks rows) e) ∙ full-marked rows r l)
       (λ e. go e (every marked (numbers 0 rows)) refl)
       (λ a s. true≢false (sym (a (s .0) (s .1)) ∙ s .2))
     where
       shaped : Shaped rows (p .marks) (p .held)
-      shaped = right-shaped rows (p .marks) (p .held) (and-elim-right (inputRight p) (workRight rows (p .marks) (p .held)) right)
+      shaped =
+          right-shaped rows (p .marks) (p .held)
+          (and-elim-right (inputRight p) (workRight rows (p .marks) (p .held)) (sound-right p sound))
 
       go : full ≡ false → (t : Bool) → every marked (numbers 0 rows) ≡ t → SomeUnmarked p
       go e true f = absurd (eqb-false (p .marks) (fullMarks rows) e (marked-full rows (p .marks) (shaped .below) (all-or-some true f)))
@@ -88,9 +92,9 @@ module _ (p : Part) where
 
   given-says : ClosesWith p (closeStep p .refusal)
   unfolding closeStep closedAs refusedClosing
-  given-says = go (rightPart p) full refl refl
+  given-says = go (soundPart p) full refl refl
     where
-      go : (s t : Bool) → rightPart p ≡ s → full ≡ t
+      go : (s t : Bool) → soundPart p ≡ s → full ≡ t
           → ClosesWith p (cond s (cond t (closedAs p) (refusedClosing NotComplete p)) (refusedClosing BadPart p) .refusal)
       go true true e f = (e, full-settles e .holds f)
       go true false e f = (e, full-settles e .fails f)
@@ -116,9 +120,9 @@ module _ (p : Part) where
   pub closes-exactly : (r : Refusal) → (closeStep p .refusal ≡ r) ↔ ClosesWith p r
   closes-exactly r = (λ e. subst (ClosesWith p) e given-says, says-given r)
 
-  -- so of the right shape: refused with 10 exactly where some row has no mark, done exactly where every row has one
-  pub incomplete-exactly : rightPart p ≡ true → (closeStep p .refusal ≡ NotComplete) ↔ SomeUnmarked p
-  incomplete-exactly right = (λ e. closes-exactly NotComplete .0 e .1, λ s. closes-exactly NotComplete .1 (right, s))
+  -- so of a sound part: refused with 10 exactly where some row has no mark, done exactly where every row has one
+  pub incomplete-exactly : soundPart p ≡ true → (closeStep p .refusal ≡ NotComplete) ↔ SomeUnmarked p
+  incomplete-exactly sound = (λ e. closes-exactly NotComplete .0 e .1, λ s. closes-exactly NotComplete .1 (sound, s))
 
-  pub complete-exactly : rightPart p ≡ true → (closeStep p .refusal ≡ Done) ↔ AllMarked p
-  complete-exactly right = (λ e. closes-exactly Done .0 e .1, λ a. closes-exactly Done .1 (right, a))
+  pub complete-exactly : soundPart p ≡ true → (closeStep p .refusal ≡ Done) ↔ AllMarked p
+  complete-exactly sound = (λ e. closes-exactly Done .0 e .1, λ a. closes-exactly Done .1 (sound, a))

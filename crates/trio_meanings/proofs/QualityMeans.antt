@@ -63,57 +63,6 @@ closing-most p =
     (quality-most (unread (p .clusters) (p .counts)) (hasRunner (p .held)) (p .held .first .score) (p .held .second .score))
     (λ r given. omega arith)
 
--- ---- a tie of two finite scores
-
-module _ (p : Part) (f : Number (p .held .first .score)) (g : Number (p .held .second .score)) where
-  abbrev best : Float
-  best = p .held .first .score
-
-  abbrev next : Float
-  next = p .held .second .score
-
-  abbrev test : Dec (keyOf best ≡ keyOf next)
-  test = ℤ-discrete (keyOf best) (keyOf next)
-
-  -- what a complete part says whose animals all have reads and whose best score is shared, forged or not, whatever its ground
-  shared-finite : unread (p .clusters) (p .counts) ≡ false → tied (p .held) ≡ true → closedAs p .quality ≡ 3
-  unfolding closedAs tied
-  shared-finite u e = rw u (go (hasRunner (p .held)) (decide test) refl e)
-    where
-      go : (r t : Bool) → decide test ≡ t → (r && t) ≡ true → trioQuality false r best next ≡ 3
-      go true true d e = tied-three best next f g (decide-iff test .0 d)
-      go true false d e = absurd (true≢false (sym e))
-      go false t d e = absurd (true≢false (sym e))
-
-  -- Tied is such a part's ground
-  tied-says : closedAs p .ground ≡ Tied → (unread (p .clusters) (p .counts) ≡ false) × (tied (p .held) ≡ true)
-  unfolding closedAs
-  tied-says = go (unread (p .clusters) (p .counts)) (not (allelesRead read)) (tied (p .held))
-    where
-      read : TripleRead
-      read = tripleRead (p .counts) (tripleOf (p .clusters) (p .held .first .position))
-
-      go : (u i t : Bool) → groundBy u i t ≡ Tied → (u ≡ false) × (t ≡ true)
-      go true i t e = absurd (omega (arith, ap groundNumber e))
-      go false true t e = absurd (omega (arith, ap groundNumber e))
-      go false false true e = (refl, refl)
-      go false false false e = absurd (omega (arith, ap groundNumber e))
-
-  -- so whatever part closes with a best score that is shared has 3, Tied or Inferred
-  pub shared-closing : closeStep p .refusal ≡ Done → unread (p .clusters) (p .counts) ≡ false → tied (p .held) ≡ true
-      → closeStep p .quality ≡ 3
-  unfolding refusedClosing
-  shared-closing done u e =
-      closing-each p (λ d. d .refusal ≡ Done → d .quality ≡ 3) (λ d. shared-finite u e) (λ r other d. absurd (other d)) done
-
-  -- and whatever part closes as Tied
-  pub tied-closing : closeStep p .ground ≡ Tied → closeStep p .quality ≡ 3
-  unfolding refusedClosing
-  tied-closing =
-      closing-each p (λ d. d .ground ≡ Tied → d .quality ≡ 3)
-      (λ e. let says = tied-says e in shared-finite (says .0) (says .1))
-      (λ r other e. absurd (omega (arith, ap groundNumber e)))
-
 -- ---- kanpig's function of the best scores, which is not told whether an animal is unread
 
 kanpig-is : (r : Bool) (b n : Float) → kanpigQuality (b ∷ cond r (n ∷ []) []) ≡ pos (trioQuality false r b n)
@@ -316,6 +265,6 @@ module _ (n : ℕ) (counts : List ℕ) (weights : List Float) (accepted : openSt
 
       go : (t : Bool) → eqb (p .marks) (fullMarks (rowCount p)) ≡ t → Rated (closeStep p)
       go true e =
-          let marked = complete-exactly p (promised .right) .0 (unfold closedAs in rw (promised .right, e)) in
+          let marked = complete-exactly p (promised .sound) .0 (unfold closedAs in rw (promised .sound, e)) in
           worked-rated (λ r l. sym (promised .marks-are r) ∙ marked r (rw (promised .input-kept .0) l))
-      go false e = rw (promised .right, e) refl
+      go false e = rw (promised .sound, e) refl

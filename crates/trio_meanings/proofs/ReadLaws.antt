@@ -19,10 +19,10 @@ use Rattle.trio_family.specs.declared.pair.Triple.{Triple}
 use Rattle.trio_family.specs.declared.sample.Sample.{Sample}
 use Rattle.trio_family.specs.declared.sample.Sample.the-variants.{Child, Father, Mother}
 use Rattle.trio_family.specs.Numbers.{sampleNumber}
-use Rattle.trio_family.specs.Genotypes.{pair, pairsWith, pairsFrom, genotypes}
+use Rattle.trio_family.specs.Genotypes.{pair, pairsWith, pairsFrom, genotypes, genotypeAt}
 use Rattle.trio_samples.specs.Samples.{reads, columnTotal}
 use Rattle.trio_samples.proofs.SampleLaws.{in-use, count-at-most}
-use Rattle.trio_triples.specs.Genotypes.{genotypeAt, tripleAt, tripleOf}
+use Rattle.trio_triples.specs.Genotypes.{tripleAt, tripleOf}
 use Rattle.trio_triples.proofs.GenotypesLaws.{triple-within}
 use Rattle.trio_reads.specs.Flags.{hasRead, pairRead, tripleRead, bothRead, allelesRead}
 use Rattle.trio_meanings.specs.Grounds.{AllRead, pairOf, Names, CalledUnread, CalledRead, Tells, FlagsTell}

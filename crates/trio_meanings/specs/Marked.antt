@@ -8,7 +8,7 @@ use Rattle.refusals.specs.declared.Refusal.the-variants.{Row, OtherTrio, NotCom
 use Rattle.trio_search.specs.Marks.{isMarked}
 use Rattle.trio_parts.specs.declared.part.Part.{Part}
 use Rattle.trio_parts.specs.Part.{rowCount}
-use Rattle.trio_parts.specs.Right.{rightPart}
+use Rattle.trio_parts.specs.Sound.{soundPart}
 
 module _ (p : Part) where
   -- R10: a row of the search has no mark
@@ -21,9 +21,9 @@ module _ (p : Part) where
 
   -- O1: a bad part before a row without a mark (R12, R10), Done where neither holds; the others never
   abbrev pub ClosesWith : Refusal → Type 0
-  ClosesWith Done = (rightPart p ≡ true) × AllMarked
-  ClosesWith BadPart = rightPart p ≡ false
-  ClosesWith NotComplete = (rightPart p ≡ true) × SomeUnmarked
+  ClosesWith Done = (soundPart p ≡ true) × AllMarked
+  ClosesWith BadPart = soundPart p ≡ false
+  ClosesWith NotComplete = (soundPart p ≡ true) × SomeUnmarked
   ClosesWith NoCluster = ⊥
   ClosesWith TooMany = ⊥
   ClosesWith Shape = ⊥

@@ -1,15 +1,15 @@
--- A part as 39 numbers, and back. Definitions only (VECTORS.md, `part`).
-use Prim.Native.Nat.{ℕ, min, _+_, _<_, _^_}
+-- A part as 39 numbers and its lists of scores as 108, and back. Definitions only (VECTORS.md, `part`, `scores`).
+use Prim.Native.Nat.{ℕ, min, _+_}
 use mathlib.Core.Bool.{cond}
 use mathlib.Core.List.{List, [], _∷_, _++_, map}
-use mathlib.Core.Path.{_≡_}
-use lib.Dec.{T, leb}
-use lib.Ieee.{Float, binary64, fits, toBits, ofBits}
+use lib.Dec.{leb}
+use lib.Ieee.{Float, binary64, toBits, ofBits}
 use lib.ListN.{length, getD}
 use lib.Seq.{sets}
-use Rattle.limits.specs.Limits.{allFit}
 use Rattle.lists.specs.Lists.{numbers}
 use Rattle.trio_entries.specs.declared.entry.Entry.{Entry}
+use Rattle.trio_samples.specs.declared.scores.Scores.{Scores}
+use Rattle.trio_samples.specs.Scores.{scoresOf}
 use Rattle.trio_parts.specs.declared.part.Part.{Part}
 
 -- ---- the numbers of a part
@@ -30,9 +30,17 @@ firstNumbers p =
 unfoldable pub partNumbers : Part → List ℕ
 partNumbers p = firstNumbers p ++ (p .counts ++ map (toBits binary64) (p .weights))
 
+-- the bits of the scores of child, father and mother, 36 each
+unfoldable pub scoreNumbers : Scores → List ℕ
+scoreNumbers s = map (toBits binary64) (s .child) ++ (map (toBits binary64) (s .father) ++ map (toBits binary64) (s .mother))
+
+-- both, 147 numbers
+unfoldable pub allNumbers : Part → List ℕ
+allNumbers p = partNumbers p ++ scoreNumbers (p .scores)
+
 -- numbers, with those of a part in their places from `at` on; as they are where there is not room for all of them
 unfoldable pub partPut : List ℕ → ℕ → Part → List ℕ
-partPut l at p = cond (leb (at + 39) (length l)) (sets l at (partNumbers p)) l
+partPut l at p = cond (leb (at + 147) (length l)) (sets l at (allNumbers p)) l
 
 -- ---- the part of numbers: one that is not there counts as 0
 
@@ -44,32 +52,34 @@ asCount n = min n 4294967295
 unfoldable pub numbersCounts : List ℕ → List ℕ
 numbersCounts l = map (λ i. asCount (getD l i 0)) (numbers 7 24)
 
--- the floats of the 8 numbers behind those, at the places 31 to 38; a NaN's bits give a NaN
-unfoldable pub numbersWeights : List ℕ → List Float
-numbersWeights l = map (λ i. ofBits binary64 (getD l i 0)) (numbers 31 8)
+-- the floats of n numbers from a place on; a NaN's bits give a NaN
+unfoldable pub numbersFloats : List ℕ → ℕ → ℕ → List Float
+numbersFloats l from n = map (λ i. ofBits binary64 (getD l i 0)) (numbers from n)
+
+-- the three lists behind the 39 numbers, 36 numbers each
+unfoldable pub numbersScores : List ℕ → Scores
+numbersScores l = record { child = numbersFloats l 39 36; father = numbersFloats l 75 36; mother = numbersFloats l 111 36 }
 
 -- the entry whose position and whose score's bits stand at two places
 abbrev pub numbersEntry : List ℕ → ℕ → ℕ → Entry
 numbersEntry l position score = record { position = getD l position 0; score = ofBits binary64 (getD l score 0) }
 
--- each number where `partNumbers` has it
-unfoldable pub numbersPart : List ℕ → Part
-numbersPart l =
+-- each number where `partNumbers` has it, the 8 weights at the places 31 to 38; and these lists
+abbrev pub partWith : List ℕ → Scores → Part
+partWith l scores =
     record {
       clusters = getD l 0 0;
       counts = numbersCounts l;
-      weights = numbersWeights l;
+      weights = numbersFloats l 31 8;
+      scores = scores;
       marks = getD l 1 0;
       held = record { count = getD l 2 0; first = numbersEntry l 3 5; second = numbersEntry l 4 6 };
     }
 
--- ---- for the laws
+-- the part of 147 numbers, each where `allNumbers` has it
+unfoldable pub numbersPart : List ℕ → Part
+numbersPart l = partWith l (numbersScores l)
 
--- a part as its type has it: 24 counts that are u32s, 8 weights and two scores that are f64s
-pub record TypedPart (p : Part) : Type 0 where
-  pub counts-24 : length (p .counts) ≡ 24
-  pub counts-u32 : (i : ℕ) → getD (p .counts) i 0 < 2 ^ 32
-  pub weights-8 : length (p .weights) ≡ 8
-  pub weights-f64 : T (allFit (p .weights))
-  pub first-f64 : T (fits binary64 (p .held .first .score))
-  pub second-f64 : T (fits binary64 (p .held .second .score))
+-- the part of 39 numbers, its lists worked out
+unfoldable pub linePart : List ℕ → Part
+linePart l = partWith l (scoresOf (getD l 0 0) (numbersCounts l) (numbersFloats l 31 8))

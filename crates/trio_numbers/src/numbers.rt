@@ -1,17 +1,23 @@
-// A part as a row of numbers, and back (docs/VECTORS.md, `part`).
+// A part as a row of numbers, and back (docs/VECTORS.md, `part`): 39, as a line has them, and behind these the 108 of its lists of scores.
 ghost use mathlib.Core.Path.{_≡_};
 ghost use mathlib.Core.List.{_++_, map};
-ghost use Prim.Native.Nat.{_+_, _≤_};
 ghost use lib.Ieee.{binary64, toBits};
-ghost use lib.ListN.{length, getD, drop, replicate};
+ghost use lib.ListN.{drop, replicate};
 ghost use lib.Seq.{sets};
 ghost use Rattle.trio_numbers.specs.Numbers.{firstNumbers, partNumbers, partPut};
-ghost use Rattle.trio_numbers.specs.Numbers.{asCount, numbersCounts, numbersWeights, numbersEntry, numbersPart};
+ghost use Rattle.trio_numbers.specs.Numbers.{asCount, numbersCounts, numbersFloats, numbersEntry, partWith};
+ghost use Rattle.trio_numbers.specs.Numbers.{numbersPart, linePart};
+use crate::places::number_at;
+use crate::places::put_numbers;
+use crate::scores::score_numbers;
+use crate::scores::scores_at;
 use floats::bits::bits;
 use floats::bits::of_bits;
 use trio_entries::entry::Entry;
 use trio_entries::held::Held;
 use trio_parts::part::Part;
+use trio_samples::scores::Scores;
+use trio_samples::scores::fill_scores;
 
 // The seven numbers before the counts, and zeros.
 fn first_numbers(p: Part) -> [u64; 39]
@@ -63,28 +69,22 @@ pub fn numbers_of(p: Part) -> [u64; 39]
     numbers
 }
 
-fn put_numbers(numbers: &mut [u64], at: usize, row: [u64; 39])
-    requires { ⌜ at + 39 ≤ length (now numbers) ⌝ }
-    ensures { λ _. ⌜ now (numbers .exit) ≡ sets (now (numbers .entry)) at row ⌝ }
-{
-    let mut i: usize = 0;
-    while i < 39 {
-        numbers[at + i] = row[i];
-        i += 1;
-    }
-}
-
-// Puts the numbers of a part at the places from `at` on; where there is not room for all of them nothing changes.
+// Puts the numbers of a part, and behind them those of its scores, at the places from `at` on; where there is not room for all of them
+// nothing changes.
 pub fn put_part(numbers: &mut [u64], at: usize, p: Part)
     ensures { λ _. ⌜ now (numbers .exit) ≡ partPut (now (numbers .entry)) at p ⌝ }
 {
-    if numbers.len() < 39 {
+    if numbers.len() < 147 {
         return;
     }
-    if numbers.len() - 39 < at {
+    if numbers.len() - 147 < at {
         return;
     }
-    put_numbers(numbers, at, numbers_of(p));
+    let scores = p.scores;
+    let row = numbers_of(p);
+    let lists = score_numbers(scores);
+    put_numbers(numbers, at, &row);
+    put_numbers(numbers, at + 39, &lists);
 }
 
 fn as_count(n: u64) -> u32
@@ -94,19 +94,6 @@ fn as_count(n: u64) -> u32
         return u32::MAX;
     }
     n as u32
-}
-
-// The number i places behind `at`, 0 where there is none.
-fn number_at(numbers: &[u64], at: usize, i: usize) -> u64
-    ensures { λ r. ⌜ r ≡ getD (drop at (now (numbers .entry))) i 0 ⌝ }
-{
-    if numbers.len() <= at {
-        return 0;
-    }
-    if numbers.len() - at <= i {
-        return 0;
-    }
-    numbers[at + i]
 }
 
 fn counts_at(numbers: &[u64], at: usize) -> [u32; 24]
@@ -122,7 +109,7 @@ fn counts_at(numbers: &[u64], at: usize) -> [u32; 24]
 }
 
 fn weights_at(numbers: &[u64], at: usize) -> [f64; 8]
-    ensures { λ r. ⌜ r ≡ numbersWeights (drop at (now (numbers .entry))) ⌝ }
+    ensures { λ r. ⌜ r ≡ numbersFloats (drop at (now (numbers .entry))) 31 8 ⌝ }
 {
     let mut weights = [0.0f64; 8];
     let mut i: usize = 0;
@@ -142,9 +129,9 @@ fn entry_at(numbers: &[u64], at: usize, position: usize, score: usize) -> Entry
     }
 }
 
-// The part of the 39 numbers from a place on; a number that is not there counts as 0.
-pub fn part_at(numbers: &[u64], at: usize) -> Part
-    ensures { λ r. ⌜ r ≡ numbersPart (drop at (now (numbers .entry))) ⌝ }
+// The part of 39 numbers, with lists that are given.
+fn part_with(numbers: &[u64], at: usize, scores: Scores) -> Part
+    ensures { λ r. ⌜ r ≡ partWith (drop at (now (numbers .entry))) scores ⌝ }
 {
     let held = Held {
         count: number_at(numbers, at, 2),
@@ -155,7 +142,24 @@ pub fn part_at(numbers: &[u64], at: usize) -> Part
         clusters: number_at(numbers, at, 0),
         counts: counts_at(numbers, at),
         weights: weights_at(numbers, at),
+        scores,
         marks: number_at(numbers, at, 1),
         held,
     }
+}
+
+// The part of the 147 numbers from a place on; a number that is not there counts as 0.
+pub fn part_at(numbers: &[u64], at: usize) -> Part
+    ensures { λ r. ⌜ r ≡ numbersPart (drop at (now (numbers .entry))) ⌝ }
+{
+    part_with(numbers, at, scores_at(numbers, at))
+}
+
+// The part of the 39 numbers from a place on, with the lists worked out from them.
+pub fn line_part(numbers: &[u64], at: usize) -> Part
+    ensures { λ r. ⌜ r ≡ linePart (drop at (now (numbers .entry))) ⌝ }
+{
+    let n = number_at(numbers, at, 0);
+    let scores = fill_scores(n, counts_at(numbers, at), weights_at(numbers, at));
+    part_with(numbers, at, scores)
 }

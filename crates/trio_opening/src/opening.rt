@@ -1,4 +1,4 @@
-// Opening a trio: its counts and weights, checked and laid into a part (docs/RULES.md, O1, T6).
+// Opening a trio: its counts and weights, checked and laid into a part with the scores that they give (docs/RULES.md, O1, T6).
 ghost use mathlib.Core.Path.{_≡_};
 ghost use Prim.Native.Nat.{_≤_};
 ghost use Rattle.floats.specs.F64.{nat};
@@ -12,6 +12,7 @@ use refusals::Refusal;
 use trio_entries::held::Held;
 use trio_parts::part::Part;
 use trio_parts::part::Stepped;
+use trio_samples::scores::fill_scores;
 
 fn laid_counts(counts: &[u32]) -> [u32; 24]
     requires { ⌜ length (now counts) ≤ 24 ⌝ }
@@ -52,10 +53,13 @@ fn fresh_part(n: u64, counts: &[u32], weights: &[f64]) -> Part
     requires { ⌜ (length (now counts) ≤ 24) × (length (now weights) ≤ 8) ⌝ }
     ensures { λ r. ⌜ r ≡ freshPart n (now (counts .entry)) (now (weights .entry)) ⌝ }
 {
+    let laid = laid_counts(counts);
+    let weighed = laid_weights(weights);
     Part {
         clusters: n,
-        counts: laid_counts(counts),
-        weights: laid_weights(weights),
+        counts: laid,
+        weights: weighed,
+        scores: fill_scores(n, laid, weighed),
         marks: 0,
         held: Held::nothing(),
     }

@@ -18,3 +18,7 @@ module _ (p : Part) where
   pub few-clusters : inputRight p ≡ true → p .clusters ≤ 8
   unfolding inputRight
   few-clusters right = leb-true (p .clusters) 8 (and-elim-left (leb (p .clusters) 8) _ (and-elim-right (leb 1 (p .clusters)) _ right))
+
+  pub some-clusters : inputRight p ≡ true → 1 ≤ p .clusters
+  unfolding inputRight
+  some-clusters right = leb-true 1 (p .clusters) (and-elim-left (leb 1 (p .clusters)) _ right)

@@ -1,4 +1,4 @@
--- A part: its input and its work. Definitions only (RULES.md, S3, L3, T6, O3).
+-- A part: its input, the scores that come of it, and its work. Definitions only (RULES.md, S3, L3, T4, T6, O3).
 use Prim.Native.Nat.{ℕ}
 use mathlib.Core.Bool.{Bool}
 use mathlib.Core.List.{List, []}
@@ -9,6 +9,9 @@ use Rattle.limits.specs.Limits.{inRange}
 use Rattle.trio_entries.specs.Held.{heldOf, heldList}
 use Rattle.trio_search.specs.Work.{Work, noWork}
 use Rattle.trio_family.specs.Genotypes.{genotypeCount}
+use Rattle.trio_samples.specs.declared.scores.Scores.{Scores}
+use Rattle.trio_samples.specs.Scores.{scoresOf}
+use Rattle.trio_triples.specs.Score.{scoreOf}
 use Rattle.refusals.specs.declared.Refusal.{Refusal}
 use Rattle.trio_parts.specs.declared.part.Part.{Part}
 use Rattle.trio_parts.specs.declared.part.Stepped.{Stepped}
@@ -18,6 +21,16 @@ use Rattle.trio_parts.specs.declared.part.Stepped.{Stepped}
 -- L3: a weight from 0 to 1000, ends included, and no NaN
 unfoldable pub weightAllowed : Float → Bool
 weightAllowed x = inRange (nat 0) (nat 1000) x
+
+-- ---- what comes of it
+
+-- S3, T2: the lists of scores that the input of a part gives
+abbrev pub listsIn : Part → Scores
+listsIn p = scoresOf (p .clusters) (p .counts) (p .weights)
+
+-- T4: the score by which the input of a part is searched, by position
+abbrev pub scoreIn : Part → ℕ → Float
+scoreIn p = scoreOf (p .clusters) (p .counts) (p .weights)
 
 -- ---- the work
 
@@ -29,19 +42,28 @@ rowCount p = genotypeCount (p .clusters)
 abbrev pub workIn : Part → Work
 workIn p = record { marks = p .marks; held = heldList (p .held) }
 
--- S3: the input of p with other work
+-- S3: the input of p and its lists, with other work
 abbrev pub withWork : Part → Work → Part
-withWork p v = record { clusters = p .clusters; counts = p .counts; weights = p .weights; marks = v .marks; held = heldOf (v .held) }
+withWork p v =
+    record {
+      clusters = p .clusters;
+      counts = p .counts;
+      weights = p .weights;
+      scores = p .scores;
+      marks = v .marks;
+      held = heldOf (v .held);
+    }
 
 -- ---- parts of given lists
 
--- T6: an input with no row worked, for at most 24 counts and 8 weights, zeros behind them
+-- T6: an input with its lists and no row worked, for at most 24 counts and 8 weights, zeros behind them
 abbrev pub freshPart : ℕ → List ℕ → List Float → Part
 freshPart n counts weights =
     record {
       clusters = n;
       counts = padded 24 0 counts;
       weights = padded 8 (nat 0) weights;
+      scores = scoresOf n (padded 24 0 counts) (padded 8 (nat 0) weights);
       marks = noWork .marks;
       held = heldOf (noWork .held);
     }

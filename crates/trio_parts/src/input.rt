@@ -1,8 +1,8 @@
 // Whether two parts have the same input (docs/RULES.md, R9).
 ghost use mathlib.Core.Path.{_≡_};
-ghost use mathlib.Core.List.{map};
-ghost use lib.Ieee.{binary64, toBits};
-ghost use Rattle.trio_parts.specs.Same.{sameNumbers, sameInput};
+ghost use Rattle.lists.specs.Lists.{sameNumbers};
+ghost use Rattle.floats.specs.Bits.{sameBits};
+ghost use Rattle.trio_parts.specs.Same.{sameInput};
 use crate::part::Part;
 use floats::bits::bits;
 
@@ -21,7 +21,7 @@ fn same_counts(a: [u32; 24], b: [u32; 24]) -> bool
 
 // Bit for bit: 0.0 and -0.0 differ.
 fn same_weights(a: [f64; 8], b: [f64; 8]) -> bool
-    ensures { λ r. ⌜ r ≡ sameNumbers (map (toBits binary64) a) (map (toBits binary64) b) ⌝ }
+    ensures { λ r. ⌜ r ≡ sameBits a b ⌝ }
 {
     let mut i: usize = 0;
     while i < 8 {

@@ -1,14 +1,19 @@
-// A partial result: its input, the rows that have been worked, and the best two triples of those rows (docs/RULES.md, S3, F6).
+// A partial result: its input, the scores of the animals, the rows that have been worked, and the best two triples of those rows
+// (docs/RULES.md, S3, F6).
 ghost use mathlib.Core.Path.{_≡_};
 ghost use Rattle.trio_parts.specs.Part.{emptyPart};
 use refusals::Refusal;
 use trio_entries::held::Held;
+use trio_samples::scores::Scores;
 
-// Each cluster has three counts, of child, father and mother, and one weight. Places beyond the clusters are zero.
+// Each cluster has three counts, of child, father and mother, and one weight, and each animal a score for each genotype. Places that are not
+// in use are zero.
+#[repr(C)]
 pub struct Part {
     pub clusters: u64,
     pub counts: [u32; 24],
     pub weights: [f64; 8],
+    pub scores: Scores,
     pub marks: u64,
     pub held: Held,
 }
@@ -28,6 +33,7 @@ impl Part {
             clusters: 0,
             counts: [0u32; 24],
             weights: [0.0f64; 8],
+            scores: Scores::none(),
             marks: 0,
             held: Held::nothing(),
         }

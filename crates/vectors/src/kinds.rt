@@ -18,7 +18,6 @@ use text_reading::fields::field;
 use text_reading::fields::next_field;
 use text_reading::names::packed;
 use text_writing::laying::lay_signed;
-use trio_numbers::numbers::part_at;
 
 // The names, as `packed` has them: their bytes in ASCII.
 const LN: u64 = 0x6c6e;
@@ -53,6 +52,8 @@ const OPEN: u64 = 0x6f70656e;
 
 const PART: u64 = 0x70617274;
 
+const FORGE: u64 = 0x666f726765;
+
 const COPY: u64 = 0x636f7079;
 
 const ROW: u64 = 0x726f77;
@@ -63,8 +64,11 @@ const CLOSE: u64 = 0x636c6f7365;
 
 const SHOW: u64 = 0x73686f77;
 
-// The words of a question, a hexadecimal digit for each: 4 and 8 a whole number of so many bytes, f a float, 9 a register, c a cluster, 2 a
-// mode or a sample, 1 a flag; 3 three floats, d a part; a a list of u32 and b one of floats, at most one each, a first. 0 is no kind.
+const SCORES: u64 = 0x73636f726573;
+
+// The words of a question, a hexadecimal digit for each: 4 and 8 a whole number of so many bytes, f a float, 9 a register, c a cluster,
+// 2 a mode or a sample, 5 a place of a sample's list, 1 a flag; 3 three floats, d a part; a a list of u32 and b one of floats, at most one
+// each, a first. 0 is no kind.
 fn digits(name: u64) -> u64 {
     match name {
         LN | EXP | LOG10 | POW10 | LGAMMA | STIRLING | KEY => 0xf000_0000,
@@ -77,9 +81,10 @@ fn digits(name: u64) -> u64 {
         MOSAIC => 0x34a0_0000,
         OPEN => 0x94ab_0000,
         PART => 0x9d00_0000,
+        FORGE => 0x925f_0000,
         COPY | MERGE => 0x9900_0000,
         ROW => 0x9400_0000,
-        CLOSE | SHOW => 0x9000_0000,
+        CLOSE | SHOW | SCORES => 0x9000_0000,
         _ => 0,
     }
 }
@@ -130,18 +135,12 @@ fn listed(name: u64, words: &mut Words) -> Answer {
     of_lists(name, words, &counts[..n], &floats[..m])
 }
 
-// A part is copied from its line, or from a register.
-fn copied(words: &mut Words, from: usize) -> Answer {
-    let part = part_at(words, from);
-    registers::set(words, part);
-    write::short(0x1000_0000_0000_0000, 0, 0, 0, 0)
-}
-
 fn as_numbers(name: u64, words: &mut Words) -> Answer {
     match name {
         MENDEL => trio_cases::mendel(words),
-        PART => copied(words, 4),
-        COPY => copied(words, registers::start(words, 4)),
+        PART => trio_cases::part(words),
+        FORGE => trio_cases::forged(words),
+        COPY => trio_cases::copied(words),
         ROW => trio_cases::row(words),
         MERGE => trio_cases::merged(words),
         CLOSE => trio_cases::closing(words),
@@ -157,6 +156,7 @@ fn answered(name: u64, words: &mut Words, text: &mut Text, at: usize) -> usize {
         KEY => key(text, at, words::float(words, 0)),
         MOSAIC => animal_cases::mosaic(words, text, at),
         SHOW => registers::show(words, text, at),
+        SCORES => registers::scores(words, text, at),
         _ => write::lay_answer(text, at, as_numbers(name, words)),
     }
 }

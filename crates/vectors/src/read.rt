@@ -31,6 +31,7 @@ fn highest(digit: u64) -> u64 {
         4 => u32::MAX as u64,
         0xe => words::MOST as u64,
         9 => 9,
+        5 => 35,
         0xc => 7,
         1 => 1,
         _ => 2,

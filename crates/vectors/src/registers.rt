@@ -1,4 +1,5 @@
-// Ten registers, each of which holds the numbers of a part.
+// Ten registers, each of which holds the numbers of a part: the 39 that a line has, and behind them those of its lists of scores.
+ghost use Prim.Native.Nat.{_≤_};
 use crate::read::digit_at;
 use crate::words;
 use crate::words::Words;
@@ -7,11 +8,14 @@ use crate::write::Text;
 use trio_numbers::numbers::numbers_of;
 use trio_numbers::numbers::part_at;
 use trio_numbers::numbers::put_part;
+use trio_numbers::scores::score_numbers;
 use trio_parts::part::Part;
 
 // Where the register that a word names starts.
-pub fn start(words: &Words, at: usize) -> usize {
-    words::REGISTERS + 39 * words::many(words, at)
+fn start(words: &Words, at: usize) -> usize
+    ensures { λ r. ⌜ r ≤ 305217 ⌝ }
+{
+    words::REGISTERS + 147 * words::many(words, at)
 }
 
 // The part in the register that a word names.
@@ -25,17 +29,36 @@ pub fn set(words: &mut Words, part: Part) {
     put_part(words, to, part);
 }
 
-fn show_numbers(text: &mut Text, at: usize, numbers: [u64; 39]) -> usize {
+// Puts the float of the fourth word into the register that the first names: into the list of a sample, the second word, at a place, the
+// third.
+pub fn forge(words: &mut Words) {
+    let list = start(words, 0) + 39 + 36 * words::many(words, 4);
+    let to = list + words::many(words, 8);
+    let x = words::whole(words, 12);
+    words::put(words, to, x);
+}
+
+// Numbers as words: those of a part, or floats.
+fn show_numbers(text: &mut Text, at: usize, digit: u64, numbers: &[u64]) -> usize {
     let mut end = at;
     let mut i = 0;
-    while i < 39 {
-        end = write::word(text, end, digit_at(0xd, i), numbers[i]);
+    while i < numbers.len() {
+        end = write::word(text, end, digit_at(digit, i), numbers[i]);
         i += 1;
     }
     end
 }
 
-// The numbers in the register that the first word names.
+// The part in the register that the first word names, as a line has it.
 pub fn show(words: &Words, text: &mut Text, at: usize) -> usize {
-    show_numbers(text, at, numbers_of(part(words, 0)))
+    let numbers = numbers_of(part(words, 0));
+    show_numbers(text, at, 0xd, &numbers)
+}
+
+// The lists of that part: child's, father's, mother's.
+pub fn scores(words: &Words, text: &mut Text, at: usize) -> usize {
+    let part = part(words, 0);
+    let scores = part.scores;
+    let numbers = score_numbers(scores);
+    show_numbers(text, at, 0xf, &numbers)
 }

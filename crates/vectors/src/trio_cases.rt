@@ -16,7 +16,9 @@ use trio_family::pair::Pair;
 use trio_family::sample::Sample;
 use trio_mendel::mendel::distinct_pairs;
 use trio_mendel::mendel::mendelian_prior;
+use trio_numbers::numbers::line_part;
 use trio_opening::opening::open_part;
+use trio_parts::part::Part;
 use trio_parts::part::Stepped;
 use trio_quality::quality::trio_quality;
 use trio_reads::flags::TripleRead;
@@ -118,6 +120,28 @@ pub fn quality(words: &Words) -> Answer {
         words::float(words, 12),
     );
     write::whole(quality as u64)
+}
+
+// A part goes into the first register.
+fn put(words: &mut Words, part: Part) -> Answer {
+    registers::set(words, part);
+    write::ok()
+}
+
+// A line has no lists of scores: they are worked out.
+pub fn part(words: &mut Words) -> Answer {
+    let part = line_part(words, 4);
+    put(words, part)
+}
+
+pub fn copied(words: &mut Words) -> Answer {
+    let part = registers::part(words, 4);
+    put(words, part)
+}
+
+pub fn forged(words: &mut Words) -> Answer {
+    registers::forge(words);
+    write::ok()
 }
 
 // What came back from a step goes into the first register.

@@ -11,14 +11,21 @@ pub const COUNTS: usize = 63;
 
 pub const FLOATS: usize = 2112;
 
-// Where the words of a line end and the registers start.
+// Where the words of a line end and the registers start: ten, of 147 numbers each.
 pub const REGISTERS: usize = 4161;
 
-pub type Words = [u64; 4551];
+pub type Words = [u64; 5631];
 
 // The word at a place; 0 where there is no such place.
 pub fn whole(words: &Words, at: usize) -> u64 {
-    if at < 4551 { words[at] } else { 0 }
+    if at < 5631 { words[at] } else { 0 }
+}
+
+// Sets the word at a place, if there is one.
+pub fn put(words: &mut Words, at: usize, x: u64) {
+    if at < 5631 {
+        words[at] = x;
+    }
 }
 
 // A word that was read as a u32.
@@ -30,7 +37,7 @@ pub fn number(words: &Words, at: usize) -> u32 {
     n as u32
 }
 
-// A word as the length of a list or the number of a register.
+// A word as the length of a list or the number of a register, of a sample or of a place.
 pub fn many(words: &Words, at: usize) -> usize
     ensures { λ r. ⌜ r ≤ 2048 ⌝ }
 {
@@ -47,7 +54,7 @@ pub fn float(words: &Words, at: usize) -> f64 {
 
 // The n words from a place on, into the first n places.
 pub fn counts(words: &Words, at: usize, n: usize, counts: &mut [u32])
-    requires { ⌜ (at ≤ 4551) × (n ≤ length (now counts)) ⌝ }
+    requires { ⌜ (at ≤ 5631) × (n ≤ length (now counts)) ⌝ }
 {
     let mut i = 0;
     while i < n {
@@ -57,7 +64,7 @@ pub fn counts(words: &Words, at: usize, n: usize, counts: &mut [u32])
 }
 
 pub fn floats(words: &Words, at: usize, n: usize, floats: &mut [f64])
-    requires { ⌜ (at ≤ 4551) × (n ≤ length (now floats)) ⌝ }
+    requires { ⌜ (at ≤ 5631) × (n ≤ length (now floats)) ⌝ }
 {
     let mut i = 0;
     while i < n {

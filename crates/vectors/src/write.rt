@@ -89,6 +89,10 @@ pub fn short(digits: u64, x: u64, y: u64, z: u64, w: u64) -> Answer {
     [digits, x, y, z, w, 0, 0, 0, 0, 0, 0, 0, 0, 0, 0]
 }
 
+pub fn ok() -> Answer {
+    short(0x1000_0000_0000_0000, 0, 0, 0, 0)
+}
+
 pub fn unreadable() -> Answer {
     short(0x2000_0000_0000_0000, 0, 0, 0, 0)
 }

@@ -2,22 +2,22 @@
 use mathlib.Core.Bool.{true}
 use mathlib.Core.Path.{_≡_, sym, _∙_}
 use borrow.Author.Needs.{needs}
-use Rattle.trio_parts.specs.Right.{rightPart}
+use Rattle.trio_parts.specs.Sound.{soundPart}
 use Rattle.trio.specs.Steps.{mergeStep}
 use Rattle.trio.proofs.merging.merge.Statement.{statement}
 use Rattle.trio.proofs.merging.merge.Tie as tie
 
-right : (c : tie.Then1) → rightPart (c .before .before .args .a) ≡ true
-right c = sym (c .before .right-part .ensures) ∙ c .if1 .taken
+sound : (c : tie.Then1) → soundPart (c .before .before .args .a) ≡ true
+sound c = sym (c .before .sound-part .ensures .0) ∙ c .if1 .taken
 
-right-2 : (c : tie.Then2) → rightPart (c .before .before .before .before .args .b) ≡ true
-right-2 c = sym (c .before .right-part2 .ensures) ∙ c .if2 .taken
+sound-2 : (c : tie.Then2) → soundPart (c .before .before .before .before .args .b) ≡ true
+sound-2 c = sym (c .before .sound-part2 .ensures .0) ∙ c .if2 .taken
 
-right-part-requires : tie.Need-right-part-requires
-right-part-requires c κs = search needs
+sound-part-requires : tie.Need-sound-part-requires
+sound-part-requires c κs = search needs
 
-right-part-requires-2 : tie.Need-right-part-requires-2
-right-part-requires-2 c κs = search needs
+sound-part-requires-2 : tie.Need-sound-part-requires-2
+sound-part-requires-2 c κs = search needs
 
 same-input-requires : tie.Need-same-input-requires
 same-input-requires c κs = search needs
@@ -29,30 +29,30 @@ returns : tie.Need-returns
 unfolding mergeStep
 returns c =
     rw (
-      right (c .before .before .before .before .before),
-      right-2 (c .before .before .before),
+      sound (c .before .before .before .before .before),
+      sound-2 (c .before .before .before),
       sym (c .before .before .same-input .ensures) ∙ c .before .if3 .taken,
       c .joined .ensures,
     )
 
 returns-2 : tie.Need-returns-2
 unfolding mergeStep
-returns-2 c = rw (right (c .before .before .before .before), right-2 (c .before .before), sym (c .before .same-input .ensures) ∙ c .if3 .left)
+returns-2 c = rw (sound (c .before .before .before .before), sound-2 (c .before .before), sym (c .before .same-input .ensures) ∙ c .if3 .left)
 
 returns-3 : tie.Need-returns-3
 unfolding mergeStep
-returns-3 c = rw (right (c .before .before), sym (c .before .right-part2 .ensures) ∙ c .if2 .left)
+returns-3 c = rw (sound (c .before .before), sym (c .before .sound-part2 .ensures .0) ∙ c .if2 .left)
 
 returns-4 : tie.Need-returns-4
 unfolding mergeStep
-returns-4 c = rw (sym (c .before .right-part .ensures) ∙ c .if1 .left)
+returns-4 c = rw (sym (c .before .sound-part .ensures .0) ∙ c .if1 .left)
 
 pub merge-spec : {M : Type 1} → statement M
 merge-spec =
     tie.close
     (tie.spec
-    right-part-requires
-    right-part-requires-2
+    sound-part-requires
+    sound-part-requires-2
     same-input-requires
     joined-requires
     returns

@@ -1,36 +1,31 @@
--- `trio::rows::row_part` meets its contract. 36 rows of 36 * 36 positions fit a word, and 36 marks too.
-use Rattle.trio.proofs.RowCode.{row-end, marked-alone}
-use borrow.Author.Needs.{needs}
+-- `trio::rows::row_part` meets its contract. The lists are those of the input, so that what is found over them is the row's.
+use mathlib.Core.Path.{_≡_, ap, _∙_}
 use native.Mathlib.Omega.{arith}
+use borrow.Author.Needs.{needs}
+use Rattle.trio_samples.specs.declared.scores.Scores.{Scores}
+use Rattle.trio_family.proofs.GenotypesLaws.{genotypes-few}
+use Rattle.trio_stored.specs.Stored.{bestOfRow}
+use Rattle.trio_stored.proofs.StoredLaws.{row-stored}
+use Rattle.trio.proofs.RowCode.{marked-alone}
 use Rattle.trio.proofs.rows.row_part.Statement.{statement}
 use Rattle.trio.proofs.rows.row_part.Tie as tie
-
-mul-many : tie.Need-mul-many
-mul-many c =
-    let a = c .before .before .args in
-    let e = row-end (a .r) (a .g) (c .before .before .pre .0) (c .before .before .pre .1) in
-    omega arith
-
-mul-best-of : tie.Need-mul-best-of
-mul-best-of c =
-    let a = c .before .before .args in
-    let e = row-end (a .r) (a .g) (c .before .before .pre .0) (c .before .before .pre .1) in
-    omega arith
-
-best-of-requires : tie.Need-best-of-requires
-best-of-requires c κs =
-    let a = c .before .before .args in
-    let e = row-end (a .r) (a .g) (c .before .before .pre .0) (c .before .before .pre .1) in
-    omega arith
 
 row-marked-requires : tie.Need-row-marked-requires
 row-marked-requires c κs = search needs
 
+best-of-row-requires : tie.Need-best-of-row-requires
+best-of-row-requires c κs = search needs
+
 returns : tie.Need-returns
 returns c =
-    let pre = c .before .before .before .before .pre in
-    rw (c .before .best-of .ensures, c .row-marked .ensures, marked-alone (c .before .before .before .before .args .r) (omega arith))
+    let start = c .before .before .before .before .before in
+    let p = start .args .p in
+    let r = start .args .r in
+    let pre = start .pre in
+    let few = genotypes-few (p .clusters) (pre .1) in
+    let held = c .best-of-row .ensures ∙ ap (λ (l : Scores). bestOfRow (p .clusters) r l) (pre .3)
+    ∙ row-stored (p .clusters) (p .counts) (p .weights) (pre .0) (pre .1) r (pre .2) in
+    rw (held, c .before .row-marked .ensures, marked-alone r (omega arith))
 
 pub row-part-spec : {M : Type 1} → statement M
-row-part-spec =
-    tie.close (tie.spec mul-many mul-best-of best-of-requires row-marked-requires returns)
+row-part-spec = tie.close (tie.spec row-marked-requires best-of-row-requires returns)

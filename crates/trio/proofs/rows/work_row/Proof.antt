@@ -1,36 +1,44 @@
 -- `trio::rows::work_row` meets its contract. By each test in turn; a worked row is `row-done`.
-use Prim.Native.Nat.{ℕ, _≤_}
+use Prim.Native.Nat.{ℕ, _<_}
 use mathlib.Core.Bool.{true}
 use mathlib.Core.Path.{_≡_, sym, subst, _∙_}
 use native.Mathlib.Omega.{arith}
 use borrow.Author.Needs.{needs}
 use borrow.Author.Tests.{le-ltb}
 use Rattle.trio_parts.specs.Part.{rowCount}
-use Rattle.trio_parts.specs.Right.{rightPart}
-use Rattle.trio_parts.proofs.RightLaws.{right-input, few-clusters}
+use Rattle.trio_parts.specs.Sound.{soundPart}
+use Rattle.trio_parts.proofs.RightLaws.{right-input, some-clusters, few-clusters}
+use Rattle.trio_parts.proofs.SoundLaws.{sound-right}
 use Rattle.trio.specs.Steps.{rowStep}
 use Rattle.trio.proofs.RowCode.{row-done}
-use Rattle.trio_family.proofs.GenotypesLaws.{genotypes-few}
 use Rattle.trio.proofs.rows.work_row.Statement.{statement}
 use Rattle.trio.proofs.rows.work_row.Tie as tie
 
-right : (c : tie.Then1) → rightPart (c .before .before .args .p) ≡ true
-right c = sym (c .before .right-part .ensures) ∙ c .if1 .taken
+sound : (c : tie.Then1) → soundPart (c .before .before .args .p) ≡ true
+sound c = sym (c .before .sound-part .ensures .0) ∙ c .if1 .taken
 
-right-part-requires : tie.Need-right-part-requires
-right-part-requires c κs = search needs
+sound-part-requires : tie.Need-sound-part-requires
+sound-part-requires c κs = search needs
 
 cast-genotype-count : tie.Need-cast-genotype-count
-cast-genotype-count c = let p = c .before .before .before .args .p in let few = few-clusters p (right-input p (right (c .before))) in omega arith
+cast-genotype-count c =
+    let p = c .before .before .before .args .p in
+    let few = few-clusters p (right-input p (sound-right p (sound (c .before)))) in
+    omega arith
 
 genotype-count-requires : tie.Need-genotype-count-requires
 genotype-count-requires c κs = search needs
 
 row-part-requires : tie.Need-row-part-requires
 row-part-requires c κs =
-    let p = c .before .before .before .before .before .args .p in
-    let t = right (c .before .before .before) in
-    (c .if2 .taken, subst (λ (n : ℕ). n ≤ 36) (sym (c .before .genotype-count .ensures)) (genotypes-few (p .clusters) (few-clusters p (right-input p t))))
+    let tested = c .before .before .before in
+    let p = tested .before .before .args .p in
+    let input = right-input p (sound-right p (sound tested)) in (
+      some-clusters p input,
+      few-clusters p input,
+      subst (λ (n : ℕ). tested .before .before .args .r < n) (c .before .genotype-count .ensures) (c .if2 .taken),
+      tested .before .sound-part .ensures .1 (tested .if1 .taken),
+    )
 
 joined-requires : tie.Need-joined-requires
 joined-requires c κs = search needs
@@ -40,24 +48,24 @@ returns c =
     let a = c .before .before .before .before .before .before .before .args in
     let g = c .before .before .before .genotype-count in
     row-done (a .p) (c .before .row-part .result) (c .joined .result) (a .r) (g .result)
-    (right (c .before .before .before .before .before)) (c .before .before .if2 .taken) (g .ensures) (c .before .row-part .ensures) (c .joined .ensures)
+    (sound (c .before .before .before .before .before)) (c .before .before .if2 .taken) (g .ensures) (c .before .row-part .ensures) (c .joined .ensures)
 
 returns-2 : tie.Need-returns-2
 unfolding rowStep
 returns-2 c =
     let a = c .before .before .before .before .before .args in
     let g = c .before .genotype-count .ensures in
-    rw (right (c .before .before .before), le-ltb (a .r) (rowCount (a .p)) (omega arith))
+    rw (sound (c .before .before .before), le-ltb (a .r) (rowCount (a .p)) (omega arith))
 
 returns-3 : tie.Need-returns-3
 unfolding rowStep
-returns-3 c = rw (sym (c .before .right-part .ensures) ∙ c .if1 .left)
+returns-3 c = rw (sym (c .before .sound-part .ensures .0) ∙ c .if1 .left)
 
 pub work-row-spec : {M : Type 1} → statement M
 work-row-spec =
     tie.close
     (tie.spec
-    right-part-requires
+    sound-part-requires
     cast-genotype-count
     genotype-count-requires
     row-part-requires

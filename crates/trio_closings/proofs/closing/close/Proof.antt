@@ -7,14 +7,15 @@ use borrow.Author.Needs.{needs}
 use lib.Dec.{eqb}
 use Rattle.trio_search.specs.Marks.{fullMarks}
 use Rattle.trio_parts.specs.Part.{rowCount}
-use Rattle.trio_parts.specs.Right.{rightPart}
+use Rattle.trio_parts.specs.Sound.{soundPart}
 use Rattle.trio_closings.specs.Closing.{closeStep}
 use Rattle.trio_parts.proofs.RightLaws.{right-input, few-clusters}
+use Rattle.trio_parts.proofs.SoundLaws.{sound-right}
 use Rattle.trio_closings.proofs.closing.close.Statement.{statement}
 use Rattle.trio_closings.proofs.closing.close.Tie as tie
 
-right : (c : tie.Then1) → rightPart (c .before .before .args .p) ≡ true
-right c = sym (c .before .right-part .ensures) ∙ c .if1 .taken
+sound : (c : tie.Then1) → soundPart (c .before .before .args .p) ≡ true
+sound c = sym (c .before .sound-part .ensures .0) ∙ c .if1 .taken
 
 marks : (c : tie.After-all-marked) → let p = c .before .before .before .before .before .args .p in
     eqb (p .marks) (fullMarks (rowCount p)) ≡ c .all-marked .result
@@ -23,11 +24,14 @@ marks c =
     (sym (c .before .genotype-count .ensures))
     ∙ sym (c .all-marked .ensures)
 
-right-part-requires : tie.Need-right-part-requires
-right-part-requires c κs = search needs
+sound-part-requires : tie.Need-sound-part-requires
+sound-part-requires c κs = search needs
 
 cast-genotype-count : tie.Need-cast-genotype-count
-cast-genotype-count c = let p = c .before .before .before .args .p in let few = few-clusters p (right-input p (right (c .before))) in omega arith
+cast-genotype-count c =
+    let p = c .before .before .before .args .p in
+    let few = few-clusters p (right-input p (sound-right p (sound (c .before)))) in
+    omega arith
 
 genotype-count-requires : tie.Need-genotype-count-requires
 genotype-count-requires c κs = search needs
@@ -40,27 +44,27 @@ closed-as-requires c κs = search needs
 
 returns : tie.Need-returns
 unfolding closeStep
-returns c = rw (right (c .before .before .before .before .before), marks (c .before .before) ∙ c .before .if2 .taken) (c .closed-as .ensures)
+returns c = rw (sound (c .before .before .before .before .before), marks (c .before .before) ∙ c .before .if2 .taken) (c .closed-as .ensures)
 
 refused-closing-requires : tie.Need-refused-closing-requires
 refused-closing-requires c κs = search needs
 
 returns-2 : tie.Need-returns-2
 unfolding closeStep
-returns-2 c = rw (right (c .before .before .before .before .before), marks (c .before .before) ∙ c .before .if2 .left) (c .refused-closing .ensures)
+returns-2 c = rw (sound (c .before .before .before .before .before), marks (c .before .before) ∙ c .before .if2 .left) (c .refused-closing .ensures)
 
 refused-closing-requires-2 : tie.Need-refused-closing-requires-2
 refused-closing-requires-2 c κs = search needs
 
 returns-3 : tie.Need-returns-3
 unfolding closeStep
-returns-3 c = rw (sym (c .before .before .right-part .ensures) ∙ c .before .if1 .left) (c .refused-closing2 .ensures)
+returns-3 c = rw (sym (c .before .before .sound-part .ensures .0) ∙ c .before .if1 .left) (c .refused-closing2 .ensures)
 
 pub close-spec : {M : Type 1} → statement M
 close-spec =
     tie.close
     (tie.spec
-    right-part-requires
+    sound-part-requires
     cast-genotype-count
     genotype-count-requires
     all-marked-requires

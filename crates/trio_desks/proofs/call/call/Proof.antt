@@ -1,12 +1,16 @@
--- `trio_desks::call::call` meets its contract: with every row worked, closing gives the one pass. Assumes nothing.
-use mathlib.Core.Path.{sym, ap, _∙_}
+-- `trio_desks::call::call` meets its contract: what is searched is the part that was opened. Assumes nothing.
+use Prim.Native.Nat.{_≤_}
+use mathlib.Core.Path.{_≡_, refl, sym, ap, subst, _∙_}
 use borrow.Author.Needs.{needs}
+use borrow.Author.Tests.{eq-eqb}
 use Rattle.refusals.specs.Refusals.{numberOf}
 use Rattle.trio_parts.specs.declared.part.Stepped.{Stepped}
-use Rattle.trio.specs.Steps.{rowsIn}
-use Rattle.trio_closings.specs.Closing.{refusedClosing, closeStep}
-use Rattle.trio_desks.specs.Call.{workedTo}
-use Rattle.trio_desks.proofs.Demand.{worked-call, refused-call}
+use Rattle.trio_parts.specs.Part.{listsIn}
+use Rattle.trio_opening.specs.Opening.{openStep}
+use Rattle.trio_closings.specs.Closing.{refusedClosing, closedAs}
+use Rattle.trio_desks.specs.Call.{onePassCall, calledBy}
+use Rattle.trio_desks.proofs.Opening.{some-clusters, few-clusters, opened-is}
+use Rattle.trio_desks.proofs.Demand.{refused-call}
 use Rattle.trio_desks.proofs.call.call.Statement.{statement}
 use Rattle.trio_desks.proofs.call.call.Tie as tie
 
@@ -16,19 +20,35 @@ open-part-requires c κs = search needs
 number-requires : tie.Need-number-requires
 number-requires c κs = search needs
 
-all-rows-requires : tie.Need-all-rows-requires
-all-rows-requires c κs = search needs
+-- what was opened, where it was accepted
+accepted : (c : tie.Then1) → let a = c .before .before .before .before .before .before .args in
+    numberOf (openStep (a .n) (a .counts .now) (a .weights .now) .refusal) ≡ 0
+accepted c =
+    let o = c .before .before .before .open-part .ensures in
+    sym (ap (λ (s : Stepped). numberOf (s .refusal)) o) ∙ sym (c .before .number .ensures) ∙ c .if1 .taken
 
-close-requires : tie.Need-close-requires
-close-requires c κs = search needs
+searched-requires : tie.Need-searched-requires
+searched-requires c κs =
+    let a = c .before .before .before .before .before .before .args in
+    let fresh = opened-is (a .n) (a .counts .now) (a .weights .now) (accepted c) in
+    subst (λ (s : Stepped). (1 ≤ s .part .clusters) × (s .part .clusters ≤ 8) × (s .part .scores ≡ listsIn (s .part)))
+    (sym (c .before .before .before .open-part .ensures ∙ fresh)) (
+      some-clusters (a .n) (a .counts .now) (a .weights .now) (accepted c),
+      few-clusters (a .n) (a .counts .now) (a .weights .now) (accepted c),
+      refl,
+    )
+
+closed-as-requires : tie.Need-closed-as-requires
+closed-as-requires c κs = search needs
 
 returns : tie.Need-returns
+unfolding calledBy
 returns c =
-    let a = c .before .before .before .before .before .before .before .before .args in
-    let o = c .before .before .before .before .before .open-part .ensures in
-    let z = sym (ap (λ (s : Stepped). numberOf (s .refusal)) o) ∙ sym (c .before .before .before .number .ensures) ∙ c .before .before .if1 .taken in
-    c .close .ensures ∙ ap closeStep (c .before .all-rows .ensures ∙ ap (λ (s : Stepped). workedTo (s .part) (rowsIn (s .part))) o)
-    ∙ worked-call (a .n) (a .counts .now) (a .weights .now) z
+    let then = c .before .before in
+    let a = then .before .before .before .before .before .before .args in
+    let o = then .before .before .before .open-part .ensures in
+    c .closed-as .ensures ∙ ap closedAs (c .before .searched .ensures) ∙ ap (λ (s : Stepped). onePassCall (s .part)) o
+    ∙ rw (eq-eqb (numberOf (openStep (a .n) (a .counts .now) (a .weights .now) .refusal)) 0 (accepted then))
 
 refused-closing-requires : tie.Need-refused-closing-requires
 refused-closing-requires c κs = search needs
@@ -47,8 +67,8 @@ call-spec =
     (tie.spec
     open-part-requires
     number-requires
-    all-rows-requires
-    close-requires
+    searched-requires
+    closed-as-requires
     returns
     refused-closing-requires
     returns-2)

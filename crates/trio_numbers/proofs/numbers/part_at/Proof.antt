@@ -1,43 +1,18 @@
--- `trio_numbers::numbers::part_at` meets its contract: each number is read where it stands. Assumes nothing.
+-- `trio_numbers::numbers::part_at` meets its contract: the lists are read, and the part of them. Assumes nothing.
 use Rattle.trio_numbers.specs.Numbers.{numbersPart}
 use borrow.Author.Needs.{needs}
 use Rattle.trio_numbers.proofs.numbers.part_at.Statement.{statement}
 use Rattle.trio_numbers.proofs.numbers.part_at.Tie as tie
 
-number-at-requires : tie.Need-number-at-requires
-number-at-requires c κs = search needs
+scores-at-requires : tie.Need-scores-at-requires
+scores-at-requires c κs = search needs
 
-entry-at-requires : tie.Need-entry-at-requires
-entry-at-requires c κs = search needs
-
-entry-at-requires-2 : tie.Need-entry-at-requires-2
-entry-at-requires-2 c κs = search needs
-
-number-at-requires-2 : tie.Need-number-at-requires-2
-number-at-requires-2 c κs = search needs
-
-counts-at-requires : tie.Need-counts-at-requires
-counts-at-requires c κs = search needs
-
-weights-at-requires : tie.Need-weights-at-requires
-weights-at-requires c κs = search needs
-
-number-at-requires-3 : tie.Need-number-at-requires-3
-number-at-requires-3 c κs = search needs
+part-with-requires : tie.Need-part-with-requires
+part-with-requires c κs = search needs
 
 returns : tie.Need-returns
 unfolding numbersPart
 returns c = cc
 
 pub part-at-spec : {M : Type 1} → statement M
-part-at-spec =
-    tie.close
-    (tie.spec
-    number-at-requires
-    entry-at-requires
-    entry-at-requires-2
-    number-at-requires-2
-    counts-at-requires
-    weights-at-requires
-    number-at-requires-3
-    returns)
+part-at-spec = tie.close (tie.spec scores-at-requires part-with-requires returns)

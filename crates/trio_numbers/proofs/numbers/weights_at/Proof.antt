@@ -4,8 +4,8 @@ use mathlib.Core.Path.{_≡_, sym, ap, _∙_}
 use lib.Ieee.{binary64, ofBits, nan}
 use lib.ListN.{drop, replicate}
 use lib.Seq.{sets}
-use Rattle.trio_numbers.specs.Numbers.{numbersWeights}
-use Rattle.trio_numbers.proofs.NumbersLaws.{store-more, store-end, stored-over, weights-length, weight-at}
+use Rattle.trio_numbers.specs.Numbers.{numbersFloats}
+use Rattle.trio_numbers.proofs.NumbersLaws.{store-more, store-end, stored-over, floats-length, float-at}
 use borrow.Author.Needs.{needs}
 use native.Mathlib.Omega.{arith}
 use Rattle.trio_numbers.proofs.numbers.weights_at.Statement.{statement}
@@ -13,7 +13,7 @@ use Rattle.trio_numbers.proofs.numbers.weights_at.Tie as tie
 
 abbrev Inv-loop : tie.InvT-loop
 Inv-loop numbers at weights₀ i₀ weights i =
-    (i ≤ 8) × (sets weights i (drop i (numbersWeights (drop at numbers))) ≡ numbersWeights (drop at numbers))
+    (i ≤ 8) × (sets weights i (drop i (numbersFloats (drop at numbers) 31 8)) ≡ numbersFloats (drop at numbers) 31 8)
 
 abbrev μ-loop : tie.MeasureT-loop
 μ-loop numbers at weights₀ i₀ weights i = 8 - i
@@ -22,7 +22,7 @@ loop-holds : tie.Need-loop-holds Inv-loop μ-loop
 loop-holds c =
     let a = c .before .args in
     let l = drop (a .at) (a .numbers .now) in
-    (search needs, stored-over (replicate 8 (ofBits binary64 0)) (numbersWeights l) (weights-length l))
+    (search needs, stored-over (replicate 8 (ofBits binary64 0)) (numbersFloats l 31 8) (floats-length l 31 8))
 
 add-number-at : tie.Need-add-number-at Inv-loop μ-loop
 add-number-at c = search needs
@@ -51,17 +51,17 @@ loop-again c =
     let a = turn .before .before .args in
     let s = turn .loop in
     let l = drop (a .at) (a .numbers .now) in
-    let m = weights-length l in
-    let here = c .of-bits .ensures ∙ ap (ofBits binary64) (c .before .number-at .ensures) ∙ sym (weight-at l (s .i) (omega arith)) in
-    (omega arith, store-more (s .weights) (numbersWeights l) nan (s .i) (s .i) _ _ (omega arith) here (omega arith) ∙ s .inv .1)
+    let m = floats-length l 31 8 in
+    let here = c .of-bits .ensures ∙ ap (ofBits binary64) (c .before .number-at .ensures) ∙ sym (float-at l 31 8 (s .i) (omega arith)) in
+    (omega arith, store-more (s .weights) (numbersFloats l 31 8) nan (s .i) (s .i) _ _ (omega arith) here (omega arith) ∙ s .inv .1)
 
 returns : tie.Need-returns Inv-loop μ-loop
 returns c =
     let a = c .before .before .before .args in
     let s = c .before .loop in
     let l = drop (a .at) (a .numbers .now) in
-    let m = weights-length l in
-    store-end (s .weights) (numbersWeights l) nan (s .i) (s .i) (omega arith) ∙ s .inv .1
+    let m = floats-length l 31 8 in
+    store-end (s .weights) (numbersFloats l 31 8) nan (s .i) (s .i) (omega arith) ∙ s .inv .1
 
 pub weights-at-spec : {M : Type 1} → statement M
 weights-at-spec =

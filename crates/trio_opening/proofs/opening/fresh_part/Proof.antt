@@ -9,12 +9,17 @@ laid-counts-requires c κs = search needs
 laid-weights-requires : tie.Need-laid-weights-requires
 laid-weights-requires c κs = search needs
 
+fill-scores-requires : tie.Need-fill-scores-requires
+fill-scores-requires c κs = search needs
+
 nothing-requires : tie.Need-nothing-requires
 nothing-requires c κs = search needs
 
 returns : tie.Need-returns
-returns c = rw (c .before .before .laid-counts .ensures, c .before .laid-weights .ensures, c .nothing .ensures)
+returns c =
+    rw (c .before .fill-scores .ensures, c .nothing .ensures)
+    (rw (c .before .before .before .laid-counts .ensures, c .before .before .laid-weights .ensures))
 
 pub fresh-part-spec : {M : Type 1} → statement M
 fresh-part-spec =
-    tie.close (tie.spec laid-counts-requires laid-weights-requires nothing-requires returns)
+    tie.close (tie.spec laid-counts-requires laid-weights-requires fill-scores-requires nothing-requires returns)

@@ -2,8 +2,8 @@
 use Prim.Native.Nat.{_≤_, _-_}
 use mathlib.Core.Path.{_≡_, _∙_}
 use lib.ListN.{length, drop}
-use Rattle.trio_parts.specs.Same.{sameNumbers}
-use Rattle.trio_parts.proofs.SameLaws.{same-differ, same-more, same-end}
+use Rattle.lists.specs.Lists.{sameNumbers}
+use Rattle.lists.proofs.SameLaws.{same-differ, same-more, same-end}
 use borrow.Author.Needs.{needs}
 use native.Mathlib.Omega.{arith}
 use Rattle.trio_parts.proofs.input.same_counts.Statement.{statement}

@@ -4,8 +4,8 @@ use mathlib.Core.List.{List, map}
 use mathlib.Core.Path.{_≡_, sym, _∙_}
 use lib.Ieee.{Float, binary64, toBits, nan}
 use lib.ListN.{length, drop, length-map, List·getD-map}
-use Rattle.trio_parts.specs.Same.{sameNumbers}
-use Rattle.trio_parts.proofs.SameLaws.{same-differ, same-more, same-end}
+use Rattle.lists.specs.Lists.{sameNumbers}
+use Rattle.lists.proofs.SameLaws.{same-differ, same-more, same-end}
 use borrow.Author.Needs.{needs}
 use native.Mathlib.Omega.{arith}
 use Rattle.trio_parts.proofs.input.same_weights.Statement.{statement}

@@ -1,11 +1,11 @@
--- `trio_numbers::numbers::number_at` meets its contract: no number from `at` on, none at the place, or one. Assumes nothing.
+-- `trio_numbers::places::number_at` meets its contract: no number from `at` on, none at the place, or one. Assumes nothing.
 use mathlib.Core.Path.{sym}
 use lib.Seq.{getD-drop}
 use Rattle.trio_numbers.proofs.NumbersLaws.{none-there}
 use native.Mathlib.Omega.{arith}
 use borrow.Author.Needs.{needs}
-use Rattle.trio_numbers.proofs.numbers.number_at.Statement.{statement}
-use Rattle.trio_numbers.proofs.numbers.number_at.Tie as tie
+use Rattle.trio_numbers.proofs.places.number_at.Statement.{statement}
+use Rattle.trio_numbers.proofs.places.number_at.Tie as tie
 
 returns : tie.Need-returns
 returns c =

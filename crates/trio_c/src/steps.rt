@@ -1,0 +1,82 @@
+// The steps of a trio for callers in other languages. A part goes in and the part that the step leaves comes out, field by field as
+// `Part` has them; the refusal's number is written through a reference (docs/RULES.md, T6, T8, T9, O1, O2).
+ghost use Rattle.trio_opening.specs.Opening.{openStep};
+ghost use Rattle.trio.specs.Steps.{rowStep, mergeStep};
+ghost use Rattle.trio_closings.specs.Closing.{closeStep};
+ghost use Rattle.trio_c.specs.Trio.{IsCall};
+ghost use Rattle.trio_c.specs.Steps.{IsStep};
+use crate::flag;
+use crate::six_flags;
+use crate::six_pairs;
+use trio_family::ground;
+use trio_parts::part::Part;
+
+// Opens a trio.
+#[no_mangle]
+pub extern "C" fn admulfas_open(
+    clusters: u64,
+    counts: &[u32],
+    weights: &[f64],
+    refusal: &mut u32,
+) -> Part
+    ensures { λ r. ⌜ IsStep (openStep «clusters» (now (counts .entry)) (now (weights .entry))) (now (refusal .exit)) r ⌝ }
+{
+    let opened = trio_opening::opening::open_part(clusters, counts, weights);
+    let given = opened.refusal;
+    *refusal = refusals::number(given);
+    opened.part
+}
+
+// Works a row into a part.
+#[no_mangle]
+pub extern "C" fn admulfas_work_row(part: Part, row: u64, refusal: &mut u32) -> Part
+    ensures { λ r. ⌜ IsStep (rowStep part row) (now (refusal .exit)) r ⌝ }
+{
+    let worked = trio::rows::work_row(part, row);
+    let given = worked.refusal;
+    *refusal = refusals::number(given);
+    worked.part
+}
+
+// Merges the second part into the first.
+#[no_mangle]
+pub extern "C" fn admulfas_merge(first: Part, second: Part, refusal: &mut u32) -> Part
+    ensures { λ r. ⌜ IsStep (mergeStep first second) (now (refusal .exit)) r ⌝ }
+{
+    let merged = trio::merging::merge(first, second);
+    let given = merged.refusal;
+    *refusal = refusals::number(given);
+    merged.part
+}
+
+// Closes a part. What is returned and written is what the whole call returns and writes.
+#[no_mangle]
+pub extern "C" fn admulfas_close(
+    part: Part,
+    pairs: &mut [u64; 6],
+    score: &mut f64,
+    ground: &mut u32,
+    runner: &mut u32,
+    position: &mut u64,
+    second: &mut f64,
+    quality: &mut u32,
+    read: &mut [u32; 6],
+) -> u32
+    ensures { λ r. ⌜ IsCall (closeStep part)
+        r (now (pairs .exit)) (now (score .exit)) (now (ground .exit)) (now (runner .exit)) (now (position .exit)) (now (second .exit))
+        (now (quality .exit)) (now (read .exit)) ⌝ }
+{
+    let answer = trio_closings::closing::close(part);
+    let refusal = answer.refusal;
+    let rests_on = answer.ground;
+    *pairs = six_pairs(answer.triple);
+    *score = answer.score;
+    *ground = ground::ground_number(rests_on);
+    *runner = flag(answer.has_runner);
+    let next = answer.runner;
+    *position = next.position;
+    *second = next.score;
+    *quality = answer.quality;
+    *read = six_flags(answer.read);
+    refusals::number(refusal)
+}

@@ -1,0 +1,82 @@
+-- `trio_numbers::scores::list_at` meets its contract. The loop's invariant: what is left to read decides. Assumes nothing.
+use Prim.Native.Nat.{_-_, _≤_}
+use mathlib.Core.Path.{_≡_, sym, ap, _∙_}
+use lib.Ieee.{binary64, ofBits, nan}
+use lib.ListN.{drop, replicate}
+use lib.Seq.{sets}
+use Rattle.trio_numbers.specs.Numbers.{numbersFloats}
+use Rattle.trio_numbers.proofs.NumbersLaws.{store-more, store-end, stored-over, floats-length, float-at}
+use borrow.Author.Needs.{needs}
+use native.Mathlib.Omega.{arith}
+use Rattle.trio_numbers.proofs.scores.list_at.Statement.{statement}
+use Rattle.trio_numbers.proofs.scores.list_at.Tie as tie
+
+abbrev Inv-loop : tie.InvT-loop
+Inv-loop numbers at from list₀ i₀ list i =
+    (i ≤ 36) × (sets list i (drop i (numbersFloats (drop at numbers) from 36)) ≡ numbersFloats (drop at numbers) from 36)
+
+abbrev μ-loop : tie.MeasureT-loop
+μ-loop numbers at from list₀ i₀ list i = 36 - i
+
+loop-holds : tie.Need-loop-holds Inv-loop μ-loop
+loop-holds c =
+    let a = c .before .args in
+    let l = drop (a .at) (a .numbers .now) in
+    (search needs, stored-over (replicate 36 (ofBits binary64 0)) (numbersFloats l (a .from) 36) (floats-length l (a .from) 36))
+
+add-number-at : tie.Need-add-number-at Inv-loop μ-loop
+add-number-at c = search needs
+
+number-at-requires : tie.Need-number-at-requires Inv-loop μ-loop
+number-at-requires c κs = search needs
+
+of-bits-requires : tie.Need-of-bits-requires Inv-loop μ-loop
+of-bits-requires c κs = search needs
+
+mul-list : tie.Need-mul-list Inv-loop μ-loop
+mul-list c = search needs
+
+array-write-list : tie.Need-array-write-list Inv-loop μ-loop
+array-write-list c = search needs
+
+add-i : tie.Need-add-i Inv-loop μ-loop
+add-i c = search needs
+
+loop-less : tie.Need-loop-less Inv-loop μ-loop
+loop-less c = search needs
+
+loop-again : tie.Need-loop-again Inv-loop μ-loop
+loop-again c =
+    let turn = c .before .before .before in
+    let a = turn .before .before .args in
+    let s = turn .loop in
+    let l = drop (a .at) (a .numbers .now) in
+    let m = floats-length l (a .from) 36 in
+    let there = sym (float-at l (a .from) 36 (s .i) (omega arith)) in
+    let here = c .of-bits .ensures ∙ ap (ofBits binary64) (c .before .number-at .ensures) ∙ there in
+    (omega arith, store-more (s .list) (numbersFloats l (a .from) 36) nan (s .i) (s .i) _ _ (omega arith) here (omega arith) ∙ s .inv .1)
+
+returns : tie.Need-returns Inv-loop μ-loop
+returns c =
+    let a = c .before .before .before .args in
+    let s = c .before .loop in
+    let l = drop (a .at) (a .numbers .now) in
+    let m = floats-length l (a .from) 36 in
+    store-end (s .list) (numbersFloats l (a .from) 36) nan (s .i) (s .i) (omega arith) ∙ s .inv .1
+
+pub list-at-spec : {M : Type 1} → statement M
+list-at-spec =
+    tie.close
+    (tie.spec
+    Inv-loop
+    μ-loop
+    loop-holds
+    add-number-at
+    number-at-requires
+    of-bits-requires
+    mul-list
+    array-write-list
+    add-i
+    loop-less
+    loop-again
+    returns)
