@@ -6,9 +6,6 @@ use std::{env, fs};
 /// The port, as oracle/run has it built.
 const LIBRARIES: [&str; 4] = ["kernels_c", "diploid_c", "trio_c", "mosaic_c"];
 
-/// The port's public steps one by one, which oracle/run has built for `bench`; the other tasks do without.
-const STEPS: &str = "trio_steps_c";
-
 /// Where kanpig's files are looked for unless KANPIG_SRC says otherwise, seen from the repository's folder. It is no part of the repository.
 const DEFAULT_SOURCE: &str = "oracle/kanpig";
 
@@ -86,13 +83,6 @@ fn main() {
     for library in LIBRARIES {
         println!("cargo:rustc-link-lib=static={library}");
         println!("cargo:rerun-if-changed={}", folder.join(format!("lib{library}.a")).display());
-    }
-
-    println!("cargo:rustc-check-cfg=cfg(steps)");
-    println!("cargo:rerun-if-changed={}", folder.display());
-    if folder.join(format!("lib{STEPS}.a")).is_file() {
-        println!("cargo:rustc-link-lib=static={STEPS}");
-        println!("cargo:rustc-cfg=steps");
     }
 
     println!("cargo:rerun-if-env-changed=KANPIG_SRC");

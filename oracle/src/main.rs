@@ -58,7 +58,6 @@ mod trio {
     pub mod part;
     pub mod pass;
     pub mod port;
-    #[cfg(steps)]
     pub mod port_steps;
     pub mod quality;
     pub mod quality_cases;

@@ -1,10 +1,25 @@
-//! The port's public steps under their C names, for timing. What a part is made of is the port's affair.
+//! The port's public steps under their C names, for timing.
 use super::types::{Answer, Input};
 
-/// Room for a part, more than it needs.
-#[derive(Clone)]
-#[repr(C, align(16))]
-pub struct Part([u8; 2048]);
+#[derive(Clone, Copy)]
+#[repr(C)]
+struct Entry {
+    position: u64,
+    score: f64,
+}
+
+/// A part as the port has it. It goes in and comes out by value, and nobody here looks into it.
+#[derive(Clone, Copy)]
+#[repr(C)]
+pub struct Part {
+    clusters: u64,
+    counts: [u32; 24],
+    weights: [f64; 8],
+    scores: [[f64; 36]; 3],
+    marks: u64,
+    held: u64,
+    entries: [Entry; 2],
+}
 
 #[rustfmt::skip]
 unsafe extern "C" {
@@ -13,15 +28,15 @@ unsafe extern "C" {
         clusters: u64,
         counts: *const u32, counts_length: usize,
         weights: *const f64, weights_length: usize,
-        part: &mut Part,
-    ) -> u32;
+        refusal: &mut u32,
+    ) -> Part;
 
-    safe fn admulfas_work_row(part: &mut Part, row: u64) -> u32;
+    safe fn admulfas_work_row(part: Part, row: u64, refusal: &mut u32) -> Part;
 
-    safe fn admulfas_merge(first: &mut Part, second: &Part) -> u32;
+    safe fn admulfas_merge(first: Part, second: Part, refusal: &mut u32) -> Part;
 
     safe fn admulfas_close(
-        part: &Part,
+        part: Part,
         pairs: &mut [u64; 6], score: &mut f64, ground: &mut u32, runner: &mut u32, position: &mut u64, second: &mut f64, quality: &mut u32,
         read: &mut [u32; 6],
     ) -> u32;
@@ -29,19 +44,23 @@ unsafe extern "C" {
 
 /// The refusal's number, and the part.
 pub fn open(input: &Input) -> (u32, Part) {
-    let mut part = Part([0; 2048]);
+    let mut number = u32::MAX;
     let (counts, weights) = (&input.counts, &input.weights);
     // SAFETY: each pointer comes with the length of its slice, which outlives the call, and the port only reads there.
-    let number = unsafe { admulfas_open(u64::from(input.n), counts.as_ptr(), counts.len(), weights.as_ptr(), weights.len(), &mut part) };
+    let part = unsafe { admulfas_open(u64::from(input.n), counts.as_ptr(), counts.len(), weights.as_ptr(), weights.len(), &mut number) };
     (number, part)
 }
 
 pub fn work_row(part: &mut Part, row: u64) -> u32 {
-    admulfas_work_row(part, row)
+    let mut number = u32::MAX;
+    *part = admulfas_work_row(*part, row, &mut number);
+    number
 }
 
 pub fn merge(first: &mut Part, second: &Part) -> u32 {
-    admulfas_merge(first, second)
+    let mut number = u32::MAX;
+    *first = admulfas_merge(*first, *second, &mut number);
+    number
 }
 
 /// What a part closes with.
@@ -50,7 +69,7 @@ pub fn close(part: &Part) -> Answer {
     let (mut runner, mut position, mut second) = (0, 0, 0.0);
     let (mut quality, mut read) = (u32::MAX, [u32::MAX; 6]);
     let number =
-        admulfas_close(part, &mut pairs, &mut score, &mut ground, &mut runner, &mut position, &mut second, &mut quality, &mut read);
+        admulfas_close(*part, &mut pairs, &mut score, &mut ground, &mut runner, &mut position, &mut second, &mut quality, &mut read);
     Answer {
         number,
         pairs: pairs.map(|number| number as u32),
