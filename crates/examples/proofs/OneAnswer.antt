@@ -110,7 +110,7 @@ use Rattle.trio_c.proofs.steps.admulfas_merge.Reads as c-merge
 use Rattle.trio_c.proofs.steps.admulfas_close.Reads as c-close
 use Rattle.mosaic_c.proofs.admulfas_mosaic.Reads as c-mosaic
 use Rattle.trio_triples.proofs.genotypes.triple_of.Reads as triple-of
-use Rattle.trio_triples.proofs.score.score_at.Reads as score-at
+use Rattle.trio_triples.proofs.score.score_over.Reads as score-over
 use Rattle.text_reading.proofs.fields.field_end.Reads as field-end
 use Rattle.text_reading.proofs.fields.field.Reads as field
 use Rattle.text_reading.proofs.fields.next_field.Reads as next-field
@@ -310,8 +310,8 @@ fill-scores-once κ a v w e f = only
 pub same-scores-once : OneAnswer same-scores.Post
 same-scores-once κ a v w e f p q = only (p .0) (q .0)
 
-pub score-at-once : OneAnswer score-at.Post
-score-at-once κ a v w e f = only
+pub score-over-once : OneAnswer score-over.Post
+score-over-once κ a v w e f = only
 
 pub best-of-row-once : OneAnswer best-of-row.Post
 best-of-row-once κ a v w e f = only

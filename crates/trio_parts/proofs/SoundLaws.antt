@@ -1,14 +1,15 @@
 -- What a sound part is: by how many triples it holds; by its parts; that of parts that the types allow, bits tell the scores; and what two
 -- parts of one input share.
-use Prim.Native.Nat.{ℕ, zero, suc}
-use mathlib.Core.Bool.{Bool, true, false, _&&_, and-true}
+use Prim.Native.Nat.{ℕ, zero, suc, _*_, _/_, _<_}
+use mathlib.Core.Bool.{Bool, true, false, not, _&&_, and-true}
 use mathlib.Core.List.{List, [], _∷_}
 use mathlib.Core.Logic.{_≢_, inl, inr}
-use mathlib.Core.Path.{_≡_, refl, sym, ap, subst, _∙_}
+use mathlib.Core.Path.{_≡_, refl, sym, ap, ap₂, subst, _∙_}
 use mathlib.Mathlib.Data.Bool.Basic.{and-elim-left, and-elim-right, and-intro}
+use native.Mathlib.Nat.{mul-pos, div-lt-iff-lt-mul}
 use borrow.Author.Tests.{eqb-true, eq-eqb}
 use lib.Dec.{T, eqb}
-use lib.Ieee.{Float, binary64, fits, toBits}
+use lib.Ieee.{Float, binary64, fits, toBits, isNan}
 use lib.Ieee.Fits.{add-fits, nan-fits, and-l, and-r}
 use Rattle.lists.specs.Lists.{sameNumbers}
 use Rattle.lists.specs.Every.{every}
@@ -22,50 +23,81 @@ use Rattle.trio_entries.specs.Held.{entriesUsed, heldList}
 use Rattle.trio_samples.specs.declared.scores.Scores.{Scores}
 use Rattle.trio_samples.specs.Scores.{sameScores}
 use Rattle.trio_samples.proofs.ScoresLaws.{ListsFit, lists-fit, scores-self, scores-equal}
+use Rattle.trio_search.specs.Shape.{inMarked, workRight}
 use Rattle.trio_search.specs.Work.{IsEntry}
+use Rattle.trio_search.proofs.MarksLaws.{unmarked-above}
+use Rattle.trio_search_laws.proofs.ShapeLaws.{Shaped, right-shaped}
+use Rattle.trio_triples.specs.Genotypes.{rowWidth}
 use Rattle.trio_triples.specs.Score.{tripleScore, scoreOf}
+use Rattle.trio_triples.specs.Stored.{scoreOver}
+use Rattle.trio_triples.proofs.StoredLaws.{over-is}
 use Rattle.trio_parts.specs.declared.part.Part.{Part}
-use Rattle.trio_parts.specs.Part.{listsIn, scoreIn}
-use Rattle.trio_parts.specs.Right.{rightPart}
+use Rattle.trio_parts.specs.Part.{listsIn, scoreIn, rowCount}
+use Rattle.trio_parts.specs.Right.{inputRight, rightPart}
 use Rattle.trio_parts.specs.Same.{sameInput}
 use Rattle.trio_parts.specs.Sound.{storedRight, scoredTrue, heldTrue, soundPart}
 use Rattle.trio_parts.specs.Typed.{TypedPart, TruePart}
+use Rattle.trio_parts.proofs.RightLaws.{right-input, some-clusters, few-clusters}
 
--- ---- by the number of triples held, as a loopless test finds it
+-- ---- by the number of triples held, as the code tests them: over the lists, which are those of the input
 
-module _ (p : Part) where
-  abbrev passes : Entry → Bool
-  passes = scoredTrue (scoreIn p)
+module _ (p : Part) (right : rightPart p ≡ true) (lists : p .scores ≡ listsIn p) where
+  shaped : Shaped (rowCount p) (p .marks) (p .held)
+  unfolding rightPart
+  shaped = right-shaped (rowCount p) (p .marks) (p .held) (and-elim-right (inputRight p) (workRight (rowCount p) (p .marks) (p .held)) right)
 
-  abbrev used : ℕ → Bool
-  used n = every passes (entriesUsed n (p .held .first) (p .held .second))
+  -- a triple held stands at a position of the search, where the lists give the score of the rules
+  held-over : (e : Entry) → In (heldList (p .held)) e → scoredTrue (scoreOver (p .clusters) (p .scores)) e ≡ scoredTrue (scoreIn p) e
+  held-over e i =
+      let row = and-elim-right (not (isNan (e .score))) (inMarked (rowCount p) (p .marks) e) (shaped .scored e i) in
+      let inside : e .position < rowCount p * rowWidth (p .clusters) =
+      div-lt-iff-lt-mul (mul-pos (shaped .some) (shaped .some)) .0
+      (unmarked-above (rowCount p) (p .marks) (e .position / rowWidth (p .clusters)) (shaped .below) row) in
+      let input = right-input p right in
+      ap (λ (x : Float). eqb (toBits binary64 (e .score)) (toBits binary64 x))
+      (ap (λ (l : Scores). scoreOver (p .clusters) l (e .position)) lists
+      ∙ over-is (p .clusters) (p .counts) (p .weights) (some-clusters p input) (few-clusters p input) (e .position) inside)
+
+  abbrev over : Entry → Bool
+  over = scoredTrue (scoreOver (p .clusters) (p .scores))
+
+  -- the entries of a count n, tested over the lists
+  abbrev used : ℕ → List Entry
+  used n = entriesUsed n (p .held .first) (p .held .second)
+
+  over-all : (l : List Entry) → ((e : Entry) → In l e → In (heldList (p .held)) e) → every over l ≡ every (scoredTrue (scoreIn p)) l
+  over-all [] h = refl
+  over-all (x ∷ l) h = ap₂ _&&_ (held-over x (h x (inl refl))) (over-all l (λ e i. h e (inr i)))
+
+  -- whatever number n stands there, what the lists say of its entries is what soundness asks
+  by-count : (n : ℕ) → p .held .count ≡ n → every over (used n) ≡ heldTrue p
+  unfolding heldTrue
+  by-count n e = ap (λ (k : ℕ). every over (used k)) (sym e) ∙ over-all (heldList (p .held)) (λ x i. i)
 
   pub none-held : p .held .count ≡ 0 → true ≡ heldTrue p
-  unfolding heldTrue
-  none-held e = sym (ap used e)
+  none-held e = by-count 0 e
 
-  pub first-false : p .held .count ≢ 0 → {b : Bool} → b ≡ passes (p .held .first) → b ≡ false → false ≡ heldTrue p
-  unfolding heldTrue
-  first-false h {b} e f = go (p .held .count) h
+  pub first-false : p .held .count ≢ 0 → {b : Bool} → b ≡ over (p .held .first) → b ≡ false → false ≡ heldTrue p
+  first-false h {b} e f = go (p .held .count) refl h
     where
-      go : (n : ℕ) → n ≢ 0 → false ≡ used n
-      go zero k = absurd (k refl)
-      go (suc zero) k = rw (sym e ∙ f)
-      go (suc (suc n)) k = rw (sym e ∙ f)
+      go : (n : ℕ) → p .held .count ≡ n → n ≢ 0 → false ≡ heldTrue p
+      go zero c k = absurd (k refl)
+      go (suc zero) c k = (rw (sym e ∙ f)) ∙ by-count 1 c
+      go (suc (suc n)) c k = (rw (sym e ∙ f)) ∙ by-count (suc (suc n)) c
 
-  pub first-alone : p .held .count ≡ 1 → {b : Bool} → b ≡ passes (p .held .first) → b ≡ true → true ≡ heldTrue p
-  unfolding heldTrue
-  first-alone h {b} e f = sym (ap used h ∙ ap (λ (t : Bool). t && true) (sym e ∙ f))
+  pub first-alone : p .held .count ≡ 1 → {b : Bool} → b ≡ over (p .held .first) → b ≡ true → true ≡ heldTrue p
+  first-alone h {b} e f = sym (ap (λ (t : Bool). t && true) (sym e ∙ f)) ∙ by-count 1 h
 
-  pub both-held : p .held .count ≢ 0 → p .held .count ≢ 1 → {b d : Bool} → b ≡ passes (p .held .first) → b ≡ true
-      → d ≡ passes (p .held .second) → d ≡ heldTrue p
-  unfolding heldTrue
-  both-held h k {b} {d} e f g = go (p .held .count) h k
+  pub both-held : p .held .count ≢ 0 → p .held .count ≢ 1 → {b d : Bool} → b ≡ over (p .held .first) → b ≡ true
+      → d ≡ over (p .held .second) → d ≡ heldTrue p
+  both-held h k {b} {d} e f g = go (p .held .count) refl h k
     where
-      go : (n : ℕ) → n ≢ 0 → n ≢ 1 → d ≡ used n
-      go zero i j = absurd (i refl)
-      go (suc zero) i j = absurd (j refl)
-      go (suc (suc n)) i j = g ∙ sym (rw (sym e ∙ f) (and-true (passes (p .held .second))))
+      go : (n : ℕ) → p .held .count ≡ n → n ≢ 0 → n ≢ 1 → d ≡ heldTrue p
+      go zero c i j = absurd (i refl)
+      go (suc zero) c i j = absurd (j refl)
+      go (suc (suc n)) c i j =
+          g ∙ sym (ap (λ (t : Bool). t && (over (p .held .second) && true)) (sym e ∙ f) ∙ and-true (over (p .held .second)))
+          ∙ by-count (suc (suc n)) c
 
 -- ---- what a sound part is
 

@@ -1,16 +1,18 @@
 // When a part is sound: its shape is right, and every score that it stores is the one worked out (docs/RULES.md, S4).
 ghost use mathlib.Core.Bool.{true};
 ghost use mathlib.Core.Path.{_≡_};
-ghost use Rattle.trio_triples.specs.Score.{scoreOf};
+ghost use Rattle.trio_triples.specs.Stored.{scoreOver};
 ghost use Rattle.trio_parts.specs.Part.{listsIn};
+ghost use Rattle.trio_parts.specs.Right.{rightPart};
 ghost use Rattle.trio_parts.specs.Sound.{storedRight, scoredTrue, heldTrue, soundPart};
 use crate::part::Part;
 use crate::shape::right_part;
 use floats::bits::bits;
 use trio_entries::entry::Entry;
+use trio_samples::scores::Scores;
 use trio_samples::scores::fill_scores;
 use trio_samples::scores::same_scores;
-use trio_triples::score::score_at;
+use trio_triples::score::score_over;
 
 // Are the lists those of the input? Then they are equal to them.
 fn stored_right(p: Part) -> bool
@@ -23,31 +25,31 @@ fn stored_right(p: Part) -> bool
     same_scores(scores, fill_scores(p.clusters, counts, weights))
 }
 
-// Has an entry the score of its position?
-fn scored_true(n: u64, counts: [u32; 24], weights: [f64; 8], e: Entry) -> bool
-    ensures { λ b. ⌜ b ≡ scoredTrue (scoreOf n counts weights) e ⌝ }
+// Has an entry the score of its position, which the lists give?
+fn scored_true(n: u64, scores: Scores, e: Entry) -> bool
+    ensures { λ b. ⌜ b ≡ scoredTrue (scoreOver n scores) e ⌝ }
 {
-    bits(e.score) == bits(score_at(n, counts, weights, e.position))
+    bits(e.score) == bits(score_over(n, scores, e.position))
 }
 
-// Has every triple held?
+// Has every triple held? The lists are those of the input.
 fn held_true(p: Part) -> bool
+    requires { ⌜ (rightPart p ≡ true) × (p .scores ≡ listsIn p) ⌝ }
     ensures { λ b. ⌜ b ≡ heldTrue p ⌝ }
 {
     let n = p.clusters;
-    let counts = p.counts;
-    let weights = p.weights;
+    let scores = p.scores;
     let held = p.held;
     let first = held.first;
     let second = held.second;
     if held.count == 0 {
         return true;
     }
-    if scored_true(n, counts, weights, first) {
+    if scored_true(n, scores, first) {
         if held.count == 1 {
             return true;
         }
-        return scored_true(n, counts, weights, second);
+        return scored_true(n, scores, second);
     }
     false
 }

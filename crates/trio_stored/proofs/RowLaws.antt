@@ -19,7 +19,7 @@ use Rattle.trio_family.specs.Genotypes.{genotypeCount, genotypeAt}
 use Rattle.trio_mendel.specs.Mendel.{mendelTerm}
 use Rattle.trio_samples.specs.declared.scores.Scores.{Scores}
 use Rattle.trio_search.specs.Work.{onePass, entriesFrom}
-use Rattle.trio_stored.specs.Stored.{storedScore}
+use Rattle.trio_triples.specs.Stored.{storedScore}
 use Rattle.trio_stored.specs.Terms.{PairIn}
 use Rattle.trio_stored.specs.Walk.{fallen, familyScore, markOf, AtMost, HeldPast}
 use Rattle.trio_stored.proofs.PlacesLaws.{pair-in}

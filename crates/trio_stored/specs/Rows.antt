@@ -5,7 +5,7 @@ use mathlib.Core.List.{List}
 use lib.Ieee.{Float}
 use Rattle.trio_samples.specs.declared.scores.Scores.{Scores}
 use Rattle.trio_entries.specs.declared.entry.Entry.{Entry}
-use Rattle.trio_stored.specs.Stored.{storedScore}
+use Rattle.trio_triples.specs.Stored.{storedScore}
 use Rattle.trio_stored.specs.Walk.{fallen}
 
 -- S3: three lists as the scores of the three animals

@@ -1,22 +1,49 @@
-// The score of a triple (docs/RULES.md, T4).
+// The score of a triple, from the stored scores of its animals (docs/RULES.md, T4, S3).
 ghost use mathlib.Core.Path.{_≡_};
-ghost use Rattle.trio_triples.specs.Score.{scoreOf};
-use crate::genotypes::triple_of;
-use trio_family::sample::Sample;
+ghost use Prim.Native.Nat.{_*_, _≤_, _<_};
+ghost use Rattle.trio_family.specs.Genotypes.{genotypeCount};
+ghost use Rattle.trio_triples.specs.Stored.{storedScore, scoreOver};
+use trio_family::genotypes::genotype_at;
+use trio_family::genotypes::genotype_count;
 use trio_mendel::mendel::mendelian_prior;
-use trio_samples::samples::compute_log_likelihood;
+use trio_samples::scores::Scores;
 
-// The score of the triple at a position of a search over n clusters.
-pub fn score_at(n: u64, counts: [u32; 24], weights: [f64; 8], position: u64) -> f64
-    ensures { λ r. ⌜ r ≡ scoreOf n counts weights position ⌝ }
+// The score at a position of a search over n clusters, which have g genotypes.
+fn stored_score(n: u64, g: u64, scores: Scores, position: u64) -> f64
+    requires { ⌜ (1 ≤ g) × (g ≤ 36) × (g ≡ genotypeCount n) × (position < g * (g * g)) ⌝ }
+    ensures { λ r. ⌜ r ≡ storedScore n scores position ⌝ }
 {
-    let t = triple_of(n, position);
-    let child = t.child;
-    let father = t.father;
-    let mother = t.mother;
-    let ll_c = compute_log_likelihood(n, counts, weights, Sample::Child, child);
-    let ll_f = compute_log_likelihood(n, counts, weights, Sample::Father, father);
-    let ll_m = compute_log_likelihood(n, counts, weights, Sample::Mother, mother);
+    let f = position / (g * g);
+    let m = position / g % g;
+    let c = position % g;
+    let father = genotype_at(n, f);
+    let mother = genotype_at(n, m);
+    let child = genotype_at(n, c);
+    let ll_f = scores.father[f as usize];
+    let ll_m = scores.mother[m as usize];
+    let ll_c = scores.child[c as usize];
     let lp = mendelian_prior(child, father, mother);
     ll_f + ll_m + ll_c + lp
+}
+
+// The same for every position: a NaN where there is none such.
+fn score_in(n: u64, scores: Scores, position: u64) -> f64
+    requires { ⌜ (1 ≤ n) × (n ≤ 8) ⌝ }
+    ensures { λ r. ⌜ r ≡ scoreOver n scores position ⌝ }
+{
+    let g = genotype_count(n as u32);
+    if position < g * (g * g) {
+        return stored_score(n, g, scores, position);
+    }
+    0.0 / 0.0
+}
+
+// And for every n.
+pub fn score_over(n: u64, scores: Scores, position: u64) -> f64
+    ensures { λ r. ⌜ r ≡ scoreOver n scores position ⌝ }
+{
+    if 1 <= n && n <= 8 {
+        return score_in(n, scores, position);
+    }
+    0.0 / 0.0
 }

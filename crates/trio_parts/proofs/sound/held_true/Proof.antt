@@ -1,16 +1,17 @@
 -- `trio_parts::sound::held_true` meets its contract. By the number of triples held.
 use borrow.Author.Needs.{needs}
-use Rattle.trio_parts.specs.declared.part.Part.{Part}
 use Rattle.trio_parts.proofs.SoundLaws.{none-held, first-false, first-alone, both-held}
 use Rattle.trio_parts.proofs.sound.held_true.Statement.{statement}
 use Rattle.trio_parts.proofs.sound.held_true.Tie as tie
 
--- the part, from the first test on
-abbrev given : tie.Else1 → Part
-given c = c .before .before .before .before .before .before .before .args .p
+-- what was asked, from the first test on
+abbrev asked : tie.Else1 → tie.Start
+asked c = c .before .before .before .before .before .before
 
 returns : tie.Need-returns
-returns c = none-held (c .before .before .before .before .before .before .before .args .p) (c .if1 .taken)
+returns c =
+    let start = c .before .before .before .before .before .before in
+    none-held (start .args .p) (start .pre .0) (start .pre .1) (c .if1 .taken)
 
 scored-true-requires : tie.Need-scored-true-requires
 scored-true-requires c κs = search needs
@@ -19,7 +20,8 @@ returns-2 : tie.Need-returns-2
 returns-2 c =
     let passed = c .before .before in
     let tested = passed .before in
-    first-alone (given (tested .before)) (c .if3 .taken) (tested .scored-true .ensures) (passed .if2 .taken)
+    let start = asked (tested .before) in
+    first-alone (start .args .p) (start .pre .0) (start .pre .1) (c .if3 .taken) (tested .scored-true .ensures) (passed .if2 .taken)
 
 scored-true-requires-2 : tie.Need-scored-true-requires-2
 scored-true-requires-2 c κs = search needs
@@ -30,12 +32,15 @@ returns-3 c =
     let passed = more .before .before in
     let tested = passed .before in
     let some = tested .before in
-    both-held (given some) (some .if1 .left) (more .if3 .left) (tested .scored-true .ensures) (passed .if2 .taken) (c .scored-true2 .ensures)
+    let start = asked some in
+    both-held (start .args .p) (start .pre .0) (start .pre .1) (some .if1 .left) (more .if3 .left) (tested .scored-true .ensures)
+    (passed .if2 .taken) (c .scored-true2 .ensures)
 
 returns-4 : tie.Need-returns-4
 returns-4 c =
     let some = c .before .before in
-    first-false (given some) (some .if1 .left) (c .before .scored-true .ensures) (c .if2 .left)
+    let start = asked some in
+    first-false (start .args .p) (start .pre .0) (start .pre .1) (some .if1 .left) (c .before .scored-true .ensures) (c .if2 .left)
 
 pub held-true-spec : {M : Type 1} → statement M
 held-true-spec =

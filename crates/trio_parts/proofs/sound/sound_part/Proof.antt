@@ -13,7 +13,9 @@ stored-right-requires : tie.Need-stored-right-requires
 stored-right-requires c κs = search needs
 
 held-true-requires : tie.Need-held-true-requires
-held-true-requires c κs = search needs
+held-true-requires c κs =
+    let shaped = c .before .before in
+    (sym (shaped .before .right-part .ensures) ∙ shaped .if1 .taken, c .before .stored-right .ensures .1 (c .if2 .taken))
 
 returns : tie.Need-returns
 unfolding soundPart

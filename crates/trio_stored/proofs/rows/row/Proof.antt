@@ -6,7 +6,7 @@ use borrow.Author.Needs.{needs}
 use lib.Dec.{T}
 use lib.Ieee.{ofBits}
 use Rattle.trio_samples.specs.declared.scores.Scores.{Scores}
-use Rattle.trio_stored.specs.Stored.{storedScore}
+use Rattle.trio_triples.specs.Stored.{storedScore}
 use Rattle.trio_stored.specs.Rows.{listed}
 use Rattle.trio_stored.proofs.RowLaws.{Mothers, blocks-none, blocks-all, block-past, mother-skipped, mother-offered, stored-fits}
 use Rattle.trio_stored.proofs.PlacesLaws.{few-genotypes}
