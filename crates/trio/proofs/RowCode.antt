@@ -18,7 +18,8 @@ pub marked-alone : (r : ℕ) → r < 64 → marked 0 r ≡ 2 ^ r
 marked-alone r h = rw (lt-ltb r 64 h) (or-zero-l (2 ^ r))
 
 pub row-done : (p q s : Part) (r g : ℕ) → soundPart p ≡ true → r < g → g ≡ rowCount p
-    → q ≡ withWork p (rowWork (rowWidth (p .clusters)) (scoreIn p) r) → s ≡ withWork p (joined (workIn p) (workIn q)) → gives Done s ≡ rowStep p r
+    → q ≡ withWork p (rowWork (rowWidth (p .clusters)) (scoreIn p) r) → s ≡ withWork p (joined (workIn p) (workIn q))
+    → gives Done s ≡ rowStep p r
 unfolding rowStep
 row-done p q s r g t k e hq hs =
     rw (t, lt-ltb r (rowCount p) (subst (λ (n : ℕ). r < n) e k))

@@ -1,5 +1,5 @@
-// The whole call of a trio, its steps, and a quality by itself, for callers in other languages: a cluster number and slices, or two scores, in;
-// numbers out (docs/RULES.md, T9 to T12).
+// The whole call of a trio, its steps, and a quality by itself, for callers in other languages: a cluster number and slices, or two scores,
+// in; numbers out (docs/RULES.md, T9 to T12).
 // It answers every argument; what the foreign caller answers for is in docs/TRUST.md.
 ghost use mathlib.Core.Path.{_≡_};
 ghost use mathlib.Core.Bool.{cond, not};

@@ -89,7 +89,8 @@ module _ {A : Type 0} (inUse unused : A → Bool) (z : A) (blank : unused z ≡ 
 
   places-front : (l : List A) (m : ℕ) → every inUse l ≡ true → placesRight inUse unused (length l) (l ++ replicate m z) ≡ true
   places-front [] m a = places-none m
-  places-front (x ∷ l) m a = and-intro (and-elim-left (inUse x) (every inUse l) a) (places-front l m (and-elim-right (inUse x) (every inUse l) a))
+  places-front (x ∷ l) m a =
+      and-intro (and-elim-left (inUse x) (every inUse l) a) (places-front l m (and-elim-right (inUse x) (every inUse l) a))
 
   pub places-padded : (k : ℕ) (l : List A) → every inUse l ≡ true → placesRight inUse unused (length l) (padded k z l) ≡ true
   places-padded k l a = places-front l (k - length l) a
@@ -120,7 +121,8 @@ module _ (n : ℕ) (counts : List ℕ) (weights : List Float) (accepted : number
   fresh-right =
       let t = tests n counts weights accepted in
       and-intro
-      (and-intro (le-leb 1 n (some-clusters n counts weights accepted)) (and-intro (le-leb n 8 (few-clusters n counts weights accepted)) (and-intro
+      (and-intro (le-leb 1 n (some-clusters n counts weights accepted))
+      (and-intro (le-leb n 8 (few-clusters n counts weights accepted)) (and-intro
       (ap (λ (i : ℕ). placesRight countAllowed noCount i (padded 24 0 counts)) (sym (counts-length n counts weights accepted))
       ∙ places-padded countAllowed noCount 0 refl 24 counts (t .fourth))
       (ap (λ (i : ℕ). placesRight weightAllowed noWeight i (padded 8 (nat 0) weights)) (sym (weights-length n counts weights accepted))

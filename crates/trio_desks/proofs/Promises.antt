@@ -126,7 +126,8 @@ module _ (start : Part) (fresh : Fresh start) where
     unfolding rowStep
     row-on r =
         rw sound-with
-        (ap (λ (z : Work). cond (ltb r rows) (gives Done (withWork start (joined z (rowWork width score r)))) (gives Row (withWork start v)))
+        (ap
+        (λ (z : Work). cond (ltb r rows) (gives Done (withWork start (joined z (rowWork width score r)))) (gives Row (withWork start v)))
         work-back)
 
     other-on : (q : Part) → T (not (soundPart q && sameInput start q))
@@ -178,11 +179,13 @@ module _ (start : Part) (fresh : Fresh start) where
   came (worked h r) =
       let c = came h in (
         cond (ltb r rows) (joined (c .0) (rowWork width score r)) (c .0),
-        ap (λ (p : Part). rowStep p r .part) (c .1) ∙ ap (λ (s : Stepped). s .part) (row-on (rowsOf start h) (c .0) (c .2) r) ∙ part-of (c .0) (ltb r rows),
+        ap (λ (p : Part). rowStep p r .part) (c .1)
+            ∙ ap (λ (s : Stepped). s .part) (row-on (rowsOf start h) (c .0) (c .2) r) ∙ part-of (c .0) (ltb r rows),
         go (c .0) (c .2) (ltb r rows) refl,
       )
     where
-      part-of : (v : Work) (t : Bool) → cond t (gives Done (withWork start (joined v (rowWork width score r)))) (gives Row (withWork start v)) .part
+      part-of : (v : Work) (t : Bool)
+          → cond t (gives Done (withWork start (joined v (rowWork width score r)))) (gives Row (withWork start v)) .part
           ≡ withWork start (cond t (joined v (rowWork width score r)) v)
       part-of v true = refl
       part-of v false = refl
@@ -201,7 +204,8 @@ module _ (start : Part) (fresh : Fresh start) where
       )
   came (mergedOther h q o) =
       let c = came h in
-      (c .0, ap (λ (p : Part). mergeStep p q .part) (c .1) ∙ ap (λ (s : Stepped). s .part) (other-on (rowsOf start h) (c .0) (c .2) q o), c .2)
+      let refused = ap (λ (s : Stepped). s .part) (other-on (rowsOf start h) (c .0) (c .2) q o) in
+      (c .0, ap (λ (p : Part). mergeStep p q .part) (c .1) ∙ refused, c .2)
   came (closed h) = let c = came h in (c .0, close-back (partOf start h) ∙ c .1, c .2)
 
   module _ (w : ℕ → Bool) (v : Work) (s : IsSound w v) where
@@ -222,7 +226,8 @@ module _ (start : Part) (fresh : Fresh start) where
     accepted-on : (r : ℕ) → rowStep (withWork start v) r .refusal ≡ cond (ltb r rows) Done Row
     accepted-on r = ap (λ (x : Stepped). x .refusal) (row-on w v s r) ∙ go (ltb r rows)
       where
-        go : (t : Bool) → cond t (gives Done (withWork start (joined v (rowWork width score r)))) (gives Row (withWork start v)) .refusal ≡ cond t Done Row
+        go : (t : Bool)
+            → cond t (gives Done (withWork start (joined v (rowWork width score r)))) (gives Row (withWork start v)) .refusal ≡ cond t Done Row
         go true = refl
         go false = refl
 
@@ -242,19 +247,24 @@ module _ (start : Part) (fresh : Fresh start) where
         input-kept = (ap (λ (p : Part). p .clusters) (c .1), ap (λ (p : Part). p .counts) (c .1), ap (λ (p : Part). p .weights) (c .1));
         lists-are = ap (λ (p : Part). p .scores) (c .1) ∙ fresh .lists;
         marks-are = λ r. ap (λ (p : Part). isMarked (p .marks) r) (c .1) ∙ c .2 .marks-are r;
-        held-best = subst (Best beatsOf 2 (InRows width score (rowsOf start h))) (sym (ap (λ (p : Part). heldList (p .held)) (c .1) ∙ l)) (c .2 .held-best);
+        held-best =
+            subst (Best beatsOf 2 (InRows width score (rowsOf start h))) (sym (ap (λ (p : Part). heldList (p .held)) (c .1) ∙ l))
+            (c .2 .held-best);
         incomplete = λ r k f.
-            subst (λ (p : Part). closeStep p ≡ refusedClosing NotComplete p) (sym (c .1)) (incomplete-on (rowsOf start h) (c .0) (c .2) r k f);
+            subst (λ (p : Part). closeStep p ≡ refusedClosing NotComplete p) (sym (c .1))
+            (incomplete-on (rowsOf start h) (c .0) (c .2) r k f);
         complete = λ all. ap closeStep (c .1) ∙ complete-on (rowsOf start h) (c .0) (c .2) all;
         for-ever = λ all k l.
             let d = came k in
             ap closeStep (d .1) ∙ complete-on (rowsOf start k) (d .0) (d .2) (λ r m. later-keeps start r l (all r m));
         row-accepted = λ r. ap (λ (p : Part). rowStep p r .refusal) (c .1) ∙ accepted-on (rowsOf start h) (c .0) (c .2) r;
         other-refused = λ q o.
-            subst (λ (p : Part). mergeStep p q ≡ gives (cond (soundPart q) OtherTrio BadPart) p) (sym (c .1)) (other-on (rowsOf start h) (c .0) (c .2) q o);
+            subst (λ (p : Part). mergeStep p q ≡ gives (cond (soundPart q) OtherTrio BadPart) p) (sym (c .1))
+            (other-on (rowsOf start h) (c .0) (c .2) q o);
         merge-accepted = λ k.
             let d = came k in
-            ap (λ (p : Part). mergeStep p (partOf start k) .refusal) (c .1) ∙ ap (λ (p : Part). mergeStep (withWork start (c .0)) p .refusal) (d .1)
+            ap (λ (p : Part). mergeStep p (partOf start k) .refusal) (c .1)
+            ∙ ap (λ (p : Part). mergeStep (withWork start (c .0)) p .refusal) (d .1)
             ∙ ap (λ (s : Stepped). s .refusal) (merge-on (rowsOf start h) (rowsOf start k) (c .0) (d .0) (c .2) (d .2));
         handed-back = λ s. refused-back s (partOf start h);
         refused-second = λ q o.

@@ -1,5 +1,5 @@
--- S2, S4: what holds of every sound part, whoever made it. No row and no merge makes it unsound; it closes with what it holds, and that is a
--- triple at least; and once all its rows have been worked, in whatever order and however often, closing gives the one pass of its input.
+-- S2, S4: what holds of every sound part, whoever made it. No row and no merge makes it unsound; it closes with what it holds, and that is
+-- a triple at least; and once all its rows have been worked, in whatever order and however often, closing gives the one pass of its input.
 use Prim.Native.Nat.{ℕ, _*_, _/_, _≤_, _<_}
 use mathlib.Core.Bool.{Bool, true, false, not, cond, _&&_, and-eq-true-iff}
 use mathlib.Core.List.{List, [], _∷_}
@@ -59,7 +59,8 @@ unfolding rightPart inputRight
 right-with p v i w = and-intro i w
 
 -- what two lists of entries have, their merge has
-merged-entries : (score : ℕ → Float) (a b : List Entry) → ((e : Entry) → In a e → IsEntry score e) → ((e : Entry) → In b e → IsEntry score e)
+merged-entries : (score : ℕ → Float) (a b : List Entry)
+    → ((e : Entry) → In a e → IsEntry score e) → ((e : Entry) → In b e → IsEntry score e)
     → (e : Entry) → In (heldList (heldOf (mergedHeld a b))) e → IsEntry score e
 merged-entries score a b f g e i =
     ⊎-elim (λ j. f e (first-in a e j)) (λ j. g e (first-in b e (j .0)))
@@ -129,7 +130,8 @@ module _ (p : Part) where
           shape =
               right-with p (joined (workIn p) (rowAlone r)) input
               (subst
-              (λ (l : List Entry). workRight rows (bitOr (p .marks) (rowAlone r .marks)) (heldOf (mergedHeld (heldList (p .held)) l)) ≡ true)
+              (λ (l : List Entry).
+              workRight rows (bitOr (p .marks) (rowAlone r .marks)) (heldOf (mergedHeld (heldList (p .held)) l)) ≡ true)
               (held-back (InRows width score (eqb r)) (rowAlone r .held) (s .held-best))
               (joined-right rows (p .marks) (rowAlone r .marks) (p .held) (heldOf (rowAlone r .held)) (right-parts p (t .shape) .1)
               (work-right (scores-numbers p input eight) (d .some) (d .few) s)));
@@ -225,5 +227,6 @@ module _ (p : Part) (eight : length (p .weights) ≡ 8) (t : TruePart p) where
 
 -- whatever a sound part claims to have done: with all its rows worked, in any order and any number of times, closing gives the one pass of
 -- its input
-pub sound-reworked : (p : Part) → TypedPart p → soundPart p ≡ true → (l : List ℕ) → Covers (rowCount p) l → closeStep (workedRows p l) ≡ onePassCall p
+pub sound-reworked : (p : Part) → TypedPart p → soundPart p ≡ true
+    → (l : List ℕ) → Covers (rowCount p) l → closeStep (workedRows p l) ≡ onePassCall p
 sound-reworked p typed sound = true-reworked p (typed .weights .places) (sound-true p typed sound)

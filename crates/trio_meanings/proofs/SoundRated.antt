@@ -1,5 +1,5 @@
--- T10, T11, S4: of every part that the types allow, forged or not, closing gives the quality that the ground says: what is held has its true
--- scores, so that two of them are finite where every animal has reads, and the first is not below the second. So Tied gives 3.
+-- T10, T11, S4: of every part that the types allow, forged or not, closing gives the quality that the ground says: what is held has its
+-- true scores, so that two of them are finite where every animal has reads, and the first is not below the second. So Tied gives 3.
 use Prim.Native.Nat.{ℕ, zero, suc, _≤_, _<_}
 use mathlib.Core.Bool.{Bool, true, false, not, cond, decide, decide-iff, _&&_}
 use mathlib.Core.List.{List, [], _∷_}

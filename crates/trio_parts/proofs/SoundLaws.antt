@@ -44,7 +44,8 @@ use Rattle.trio_parts.proofs.RightLaws.{right-input, some-clusters, few
 module _ (p : Part) (right : rightPart p ≡ true) (lists : p .scores ≡ listsIn p) where
   shaped : Shaped (rowCount p) (p .marks) (p .held)
   unfolding rightPart
-  shaped = right-shaped (rowCount p) (p .marks) (p .held) (and-elim-right (inputRight p) (workRight (rowCount p) (p .marks) (p .held)) right)
+  shaped =
+      right-shaped (rowCount p) (p .marks) (p .held) (and-elim-right (inputRight p) (workRight (rowCount p) (p .marks) (p .held)) right)
 
   -- a triple held stands at a position of the search, where the lists give the score of the rules
   held-over : (e : Entry) → In (heldList (p .held)) e → scoredTrue (scoreOver (p .clusters) (p .scores)) e ≡ scoredTrue (scoreIn p) e
@@ -198,11 +199,13 @@ pub record OneInput (a b : Part) : Type 0 where
 pub same-one : (a b : Part) → TypedPart a → TypedPart b → sameInput a b ≡ true → OneInput a b
 unfolding sameInput
 same-one a b t u e =
-    let lists = and-elim-right (eqb (a .clusters) (b .clusters)) (sameNumbers (a .counts) (b .counts) && sameBits (a .weights) (b .weights)) e in
+    let lists = and-elim-right (eqb (a .clusters) (b .clusters))
+    (sameNumbers (a .counts) (b .counts) && sameBits (a .weights) (b .weights)) e in
     record {
       one-clusters = sym (eqb-true (a .clusters) (b .clusters) (and-elim-left (eqb (a .clusters) (b .clusters)) _ e));
       one-counts = sym (same-equal (a .counts) (b .counts) (and-elim-left (sameNumbers (a .counts) (b .counts)) _ lists));
-      one-weights = sym (same-floats (a .weights) (b .weights) (each-fits (a .weights) (t .weights .f64s)) (each-fits (b .weights) (u .weights .f64s))
+      one-weights = sym (same-floats (a .weights) (b .weights)
+          (each-fits (a .weights) (t .weights .f64s)) (each-fits (b .weights) (u .weights .f64s))
           (and-elim-right (sameNumbers (a .counts) (b .counts)) _ lists));
     }
 

@@ -6,8 +6,8 @@ use refusals::Refusal;
 use trio_entries::held::Held;
 use trio_samples::scores::Scores;
 
-// Each cluster has three counts, of child, father and mother, and one weight, and each animal a score for each genotype. Places that are not
-// in use are zero.
+// Each cluster has three counts, of child, father and mother, and one weight; each animal has a score for each genotype. Places that are
+// not in use are zero.
 #[repr(C)]
 pub struct Part {
     pub clusters: u64,

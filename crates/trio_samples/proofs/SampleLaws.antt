@@ -55,7 +55,8 @@ part-at-most f i (suc m) (suc d) h =
 pub count-in-column : (counts : List ℕ) (column m c : ℕ) → c < m → reads counts column c ≤ sum (map (reads counts column) (numbers 0 m))
 count-in-column counts column m c h = rw zero-add at (part-at-most (reads counts column) 0 m c h)
 
-pub count-at-most : (n : ℕ) (counts : List ℕ) (s : Sample) (c : ℕ) → c < upToEight n → reads counts (sampleNumber s) c ≤ columnTotal n counts s
+pub count-at-most : (n : ℕ) (counts : List ℕ) (s : Sample) (c : ℕ) → c < upToEight n
+    → reads counts (sampleNumber s) c ≤ columnTotal n counts s
 unfolding columnTotal
 count-at-most n counts s c h = count-in-column counts (sampleNumber s) (upToEight n) c h
 
@@ -97,7 +98,8 @@ logged-is n counts weights logs s h w =
     ap (λ (l : List Float). cond (eqb (columnTotal n counts s) 0) (inf true) (sumFrom (nat 0) l))
     (terms-same (loggedTerm n counts logs s h) (clusterTerm n counts weights s h) 0 (upToEight n)
     (λ c l.
-    ap (λ (x : Float). logBinomial (reads counts (sampleNumber s) c) (columnTotal n counts s) (clusterShare n h c) ⊕ x) (w c (omega arith))))
+    ap (λ (x : Float). logBinomial (reads counts (sampleNumber s) c) (columnTotal n counts s) (clusterShare n h c) ⊕ x)
+    (w c (omega arith))))
 
 -- one place more
 pub one-log : (f : Float → Float) (w l : List Float) (c : ℕ) → c < length l → ((k : ℕ) → k < c → getD l k nan ≡ f (getD w k nan))

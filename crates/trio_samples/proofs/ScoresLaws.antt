@@ -49,10 +49,15 @@ scores-more f k h =
     let many = numbers-many f 0 k in
     ap (λ (i : ℕ). set (firstScores f k) i (f k)) (sym many)
     ∙ padded-next 36 (nat 0) (map f (numbers 0 k)) (f k) (subst (λ (i : ℕ). i < 36) (sym many) h)
-    ∙ ap placed (sym (ap (λ (i : ℕ). map f (numbers 0 i)) (add-one k) ∙ numbers-more f 0 k ∙ ap (λ (j : ℕ). map f (numbers 0 k) ++ (f j ∷ [])) (zero-add k)))
+    ∙ ap placed
+    (sym
+    (ap (λ (i : ℕ). map f (numbers 0 i)) (add-one k)
+    ∙ numbers-more f 0 k
+    ∙ ap (λ (j : ℕ). map f (numbers 0 k) ++ (f j ∷ [])) (zero-add k)))
 
 -- a list by its places
-by-places : {A : Type 0} (g : A → Float) (d : A) (l : List A) (i : ℕ) (f : ℕ → Float) → ((k : ℕ) → k < length l → f (i + k) ≡ g (getD l k d))
+by-places : {A : Type 0} (g : A → Float) (d : A) (l : List A) (i : ℕ) (f : ℕ → Float)
+    → ((k : ℕ) → k < length l → f (i + k) ≡ g (getD l k d))
     → map f (numbers i (length l)) ≡ map g l
 by-places g d [] i f h = refl
 by-places g d (x ∷ l) i f h =
@@ -99,7 +104,8 @@ zeros-fit zero k = nan-fits binary64
 zeros-fit (suc m) zero = ofInt-fits binary64 (pos 0)
 zeros-fit (suc m) (suc k) = zeros-fit m k
 
-filled-fit : {A : Type 0} (f : A → Float) → ((x : A) → T (fits binary64 (f x))) → (l : List A) (m : ℕ) → AllFit (map f l ++ replicate m (nat 0))
+filled-fit : {A : Type 0} (f : A → Float) → ((x : A) → T (fits binary64 (f x)))
+    → (l : List A) (m : ℕ) → AllFit (map f l ++ replicate m (nat 0))
 filled-fit f h [] m k = zeros-fit m k
 filled-fit f h (x ∷ l) m zero = h x
 filled-fit f h (x ∷ l) m (suc k) = filled-fit f h l m k

@@ -28,16 +28,20 @@ joined-requires c κs = search needs
 returns : tie.Need-returns
 unfolding mergeStep
 returns c =
+    let one-input = c .before in
+    let both = one-input .before .before in
     rw (
-      sound (c .before .before .before .before .before),
-      sound-2 (c .before .before .before),
-      sym (c .before .before .same-input .ensures) ∙ c .before .if3 .taken,
+      sound (both .before .before),
+      sound-2 both,
+      sym (one-input .before .same-input .ensures) ∙ one-input .if3 .taken,
       c .joined .ensures,
     )
 
 returns-2 : tie.Need-returns-2
 unfolding mergeStep
-returns-2 c = rw (sound (c .before .before .before .before), sound-2 (c .before .before), sym (c .before .same-input .ensures) ∙ c .if3 .left)
+returns-2 c =
+    let both = c .before .before in
+    rw (sound (both .before .before), sound-2 both, sym (c .before .same-input .ensures) ∙ c .if3 .left)
 
 returns-3 : tie.Need-returns-3
 unfolding mergeStep

@@ -45,10 +45,14 @@ joined-requires c κs = search needs
 
 returns : tie.Need-returns
 returns c =
-    let a = c .before .before .before .before .before .before .before .args in
-    let g = c .before .before .before .genotype-count in
-    row-done (a .p) (c .before .row-part .result) (c .joined .result) (a .r) (g .result)
-    (sound (c .before .before .before .before .before)) (c .before .before .if2 .taken) (g .ensures) (c .before .row-part .ensures) (c .joined .ensures)
+    let alone = c .before in
+    let there = alone .before in
+    let counted = there .before in
+    let tested = counted .before .before in
+    let a = tested .before .before .args in
+    let g = counted .genotype-count in
+    row-done (a .p) (alone .row-part .result) (c .joined .result) (a .r) (g .result)
+    (sound tested) (there .if2 .taken) (g .ensures) (alone .row-part .ensures) (c .joined .ensures)
 
 returns-2 : tie.Need-returns-2
 unfolding rowStep

@@ -44,14 +44,18 @@ closed-as-requires c κs = search needs
 
 returns : tie.Need-returns
 unfolding closeStep
-returns c = rw (sound (c .before .before .before .before .before), marks (c .before .before) ∙ c .before .if2 .taken) (c .closed-as .ensures)
+returns c =
+    let tested = c .before .before in
+    rw (sound (tested .before .before .before), marks tested ∙ c .before .if2 .taken) (c .closed-as .ensures)
 
 refused-closing-requires : tie.Need-refused-closing-requires
 refused-closing-requires c κs = search needs
 
 returns-2 : tie.Need-returns-2
 unfolding closeStep
-returns-2 c = rw (sound (c .before .before .before .before .before), marks (c .before .before) ∙ c .before .if2 .left) (c .refused-closing .ensures)
+returns-2 c =
+    let tested = c .before .before in
+    rw (sound (tested .before .before .before), marks tested ∙ c .before .if2 .left) (c .refused-closing .ensures)
 
 refused-closing-requires-2 : tie.Need-refused-closing-requires-2
 refused-closing-requires-2 c κs = search needs

@@ -20,16 +20,19 @@ open-part-requires c κs = search needs
 number-requires : tie.Need-number-requires
 number-requires c κs = search needs
 
--- what was opened, where it was accepted
-accepted : (c : tie.Then1) → let a = c .before .before .before .before .before .before .args in
-    numberOf (openStep (a .n) (a .counts .now) (a .weights .now) .refusal) ≡ 0
+-- what was asked, from the test on
+abbrev asked : tie.Then1 → tie.Start
+asked c = c .before .before .before .before .before .before
+
+-- it was accepted
+accepted : (c : tie.Then1) → let a = asked c .args in numberOf (openStep (a .n) (a .counts .now) (a .weights .now) .refusal) ≡ 0
 accepted c =
     let o = c .before .before .before .open-part .ensures in
     sym (ap (λ (s : Stepped). numberOf (s .refusal)) o) ∙ sym (c .before .number .ensures) ∙ c .if1 .taken
 
 searched-requires : tie.Need-searched-requires
 searched-requires c κs =
-    let a = c .before .before .before .before .before .before .args in
+    let a = asked c .args in
     let fresh = opened-is (a .n) (a .counts .now) (a .weights .now) (accepted c) in
     subst (λ (s : Stepped). (1 ≤ s .part .clusters) × (s .part .clusters ≤ 8) × (s .part .scores ≡ listsIn (s .part)))
     (sym (c .before .before .before .open-part .ensures ∙ fresh)) (
@@ -45,7 +48,7 @@ returns : tie.Need-returns
 unfolding calledBy
 returns c =
     let then = c .before .before in
-    let a = then .before .before .before .before .before .before .args in
+    let a = asked then .args in
     let o = then .before .before .before .open-part .ensures in
     c .closed-as .ensures ∙ ap closedAs (c .before .searched .ensures) ∙ ap (λ (s : Stepped). onePassCall (s .part)) o
     ∙ rw (eq-eqb (numberOf (openStep (a .n) (a .counts .now) (a .weights .now) .refusal)) 0 (accepted then))

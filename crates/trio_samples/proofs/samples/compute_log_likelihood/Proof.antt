@@ -18,7 +18,8 @@ returns : tie.Need-returns
 returns c =
     let logged = c .before .before in
     let a = logged .before .args in
-    c .score-by .ensures ∙ logged-is (a .n) (a .counts) (a .weights) (logged .weight-logs .result) (a .s) (a .pair) (logged .weight-logs .ensures)
+    let logs = logged .weight-logs in
+    c .score-by .ensures ∙ logged-is (a .n) (a .counts) (a .weights) (logs .result) (a .s) (a .pair) (logs .ensures)
 
 pub compute-log-likelihood-spec : {M : Type 1} → statement M
 compute-log-likelihood-spec = tie.close (tie.spec weight-logs-requires shares-of-requires score-by-requires returns)

@@ -1,4 +1,5 @@
--- `trio_samples::samples::score_by` meets its contract. The loop's invariant: the running sum, carried through the clusters left, is the score.
+-- `trio_samples::samples::score_by` meets its contract. The loop's invariant: the running sum, carried through the clusters left, is the
+-- score.
 use mathlib.Core.Path.{_≡_, _∙_, ap, sym}
 use mathlib.Core.Bool.{cond}
 use mathlib.Core.List.{List, map}
@@ -23,7 +24,7 @@ use Rattle.trio_samples.proofs.samples.score_by.Tie as tie
 
 -- what cluster c adds
 abbrev term : ℕ → List ℕ → List Float → Pair → ℕ → ℕ → ℕ → Float
-term n counts logs pair column total c = logBinomial (reads counts column c) total (expectation pair c ⊘ expectationTotal n pair) ⊕ getD logs c nan
+term n counts logs pair column total c = logBinomial (reads counts column c) total (clusterShare n pair c) ⊕ getD logs c nan
 
 score-is : (n : ℕ) (counts : List ℕ) (logs : List Float) (s : Sample) (pair : Pair) (many column total : ℕ)
     → many ≡ upToEight n → column ≡ sampleNumber s → total ≡ columnTotal n counts s → (total ≡ 0 → ⊥)
@@ -34,7 +35,8 @@ score-is n counts logs s pair many column total m k t some = rw (m, k, t, ne-eqb
 abbrev Inv-loop : tie.InvT-loop
 Inv-loop n pair counts logs many column total called other log-lik₀ c₀ log-lik c =
     (c ≤ many) × (many ≤ 8) × (column < 3)
-    × (sumFrom log-lik (map (term n counts logs pair column total) (numbers c (many - c))) ≡ sumFrom (nat 0) (map (term n counts logs pair column total) (numbers 0 many)))
+    × (sumFrom log-lik (map (term n counts logs pair column total) (numbers c (many - c)))
+    ≡ sumFrom (nat 0) (map (term n counts logs pair column total) (numbers 0 many)))
 
 abbrev μ-loop : tie.MeasureT-loop
 μ-loop n pair counts logs many column total called other log-lik₀ c₀ log-lik c = many - c
@@ -54,7 +56,12 @@ below c = rw (c .sample-number .ensures) (sample-below (c .before .before .args 
 column-sum-requires : tie.Need-column-sum-requires Inv-loop μ-loop
 column-sum-requires c κs = (few (c .before), below c)
 
-total-is : (c : tie.After-column-sum Inv-loop μ-loop) → let start = c .before .before .before .args in c .column-sum .result ≡ columnTotal (start .n) (start .t2) (start .s)
+-- what was asked, from the sum on
+abbrev asked : tie.After-column-sum Inv-loop μ-loop → tie.Start Inv-loop μ-loop
+asked c = c .before .before .before
+
+total-is : (c : tie.After-column-sum Inv-loop μ-loop) → let a = c .before .before .before .args in
+    c .column-sum .result ≡ columnTotal (a .n) (a .t2) (a .s)
 unfolding columnTotal
 total-is c = rw (c .column-sum .ensures .0, c .before .sample-number .ensures, c .before .before .in-use .ensures)
 
@@ -84,25 +91,32 @@ cast-obs c = search needs
 either-requires : tie.Need-either-requires Inv-loop μ-loop
 either-requires c κs = search needs
 
+-- the sum, from a turn's share on
+abbrev summed : tie.After-either Inv-loop μ-loop → tie.After-column-sum Inv-loop μ-loop
+summed c = c .before .before .before .before .before .before
+
 -- the share of a turn's cluster
-chosen : (c : tie.After-either Inv-loop μ-loop) →
-    let start = c .before .before .before .before .before .before .before .before .before .args in
-    c .either .result ≡ withLogs (expectation (start .pair) (c .before .before .loop .c) ⊘ expectationTotal (start .n) (start .pair))
+chosen : (c : tie.After-either Inv-loop μ-loop) → let a = asked (summed c) .args in
+    c .either .result ≡ withLogs (clusterShare (a .n) (a .pair) (c .before .before .loop .c))
 unfolding sharesOf
 chosen c =
-    let t = c .before .before .before .before .before .before .before .before .before in
-    let a = t .args in
+    let start = asked (summed c) in
+    let a = start .args in
     let k = c .before .before .loop .c in
     c .either .ensures
-    ∙ ap (λ (x : Shares). cond (named (a .pair) k) (x .called) (x .other)) (t .pre)
+    ∙ ap (λ (x : Shares). cond (named (a .pair) k) (x .called) (x .other)) (start .pre)
     ∙ share-by-kind (a .pair) k (expectationTotal (a .n) (a .pair))
 
 log-binomial-requires : tie.Need-log-binomial-requires Inv-loop μ-loop
 log-binomial-requires c κs =
-    let begun = c .before .before .before .before .before .before in
-    let start = begun .before .before .before .args in
+    let begun = summed c in
     let all = begun .column-sum .ensures in
-    (rw (all .0) (count-in-column (start .t2) (begun .before .sample-number .result) (begun .before .before .in-use .result) (c .before .before .loop .c) (c .before .loop-test .taken)), all .1, rw (chosen c))
+    let column = begun .before .sample-number .result in
+    let many = begun .before .before .in-use .result in (
+      rw (all .0) (count-in-column (asked begun .args .t2) column many (c .before .before .loop .c) (c .before .loop-test .taken)),
+      all .1,
+      rw (chosen c),
+    )
 
 mul-log-lik : tie.Need-mul-log-lik Inv-loop μ-loop
 mul-log-lik c = search needs
@@ -119,25 +133,29 @@ loop-less c = search needs
 -- what a turn adds
 turn : (c : tie.After-log-binomial Inv-loop μ-loop) →
     let begun = c .before .before .before .before .before .before .before in
-    let start = begun .before .before .before .args in
-    c .log-binomial .result ⊕ getD (start .t3) (c .before .before .before .loop .c) nan
-    ≡ term (start .n) (start .t2) (start .t3) (start .pair) (begun .before .sample-number .result) (begun .column-sum .result) (c .before .before .before .loop .c)
+    let a = begun .before .before .before .args in
+    let k = c .before .before .before .loop .c in
+    c .log-binomial .result ⊕ getD (a .t3) k nan
+    ≡ term (a .n) (a .t2) (a .t3) (a .pair) (begun .before .sample-number .result) (begun .column-sum .result) k
 turn c = rw (c .log-binomial .ensures, chosen (c .before))
 
 loop-again : tie.Need-loop-again Inv-loop μ-loop
 loop-again c =
     let now = c .before .before .before .loop in
-    let many = c .before .before .before .before .before .before .before .before .before .in-use .result in
+    let many = summed (c .before) .before .before .in-use .result in
     (omega arith, now .inv .1, now .inv .2, rw (turn c) (rw (up-next (now .c) many (c .before .before .loop-test .taken)) at (now .inv .3)))
 
 returns-2 : tie.Need-returns-2 Inv-loop μ-loop
 returns-2 c =
     let now = c .before .loop in
-    let begun = c .before .before .before .before .before in
+    let some = c .before .before .before .before in
+    let begun = some .before in
     let many = begun .before .before .in-use in
-    let start = begun .before .before .before .args in
+    let column = begun .before .sample-number in
+    let a = asked begun .args in
     (rw (up-done (now .c) (many .result) (c .loop-test .left)) at (now .inv .3))
-    ∙ score-is (start .n) (start .t2) (start .t3) (start .s) (start .pair) (many .result) (begun .before .sample-number .result) (begun .column-sum .result) (many .ensures) (begun .before .sample-number .ensures) (total-is begun) (c .before .before .before .before .if1 .left)
+    ∙ score-is (a .n) (a .t2) (a .t3) (a .s) (a .pair) (many .result) (column .result) (begun .column-sum .result)
+    (many .ensures) (column .ensures) (total-is begun) (some .if1 .left)
 
 pub score-by-spec : {M : Type 1} → statement M
 score-by-spec =

@@ -23,7 +23,17 @@ share-of-requires-2 c κs = search needs
 
 returns : tie.Need-returns
 unfolding sharesOf expectationTotal round ofBits
-returns c = rw (c .share-of2 .ensures, c .before .share-of .ensures, c .before .before .expected .ensures, c .before .before .before .expected-total .ensures, c .before .before .before .before .in-use .ensures)
+returns c =
+    let called = c .before in
+    let first = called .before in
+    let whole = first .before in
+    rw (
+      c .share-of2 .ensures,
+      called .share-of .ensures,
+      first .expected .ensures,
+      whole .expected-total .ensures,
+      whole .before .in-use .ensures,
+    )
 
 pub shares-of-spec : {M : Type 1} → statement M
 shares-of-spec =
