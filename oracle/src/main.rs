@@ -59,6 +59,7 @@ mod trio {
     pub mod pass;
     pub mod port;
     pub mod port_steps;
+    pub mod ported;
     pub mod quality;
     pub mod quality_cases;
     pub mod quality_inputs;

@@ -9,6 +9,7 @@ use Rattle.floats.proofs.key.at_most.Reads as at-most
 use Rattle.floats.proofs.key.below.Reads as below
 use Rattle.floats.proofs.bits.bits.Reads as bits
 use Rattle.floats.proofs.bits.of_bits.Reads as of-bits
+use Rattle.floats.proofs.bits.same_bits.Reads as same-bits
 use Rattle.floats_nearest.proofs.nearest.nearest_multiple.Reads as nearest-multiple
 use Rattle.kernels.proofs.ln.ln.Reads as ln
 use Rattle.kernels.proofs.exp.exp.Reads as exp
@@ -165,6 +166,9 @@ bits-once κ a v w e f = only
 
 pub of-bits-once : OneAnswer of-bits.Post
 of-bits-once κ a v w e f = only
+
+pub same-bits-once : OneAnswer same-bits.Post
+same-bits-once κ a v w e f = only
 
 pub nearest-multiple-once : OneAnswer nearest-multiple.Post
 nearest-multiple-once κ a v w e f = only

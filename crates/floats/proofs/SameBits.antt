@@ -8,7 +8,7 @@ use lib.ListN.{getD}
 use lib.Ieee.{Float, nan, binary64, fits, toBits, ofBits}
 use lib.Ieee.Bits.{ofBits-toBits}
 use Rattle.lists.proofs.SameLaws.{same-self, same-equal}
-use Rattle.floats.specs.Bits.{sameBits, AllFit}
+use Rattle.floats.specs.Bits.{sameBits, EachFits}
 
 pub same-bits : (x y : Float) → T (fits binary64 x) → T (fits binary64 y) → toBits binary64 x ≡ toBits binary64 y → x ≡ y
 same-bits x y f g e = sym (ofBits-toBits binary64 x f) ∙ ap (ofBits binary64) e ∙ ofBits-toBits binary64 y g
@@ -16,7 +16,7 @@ same-bits x y f g e = sym (ofBits-toBits binary64 x f) ∙ ap (ofBits binary64) 
 pub bits-self : (a : List Float) → sameBits a a ≡ true
 bits-self a = same-self (map (toBits binary64) a)
 
-bits-equal : (a b : List Float) → AllFit a → AllFit b → map (toBits binary64) a ≡ map (toBits binary64) b → a ≡ b
+bits-equal : (a b : List Float) → EachFits a → EachFits b → map (toBits binary64) a ≡ map (toBits binary64) b → a ≡ b
 bits-equal [] [] f g e = refl
 bits-equal [] (y ∷ b) f g e = absurd (true≢false (ap some e))
   where
@@ -37,5 +37,5 @@ bits-equal (x ∷ a) (y ∷ b) f g e =
     rest (x ∷ l) = l
 
 -- so lists of f64s that are the same bit for bit are equal
-pub same-floats : (a b : List Float) → AllFit a → AllFit b → sameBits a b ≡ true → a ≡ b
+pub same-floats : (a b : List Float) → EachFits a → EachFits b → sameBits a b ≡ true → a ≡ b
 same-floats a b f g e = bits-equal a b f g (same-equal (map (toBits binary64) a) (map (toBits binary64) b) e)

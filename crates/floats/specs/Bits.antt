@@ -14,5 +14,5 @@ sameBits a b = sameNumbers (map (toBits binary64) a) (map (toBits binary64) b)
 -- ---- for the laws
 
 -- every member is an f64; a `Float` of the definitions can be any number of the form that floats have
-abbrev pub AllFit : List Float → Type 0
-AllFit l = (k : ℕ) → T (fits binary64 (getD l k nan))
+abbrev pub EachFits : List Float → Type 0
+EachFits l = (k : ℕ) → T (fits binary64 (getD l k nan))

@@ -1,6 +1,8 @@
--- A test on every member of a list: by what is left of the list from place i on, and place by place. Assumes nothing.
-use Prim.Native.Nat.{ℕ, zero, suc, _+_, _≤_, _<_, suc-le-suc, zero-le}
-use native.Mathlib.Nat.{not-suc-le-zero, le-of-suc-le-suc, zero-lt-suc}
+-- A test on every member of a list: by what is left of the list from place i on, place by place, and over consecutive numbers. Assumes
+-- nothing.
+use Prim.Native.Nat.{ℕ, zero, suc, _+_, _-_, _≤_, _<_, suc-le-suc, zero-le}
+use native.Mathlib.Nat.{not-suc-le-zero, le-of-suc-le-suc, zero-lt-suc, add-zero, add-suc, suc-add}
+use native.Mathlib.Omega.{arith}
 use mathlib.Core.Bool.{Bool, true, false, _&&_, true≢false}
 use mathlib.Core.List.{List, [], _∷_}
 use mathlib.Core.Path.{_≡_, refl, sym, ap, _∙_}
@@ -9,6 +11,7 @@ use lib.Dec.{T}
 use lib.Ieee.Fits.{and-l, and-r}
 use lib.ListN.{length, getD, drop, drop-of-length-le}
 use Rattle.lists.specs.Every.{every}
+use Rattle.lists.specs.Lists.{numbers}
 use Rattle.lists.proofs.PlaceLaws.{drop-next}
 
 module _ {A : Type 0} (passes : A → Bool) (d : A) (l : List A) (i : ℕ) where
@@ -46,3 +49,18 @@ module _ {A : Type 0} (passes : A → Bool) (d : A) where
           → (i : ℕ) × (i < length (x ∷ l)) × (passes (getD (x ∷ l) i d) ≡ false)
       go true e f later = let s = later f in (suc (s .0), suc-le-suc (s .1), s .2)
       go false e f later = (0, zero-lt-suc (length l), e)
+
+-- ---- a test that each of the numbers from i on passes: what antt computes over all of them, at one
+
+pub every-up : (f : ℕ → Bool) (i m d : ℕ) → T (every f (numbers i m)) → d < m → T (f (i + d))
+every-up f i zero d h l = absurd (not-suc-le-zero l)
+every-up f i (suc m) zero h l = rw add-zero (and-l (f i) (every f (numbers (suc i) m)) h)
+every-up f i (suc m) (suc d) h l =
+    let k : d < m = omega arith in
+    rw (add-suc, ← suc-add) (every-up f (suc i) m d (and-r (f i) (every f (numbers (suc i) m)) h) k)
+
+pub every-between : (f : ℕ → Bool) (i m d : ℕ) → T (every f (numbers i m)) → i ≤ d → d < i + m → T (f d)
+every-between f i m d h l u =
+    let e : i + (d - i) ≡ d = omega arith in
+    let k : d - i < m = omega arith in
+    rw e at (every-up f i m (d - i) h k)

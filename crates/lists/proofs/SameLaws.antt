@@ -1,9 +1,10 @@
 -- When two lists of numbers are the same: what it means, either way round, and on what is left of them from place i on, which a loop that
 -- compares them needs. Assumes nothing.
-use Prim.Native.Nat.{ℕ, _+_, _≤_, _<_}
-use mathlib.Core.Bool.{true, false, _&&_, true≢false}
+use Prim.Native.Nat.{ℕ, suc, _+_, _≤_, _<_}
+use mathlib.Core.Bool.{Bool, true, false, _&&_, true≢false}
+use mathlib.Core.Logic.{_≢_}
 use mathlib.Core.List.{List, [], _∷_}
-use mathlib.Core.Path.{_≡_, refl, sym, ap₂}
+use mathlib.Core.Path.{_≡_, refl, sym, ap, ap₂, _∙_}
 use mathlib.Mathlib.Data.Bool.Basic.{and-elim-left, and-elim-right}
 use native.Mathlib.Numerals.{add-one}
 use borrow.Author.Tests.{eq-eqb, ne-eqb, eqb-true}
@@ -29,6 +30,17 @@ same-equal [] (y ∷ b) e = absurd (true≢false (sym e))
 same-equal (x ∷ a) [] e = absurd (true≢false (sym e))
 same-equal (x ∷ a) (y ∷ b) e =
     ap₂ _∷_ (eqb-true x y (and-elim-left (eqb x y) (sameNumbers a b) e)) (same-equal a b (and-elim-right (eqb x y) (sameNumbers a b) e))
+
+-- lists of other lengths are not the same
+pub same-longer : (a b : List ℕ) → length a ≢ length b → false ≡ sameNumbers a b
+same-longer [] [] h = absurd (h refl)
+same-longer [] (y ∷ b) h = refl
+same-longer (x ∷ a) [] h = refl
+same-longer (x ∷ a) (y ∷ b) h = same-longer a b (λ e. h (ap suc e)) ∙ sym (go (eqb x y) (same-longer a b (λ e. h (ap suc e))))
+  where
+    go : (t : Bool) → false ≡ sameNumbers a b → (t && sameNumbers a b) ≡ sameNumbers a b
+    go true e = refl
+    go false e = e
 
 -- ---- from place i on
 

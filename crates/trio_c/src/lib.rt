@@ -1,5 +1,5 @@
-// The whole call of a trio, its steps, and a quality by itself, for callers in other languages: a cluster number and slices, or two scores,
-// in; numbers out (docs/RULES.md, T9 to T12).
+// The whole call of a trio, its steps, and a quality by itself, for callers in other languages: a cluster number and slices, parts,
+// or two scores in; numbers and parts out (docs/RULES.md, T9 to T12).
 // It answers every argument; what the foreign caller answers for is in docs/TRUST.md.
 ghost use mathlib.Core.Path.{_≡_};
 ghost use mathlib.Core.Bool.{cond, not};
@@ -7,6 +7,7 @@ ghost use lib.Dec.{eqb};
 ghost use Rattle.trio_quality.specs.Quality.{trioQuality};
 ghost use Rattle.trio_desks.specs.Call.{callOf};
 ghost use Rattle.trio_c.specs.Trio.{IsCall, sixOf, sixFlags};
+use trio_closings::closing::Closed;
 use trio_family::ground;
 use trio_family::pair::Triple;
 use trio_reads::flags::TripleRead;
@@ -14,14 +15,14 @@ use trio_reads::flags::TripleRead;
 pub mod steps;
 
 // 1 for true.
-pub(crate) fn flag(b: bool) -> u32
+fn flag(b: bool) -> u32
     ensures { λ r. ⌜ r ≡ cond b 1 0 ⌝ }
 {
     if b { 1 } else { 0 }
 }
 
 // Animal by animal, the lower allele first.
-pub(crate) fn six_pairs(t: Triple) -> [u64; 6]
+fn six_pairs(t: Triple) -> [u64; 6]
     ensures { λ r. ⌜ r ≡ sixOf t ⌝ }
 {
     let child = t.child;
@@ -38,7 +39,7 @@ pub(crate) fn six_pairs(t: Triple) -> [u64; 6]
 }
 
 // In the same order.
-pub(crate) fn six_flags(f: TripleRead) -> [u32; 6]
+fn six_flags(f: TripleRead) -> [u32; 6]
     ensures { λ r. ⌜ r ≡ sixFlags f ⌝ }
 {
     let child = f.child;
@@ -54,9 +55,38 @@ pub(crate) fn six_flags(f: TripleRead) -> [u32; 6]
     ]
 }
 
-// Each cluster has three counts, of child, father and mother. The refusal's number is returned. Written through references: the pairs of
-// child, father and mother, the score, the ground's number, 1 if there is a runner-up and else 0, its position and its score, the quality,
-// and for each allele of the pairs 1 if its animal has a read of it and else 0.
+// Writes an answer out: the pairs of child, father and mother, the score, the ground's number, 1 if there is a runner-up and else 0, its
+// position and its score, the quality, and for each allele of the pairs 1 if its animal has a read of it and else 0. The refusal's number
+// is returned.
+pub(crate) fn hand_out(
+    answer: Closed,
+    pairs: &mut [u64; 6],
+    score: &mut f64,
+    ground: &mut u32,
+    runner: &mut u32,
+    position: &mut u64,
+    second: &mut f64,
+    quality: &mut u32,
+    read: &mut [u32; 6],
+) -> u32
+    ensures { λ r. ⌜ IsCall answer r (now (pairs .exit)) (now (score .exit)) (now (ground .exit)) (now (runner .exit))
+        (now (position .exit)) (now (second .exit)) (now (quality .exit)) (now (read .exit)) ⌝ }
+{
+    let refusal = answer.refusal;
+    let rests_on = answer.ground;
+    *pairs = six_pairs(answer.triple);
+    *score = answer.score;
+    *ground = ground::ground_number(rests_on);
+    *runner = flag(answer.has_runner);
+    let next = answer.runner;
+    *position = next.position;
+    *second = next.score;
+    *quality = answer.quality;
+    *read = six_flags(answer.read);
+    refusals::number(refusal)
+}
+
+// Each cluster has three counts, of child, father and mother. What is returned and written is said at `hand_out`.
 #[no_mangle]
 pub extern "C" fn admulfas_trio(
     clusters: u64,
@@ -76,18 +106,17 @@ pub extern "C" fn admulfas_trio(
         (now (quality .exit)) (now (read .exit)) ⌝ }
 {
     let answer = trio_desks::call::call(clusters, counts, weights);
-    let refusal = answer.refusal;
-    let rests_on = answer.ground;
-    *pairs = six_pairs(answer.triple);
-    *score = answer.score;
-    *ground = ground::ground_number(rests_on);
-    *runner = flag(answer.has_runner);
-    let next = answer.runner;
-    *position = next.position;
-    *second = next.score;
-    *quality = answer.quality;
-    *read = six_flags(answer.read);
-    refusals::number(refusal)
+    hand_out(
+        answer,
+        pairs,
+        score,
+        ground,
+        runner,
+        position,
+        second,
+        quality,
+        read,
+    )
 }
 
 // The quality of a call with the score `best` beside a runner-up with the score `next`, by whether an animal is unread and whether there is

@@ -1,14 +1,12 @@
-// The steps of a trio for callers in other languages. A part goes in and the part that the step leaves comes out, field by field as
-// `Part` has them; the refusal's number is written through a reference (docs/RULES.md, T6, T8, T9, O1, O2).
+// The steps of a trio for callers in other languages: opening, a row, merging, closing. Parts pass by value, field by field as `Part` has
+// them; the first three give the part that the step leaves and write the refusal's number through a reference, closing returns that number
+// (docs/RULES.md, T6, T8, T9, O1, O2).
 ghost use Rattle.trio_opening.specs.Opening.{openStep};
 ghost use Rattle.trio.specs.Steps.{rowStep, mergeStep};
 ghost use Rattle.trio_closings.specs.Closing.{closeStep};
 ghost use Rattle.trio_c.specs.Trio.{IsCall};
 ghost use Rattle.trio_c.specs.Steps.{IsStep};
-use crate::flag;
-use crate::six_flags;
-use crate::six_pairs;
-use trio_family::ground;
+use crate::hand_out;
 use trio_parts::part::Part;
 
 // Opens a trio.
@@ -67,16 +65,15 @@ pub extern "C" fn admulfas_close(
         (now (quality .exit)) (now (read .exit)) ⌝ }
 {
     let answer = trio_closings::closing::close(part);
-    let refusal = answer.refusal;
-    let rests_on = answer.ground;
-    *pairs = six_pairs(answer.triple);
-    *score = answer.score;
-    *ground = ground::ground_number(rests_on);
-    *runner = flag(answer.has_runner);
-    let next = answer.runner;
-    *position = next.position;
-    *second = next.score;
-    *quality = answer.quality;
-    *read = six_flags(answer.read);
-    refusals::number(refusal)
+    hand_out(
+        answer,
+        pairs,
+        score,
+        ground,
+        runner,
+        position,
+        second,
+        quality,
+        read,
+    )
 }

@@ -1,13 +1,14 @@
 -- S2, S4: a sound part that nobody's work made. Its scores are true and its triples are not the best, and nothing shows it: it closes, and
 -- calls a triple that one pass does not. Working its rows mends it. And the part of a refused opening, which no step takes.
-use Prim.Native.Nat.{ℕ}
+use Prim.Native.Nat.{ℕ, zero, suc, _<_, _^_}
 use mathlib.Core.Bool.{false, true}
 use mathlib.Core.List.{List, []}
 use mathlib.Core.Logic.{_≢_, inl, inr}
 use mathlib.Core.Path.{_≡_, refl, ap, sym, _∙_}
 use native.Mathlib.Omega.{arith}
-use lib.Dec.{lit≤}
-use lib.Ieee.{Float, inf, le, toBits, ofInt, isNan}
+use lib.Dec.{lit≤, lit<}
+use lib.ListN.{getD, replicate}
+use lib.Ieee.{Float, inf, le, toBits, ofInt, isNan, fits}
 use Rattle.floats.specs.Key.{keyOf}
 use Rattle.refusals.specs.declared.Refusal.the-variants.{Done, BadPart}
 use Rattle.trio_entries.specs.declared.entry.Entry.{Entry}
@@ -22,13 +23,15 @@ use Rattle.trio_family.specs.declared.pair.Triple.{Triple}
 use Rattle.trio_family.specs.declared.sample.Sample.the-variants.{Child}
 use Rattle.trio_family.specs.Genotypes.{genotypeCount, genotypeAt}
 use Rattle.trio_triples.specs.Genotypes.{tripleAt, tripleOf}
-use Rattle.trio_samples.specs.Samples.{columnTotal}
+use Rattle.trio_samples.specs.Samples.{columnTotal, sampleScore}
+use Rattle.trio_samples.specs.Scores.{scoresOf}
 use Rattle.trio_reads.specs.Unread.{unread}
 use Rattle.trio_parts.specs.declared.part.Part.{Part}
 use Rattle.trio_parts.specs.Part.{weightAllowed, scoreIn, rowCount, freshPart, emptyPart, gives}
 use Rattle.trio_parts.specs.Right.{inputRight, rightPart}
 use Rattle.trio_parts.specs.Sound.{soundPart}
-use Rattle.trio_parts.specs.Typed.{TruePart}
+use Rattle.trio_parts.specs.Typed.{Floats, TypedPart, TruePart}
+use Rattle.trio_parts.proofs.RightLaws.{right-input}
 use Rattle.trio_parts.proofs.SoundLaws.{true-sound, wrong-unsound}
 use Rattle.trio.specs.Steps.{rowStep, mergeStep}
 use Rattle.trio_closings.specs.declared.closing.Closed.{Closed}
@@ -40,7 +43,7 @@ use Rattle.trio_desks.specs.Steps.{workedRows}
 use Rattle.trio_desks.specs.Forged.{forged}
 use Rattle.trio_desks.proofs.UnreadCalls.{last-unread}
 use Rattle.trio_desks.proofs.BadParts.{bad-row, bad-first, bad-second, bad-close}
-use Rattle.trio_desks.proofs.SoundParts.{right-parts, closing-says, true-reworked}
+use Rattle.trio_desks.proofs.SoundParts.{closing-says, true-reworked}
 
 -- ---- a forged part
 
@@ -52,7 +55,7 @@ forged-right = refl
 forged-least : (q : ℕ) → scoreIn forged q ≡ inf true
 unfolding columnTotal forged
 forged-least q =
-    let accepted = input-accepted forged (right-parts forged forged-right .0) refl in
+    let accepted = input-accepted forged (right-input forged forged-right) refl in
     unread-least 2 (forged .counts) (forged .weights) accepted q Child refl
 
 -- each of its triples has the score of its position
@@ -70,6 +73,26 @@ forged-entries e (inr (inr i)) = absurd i
 forged-true : TruePart forged
 unfolding forged
 forged-true = record { shape = forged-right; lists = refl; entries = forged-entries }
+
+zeros-small : (m i : ℕ) → getD (replicate m 0) i 0 < 2 ^ 32
+zeros-small zero i = lit< tt
+zeros-small (suc m) zero = lit< tt
+zeros-small (suc m) (suc i) = zeros-small m i
+
+-- it is a part as the types have them
+pub forged-typed : TypedPart forged
+unfolding forged scoresOf sampleScore columnTotal fits ofInt
+forged-typed =
+    record {
+      counts-24 = refl;
+      counts-u32 = zeros-small 24;
+      weights = record { places = refl; f64s = tt };
+      child = record { places = refl; f64s = tt };
+      father = record { places = refl; f64s = tt };
+      mother = record { places = refl; f64s = tt };
+      first-f64 = tt;
+      second-f64 = tt;
+    }
 
 -- it is sound
 pub forged-sound : soundPart forged ≡ true

@@ -3,7 +3,7 @@ use Prim.Native.Nat.{ℕ, _<_}
 use mathlib.Core.Bool.{Bool, true, false, not, cond, _&&_, _||_, or-true}
 use mathlib.Core.List.{List, [], _∷_, map}
 use mathlib.Core.Path.{_≡_, refl, sym, ap, ap₂, subst, _∙_}
-use mathlib.Mathlib.Data.Bool.Basic.{and-intro, and-elim-right}
+use mathlib.Mathlib.Data.Bool.Basic.{and-intro}
 use native.Mathlib.Nat.{mul-pos}
 use borrow.Author.Tests.{ltb-true, eq-eqb, ne-eqb}
 use lib.Dec.{T, eqb, ltb}
@@ -17,7 +17,6 @@ use Rattle.trio_entries.specs.Held.{heldOf, heldList}
 use Rattle.trio_entries.proofs.BestLaws.{best-in}
 use Rattle.trio_search.specs.Marks.{isMarked, fullMarks}
 use Rattle.trio_entries.specs.Rank.{beatsOf}
-use Rattle.trio_search.specs.Shape.{workRight}
 use Rattle.trio_search.specs.Work.{Work, joined, noWork, rowWork, InRows, wholeWork}
 use Rattle.trio_search_laws.specs.Sound.{Sound}
 use Rattle.trio_search_laws.proofs.JoinLaws.{sound-unique}
@@ -30,7 +29,7 @@ use Rattle.trio_parts.specs.Part.{listsIn, scoreIn, rowCount, workIn, withWork,
 use Rattle.trio_parts.specs.Right.{inputRight, rightPart}
 use Rattle.trio_parts.specs.Sound.{soundPart}
 use Rattle.trio_parts.specs.Same.{sameInput}
-use Rattle.trio_parts.proofs.RightLaws.{right-input}
+use Rattle.trio_parts.proofs.RightLaws.{right-input, right-work}
 use Rattle.trio_parts.proofs.SoundLaws.{true-sound}
 use Rattle.trio.specs.Steps.{rowStep, mergeStep}
 use Rattle.trio_closings.specs.Closing.{closedAs, refusedClosing, closeStep}
@@ -87,10 +86,7 @@ module _ (start : Part) (fresh : Fresh start) where
   score = scoreIn start
 
   shaped : Shaped rows (start .marks) (start .held)
-  unfolding rightPart
-  shaped =
-      right-shaped rows (start .marks) (start .held)
-      (and-elim-right (inputRight start) (workRight rows (start .marks) (start .held)) (fresh .right))
+  shaped = right-shaped rows (start .marks) (start .held) (right-work start (fresh .right))
 
   some-width : 0 < width
   some-width = mul-pos (shaped .some) (shaped .some)

@@ -1,7 +1,7 @@
 -- S2, S4: what holds of every sound part, whoever made it. No row and no merge makes it unsound; it closes with what it holds, and that is
 -- a triple at least; and once all its rows have been worked, in whatever order and however often, closing gives the one pass of its input.
 use Prim.Native.Nat.{ℕ, _*_, _/_, _≤_, _<_}
-use mathlib.Core.Bool.{Bool, true, false, not, cond, _&&_, and-eq-true-iff}
+use mathlib.Core.Bool.{Bool, true, false, not, cond, _&&_}
 use mathlib.Core.List.{List, [], _∷_}
 use mathlib.Core.Logic.{inl, inr, ⊎-elim}
 use mathlib.Core.Path.{_≡_, refl, sym, ap, subst, _∙_}
@@ -41,17 +41,13 @@ use Rattle.trio_parts.specs.Right.{inputRight, rightPart}
 use Rattle.trio_parts.specs.Same.{sameInput}
 use Rattle.trio_parts.specs.Sound.{soundPart}
 use Rattle.trio_parts.specs.Typed.{TypedPart, TruePart}
+use Rattle.trio_parts.proofs.RightLaws.{right-input, right-work}
 use Rattle.trio_parts.proofs.SoundLaws.{sound-right, true-sound, sound-true, OneInput, same-one, one-score}
 use Rattle.trio.specs.Steps.{rowStep, mergeStep}
 use Rattle.trio_closings.specs.Closing.{closedAs, refusedClosing, closeStep}
 use Rattle.trio_laws.proofs.Inputs.{scores-numbers}
 use Rattle.trio_desks.specs.Call.{onePassCall}
 use Rattle.trio_desks.specs.Steps.{workedRows}
-
--- the right shape is that of the input and that of the work
-pub right-parts : (p : Part) → rightPart p ≡ true → (inputRight p ≡ true) × (workRight (rowCount p) (p .marks) (p .held) ≡ true)
-unfolding rightPart
-right-parts p r = and-eq-true-iff (inputRight p) (workRight (rowCount p) (p .marks) (p .held)) .0 r
 
 right-with : (p : Part) (v : Work) → inputRight p ≡ true → workRight (rowCount p) (v .marks) (heldOf (v .held)) ≡ true
     → rightPart (withWork p v) ≡ true
@@ -72,9 +68,9 @@ both-true : (a b : Part) → TruePart a → TruePart b → OneInput a b → True
 both-true a b t u o =
     record {
       shape =
-          right-with a (joined (workIn a) (workIn b)) (right-parts a (t .shape) .0)
-          (joined-right (rowCount a) (a .marks) (b .marks) (a .held) (b .held) (right-parts a (t .shape) .1)
-          (subst (λ (n : ℕ). workRight (genotypeCount n) (b .marks) (b .held) ≡ true) (o .one-clusters) (right-parts b (u .shape) .1)));
+          right-with a (joined (workIn a) (workIn b)) (right-input a (t .shape))
+          (joined-right (rowCount a) (a .marks) (b .marks) (a .held) (b .held) (right-work a (t .shape))
+          (subst (λ (n : ℕ). workRight (genotypeCount n) (b .marks) (b .held) ≡ true) (o .one-clusters) (right-work b (u .shape))));
       lists = t .lists;
       entries =
           merged-entries (scoreIn a) (heldList (a .held)) (heldList (b .held)) (t .entries)
@@ -112,7 +108,7 @@ module _ (p : Part) where
   rowAlone r = rowWork width score r
 
   shaped : rightPart p ≡ true → Shaped rows (p .marks) (p .held)
-  shaped right = right-shaped rows (p .marks) (p .held) (right-parts p right .1)
+  shaped right = right-shaped rows (p .marks) (p .held) (right-work p right)
 
   -- a row that there is is joined to it
   row-adds : soundPart p ≡ true → (r : ℕ) → r < rows → rowStep p r .part ≡ withWork p (joined (workIn p) (rowAlone r))
@@ -125,7 +121,7 @@ module _ (p : Part) where
     row-true r h =
         let d = shaped (t .shape) in
         let s = row-sound (mul-pos (d .some) (d .some)) r h in
-        let input = right-parts p (t .shape) .0 in
+        let input = right-input p (t .shape) in
         record {
           shape =
               right-with p (joined (workIn p) (rowAlone r)) input
@@ -133,7 +129,7 @@ module _ (p : Part) where
               (λ (l : List Entry).
               workRight rows (bitOr (p .marks) (rowAlone r .marks)) (heldOf (mergedHeld (heldList (p .held)) l)) ≡ true)
               (held-back (InRows width score (eqb r)) (rowAlone r .held) (s .held-best))
-              (joined-right rows (p .marks) (rowAlone r .marks) (p .held) (heldOf (rowAlone r .held)) (right-parts p (t .shape) .1)
+              (joined-right rows (p .marks) (rowAlone r .marks) (p .held) (heldOf (rowAlone r .held)) (right-work p (t .shape))
               (work-right (scores-numbers p input eight) (d .some) (d .few) s)));
           lists = t .lists;
           entries =
@@ -164,7 +160,7 @@ module _ (p : Part) where
     -- and there is a triple to say
     pub closes-with-triple : p .marks ≡ fullMarks rows → 1 ≤ p .held .count
     closes-with-triple m =
-        full-holds rows (p .held) (subst (λ (k : ℕ). workRight rows k (p .held) ≡ true) m (right-parts p (sound-right p sound) .1))
+        full-holds rows (p .held) (subst (λ (k : ℕ). workRight rows k (p .held) ≡ true) m (right-work p (sound-right p sound)))
 
     -- at a position of the search
     pub closes-in-search : p .marks ≡ fullMarks rows → p .held .first .position < rows * width
@@ -217,7 +213,7 @@ module _ (p : Part) (eight : length (p .weights) ≡ 8) (t : TruePart p) where
   all-rows [] c = absurd (c .every 0 (shaped p (t .shape) .some))
   all-rows (r ∷ l) c =
       rows-add l p r eight t (c .none-past)
-      ∙ ap (withWork p) (reworked (rowCount p) (score p) (p .marks) (p .held) (right-parts p (t .shape) .1) (t .entries) (r ∷ l) c)
+      ∙ ap (withWork p) (reworked (rowCount p) (score p) (p .marks) (p .held) (right-work p (t .shape)) (t .entries) (r ∷ l) c)
 
   pub true-reworked : (l : List ℕ) → Covers (rowCount p) l → closeStep (workedRows p l) ≡ onePassCall p
   true-reworked l c =

@@ -54,14 +54,6 @@ distinct-once (p ∷ l) = rw (gone p (distinct l)) (without-once p (distinct l) 
 
 -- ---- one to four
 
-distinct-length : (l : List Pair) → length (distinct l) ≤ length l
-distinct-length [] = zero-le
-distinct-length (p ∷ l) = suc-le-suc (le-trans (passing-length (λ q. not (samePair p q)) (distinct l)) (distinct-length l))
-
-pub child-pairs-few : (f m : Pair) → (1 ≤ length (childPairs f m)) × (length (childPairs f m) ≤ 4)
-unfolding childPairs
-child-pairs-few f m = (suc-le-suc zero-le, distinct-length (combinations f m))
-
 -- ---- X3 to X6
 
 pub one-pair : length (childPairs (pair 0 0) (pair 1 1)) ≡ 1

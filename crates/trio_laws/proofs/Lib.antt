@@ -2,7 +2,6 @@
 pub mod TripleLaws
 pub mod ChildPairLaws
 pub mod NotebookLaws
-pub mod Every
 pub mod SampleBounds
 pub mod ScoreBounds
 pub mod Inputs

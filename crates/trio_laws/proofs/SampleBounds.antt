@@ -35,7 +35,7 @@ use Rattle.trio_samples.proofs.SampleLaws.{in-use, sample-below, count-at-most}
 use Rattle.trio_laws.specs.Accepted.{AcceptedTrio}
 use Rattle.lists.specs.Every.{every}
 use Rattle.lists.proofs.EveryLaws.{every-at}
-use Rattle.trio_laws.proofs.Every.{every-between}
+use Rattle.lists.proofs.EveryLaws.{every-between}
 
 -- ---- the divided expectations: with two clusters or more each lies between 0 and 1
 

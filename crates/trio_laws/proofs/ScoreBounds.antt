@@ -28,8 +28,8 @@ use Rattle.trio_triples.specs.Score.{tripleScore, scoreOf}
 use Rattle.trio_triples.proofs.GenotypesLaws.{triple-within}
 use Rattle.trio_laws.specs.Accepted.{AcceptedTrio}
 use Rattle.lists.specs.Every.{every}
-use Rattle.trio_laws.proofs.Every.{every-between}
-use Rattle.trio_laws.proofs.ChildPairLaws.{child-pairs-few}
+use Rattle.lists.proofs.EveryLaws.{every-between}
+use Rattle.trio_mendel.proofs.MendelLaws.{child-pairs-few}
 use Rattle.trio_laws.proofs.SampleBounds.{sample-least, sample-within, sample-low}
 
 -- ---- the Mendelian term

@@ -4,7 +4,6 @@ use Prim.Native.Nat.{ℕ, _<_}
 use mathlib.Core.Bool.{Bool, true, false, cond, true≢false}
 use mathlib.Core.Logic.{_↔_, _≢_}
 use mathlib.Core.Path.{_≡_, refl, sym, ap, subst, _∙_}
-use mathlib.Mathlib.Data.Bool.Basic.{and-elim-right}
 use native.Mathlib.Nat.{zero-add}
 use native.Mathlib.Omega.{arith}
 use borrow.Author.Tests.{eqb-true, eqb-false}
@@ -18,13 +17,12 @@ use Rattle.refusals.specs.declared.Refusal.the-variants.{Done, NoCluster, TooMa
 use Rattle.refusals.specs.declared.Refusal.the-variants.{Row, OtherTrio, NotComplete, NoCall, BadPart}
 use Rattle.refusals.specs.Refusals.{numberOf}
 use Rattle.trio_search.specs.Marks.{isMarked, fullMarks}
-use Rattle.trio_search.specs.Shape.{workRight}
 use Rattle.trio_search_laws.proofs.ShapeLaws.{Shaped, right-shaped}
 use Rattle.trio_search_laws.proofs.WordLaws.{full-marked, marked-full}
 use Rattle.trio_parts.specs.declared.part.Part.{Part}
 use Rattle.trio_parts.specs.Part.{rowCount}
-use Rattle.trio_parts.specs.Right.{inputRight, rightPart}
 use Rattle.trio_parts.specs.Sound.{soundPart}
+use Rattle.trio_parts.proofs.RightLaws.{right-work}
 use Rattle.trio_parts.proofs.SoundLaws.{sound-right}
 use Rattle.trio_closings.specs.declared.closing.Closed.{Closed}
 use Rattle.trio_closings.specs.Closing.{closedAs, refusedClosing, closeBy, closeStep}
@@ -74,7 +72,6 @@ module _ (p : Part) where
 
   -- the word of a sound part is full exactly where every row is marked
   full-settles : soundPart p ≡ true → Settles full (AllMarked p) (SomeUnmarked p)
-  unfolding rightPart
   full-settles sound =
       settled full (AllMarked p) (SomeUnmarked p)
       (λ e r l. ap (λ m. isMarked m r) (eqb-true (p .marks) (fullMarks rows) e) ∙ full-marked rows r l)
@@ -82,9 +79,7 @@ module _ (p : Part) where
       (λ a s. true≢false (sym (a (s .0) (s .1)) ∙ s .2))
     where
       shaped : Shaped rows (p .marks) (p .held)
-      shaped =
-          right-shaped rows (p .marks) (p .held)
-          (and-elim-right (inputRight p) (workRight rows (p .marks) (p .held)) (sound-right p sound))
+      shaped = right-shaped rows (p .marks) (p .held) (right-work p (sound-right p sound))
 
       go : full ≡ false → (t : Bool) → every marked (numbers 0 rows) ≡ t → SomeUnmarked p
       go e true f = absurd (eqb-false (p .marks) (fullMarks rows) e (marked-full rows (p .marks) (shaped .below) (all-or-some true f)))

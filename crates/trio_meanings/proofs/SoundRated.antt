@@ -1,7 +1,7 @@
 -- T10, T11, S4: of every part that the types allow, forged or not, closing gives the quality that the ground says: what is held has its
 -- true scores, so that two of them are finite where every animal has reads, and the first is not below the second. So Tied gives 3.
 use Prim.Native.Nat.{ℕ, zero, suc, _≤_, _<_}
-use mathlib.Core.Bool.{Bool, true, false, not, cond, decide, decide-iff, _&&_}
+use mathlib.Core.Bool.{Bool, true, false, not, cond, decide, decide-iff, _&&_, true≢false}
 use mathlib.Core.List.{List, [], _∷_}
 use mathlib.Core.Logic.{inl, inr, _≢_}
 use mathlib.Core.Path.{_≡_, refl, sym, ap, subst, _∙_}
@@ -33,6 +33,7 @@ use Rattle.trio_parts.specs.declared.part.Part.{Part}
 use Rattle.trio_parts.specs.Part.{scoreIn, rowCount}
 use Rattle.trio_parts.specs.Sound.{soundPart}
 use Rattle.trio_parts.specs.Typed.{TypedPart, TruePart}
+use Rattle.trio_parts.proofs.RightLaws.{right-input, right-work}
 use Rattle.trio_parts.proofs.SoundLaws.{sound-true}
 use Rattle.trio_quality.specs.Quality.{trioQuality}
 use Rattle.trio_quality_laws.proofs.QualityLaws.{quality-most, unread-nothing, alone-most, tied-three}
@@ -40,7 +41,6 @@ use Rattle.trio_quality_laws.proofs.QualityLeast.{quality-least}
 use Rattle.trio_closings.specs.Closing.{hasRunner, tied, closedAs, refusedClosing, closeStep}
 use Rattle.trio_laws.proofs.Inputs.{input-accepted, scores-numbers}
 use Rattle.trio_laws.proofs.ScoreBounds.{score-within, score-fits}
-use Rattle.trio_desks.proofs.SoundParts.{right-parts}
 use Rattle.trio_meanings.specs.Grounds.{AllRead}
 use Rattle.trio_meanings.specs.Qualities.{QualityBeside, Rated}
 use Rattle.trio_meanings.proofs.GroundLaws.{unread-settles}
@@ -75,7 +75,7 @@ module _ (p : Part) (typed : TypedPart p) (sound : soundPart p ≡ true) where
   true-part = sound-true p typed sound
 
   abbrev shaped : Shaped (rowCount p) (p .marks) (p .held)
-  shaped = right-shaped (rowCount p) (p .marks) (p .held) (right-parts p (true-part .shape) .1)
+  shaped = right-shaped (rowCount p) (p .marks) (p .held) (right-work p (true-part .shape))
 
   -- the score of a triple held is that of its position
   held-score : (e : Entry) → In (heldList (p .held)) e → e .score ≡ scoreIn p (e .position)
@@ -83,12 +83,12 @@ module _ (p : Part) (typed : TypedPart p) (sound : soundPart p ≡ true) where
 
   held-number : (e : Entry) → In (heldList (p .held)) e → isNan (e .score) ≡ false
   held-number e i =
-      ap isNan (held-score e i) ∙ scores-numbers p (right-parts p (true-part .shape) .0) (typed .weights .places) (e .position)
+      ap isNan (held-score e i) ∙ scores-numbers p (right-input p (true-part .shape)) (typed .weights .places) (e .position)
 
   module _ (read : AllRead (p .clusters) (p .counts)) where
     held-finite : (e : Entry) → In (heldList (p .held)) e → Number (e .score)
     held-finite e i =
-        let a = input-accepted p (right-parts p (true-part .shape) .0) (typed .weights .places) in
+        let a = input-accepted p (right-input p (true-part .shape)) (typed .weights .places) in
         subst Number (sym (held-score e i))
         (record {
           is-finite = score-within (p .clusters) (p .counts) (p .weights) a (e .position) (λ s. some _ (read s)) .is-finite;
@@ -168,3 +168,19 @@ every-rated p typed = go (soundPart p) (eqb (p .marks) (fullMarks (rowCount p)))
 -- so whatever part closes as Tied has 3
 pub tied-closing : (p : Part) → TypedPart p → closeStep p .ground ≡ Tied → closeStep p .quality ≡ 3
 tied-closing p typed e = subst (λ (g : Ground). QualityBeside g (closeStep p .quality)) e (every-rated p typed)
+
+-- a best score that is shared gives 3, whatever the ground, where every animal has reads
+pub shared-closing : (p : Part) → TypedPart p → soundPart p ≡ true → unread (p .clusters) (p .counts) ≡ false → tied (p .held) ≡ true
+    → closedAs p .quality ≡ 3
+unfolding closedAs tied
+shared-closing p typed sound u e =
+    rw u (go (hasRunner (p .held)) (decide (shared p typed sound)) refl refl e)
+  where
+    read : AllRead (p .clusters) (p .counts)
+    read = unread-settles (p .clusters) (p .counts) .fails u
+
+    go : (r t : Bool) → hasRunner (p .held) ≡ r → decide (shared p typed sound) ≡ t → (r && t) ≡ true
+        → trioQuality false r (p .held .first .score) (p .held .second .score) ≡ 3
+    go true true a d f = tied-three _ _ (best-finite p typed sound read a) (next-finite p typed sound read a) (decide-iff (shared p typed sound) .0 d)
+    go true false a d f = absurd (true≢false (sym f))
+    go false t a d f = absurd (true≢false (sym f))

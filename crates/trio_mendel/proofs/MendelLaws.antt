@@ -1,17 +1,18 @@
 -- Pairs: when two are the same; what is among the different ones of a list, and how many they are. Assumes nothing.
-use Prim.Native.Nat.{ℕ, suc}
+use Prim.Native.Nat.{ℕ, suc, _≤_, suc-le-suc, zero-le}
 use mathlib.Core.Path.{_≡_, refl, sym, ap, _∙_}
 use mathlib.Core.Bool.{Bool, true, false, not, cond, _&&_, _||_, and-comm, and-true, and-eq-true-iff}
 use mathlib.Core.List.{List, [], _∷_, _++_, append-nil}
+use native.Mathlib.Nat.{le-trans}
 use native.Mathlib.Omega.{arith}
 use borrow.Author.Tests.{eqb-true, eq-eqb, leb-true, leb-false}
 use lib.Dec.{eqb, leb}
 use lib.ListN.{length, length-append}
-use Rattle.lists.proofs.PassingLaws.{passing-append}
+use Rattle.lists.proofs.PassingLaws.{passing-append, passing-length}
 use Rattle.trio_family.specs.declared.pair.Pair.{Pair}
 use Rattle.trio_family.specs.Genotypes.{pair}
 use Rattle.lists.specs.Lists.{passing}
-use Rattle.trio_mendel.specs.Mendel.{ordered, samePair, among, distinct}
+use Rattle.trio_mendel.specs.Mendel.{ordered, samePair, among, distinct, combinations, childPairs}
 
 -- x is u, and y is v
 abbrev pub together : ℕ → ℕ → ℕ → ℕ → Bool
@@ -163,3 +164,13 @@ four-count p q r s =
     count-more (p ∷ q ∷ r ∷ []) s
     ∙ ap (oneMoreUnless (among s (p ∷ q ∷ r ∷ [])))
     (count-more (p ∷ q ∷ []) r ∙ ap (oneMoreUnless (among r (p ∷ q ∷ []))) (count-more (p ∷ []) q))
+
+-- ---- two parents make one pair at least, and four at most
+
+distinct-length : (l : List Pair) → length (distinct l) ≤ length l
+distinct-length [] = zero-le
+distinct-length (p ∷ l) = suc-le-suc (le-trans (passing-length (λ q. not (samePair p q)) (distinct l)) (distinct-length l))
+
+pub child-pairs-few : (f m : Pair) → (1 ≤ length (childPairs f m)) × (length (childPairs f m) ≤ 4)
+unfolding childPairs
+child-pairs-few f m = (suc-le-suc zero-le, distinct-length (combinations f m))

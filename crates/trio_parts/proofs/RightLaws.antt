@@ -15,6 +15,10 @@ module _ (p : Part) where
   unfolding rightPart
   right-input right = and-elim-left (inputRight p) (workRight (rowCount p) (p .marks) (p .held)) right
 
+  pub right-work : rightPart p ≡ true → workRight (rowCount p) (p .marks) (p .held) ≡ true
+  unfolding rightPart
+  right-work right = and-elim-right (inputRight p) (workRight (rowCount p) (p .marks) (p .held)) right
+
   pub few-clusters : inputRight p ≡ true → p .clusters ≤ 8
   unfolding inputRight
   few-clusters right = leb-true (p .clusters) 8 (and-elim-left (leb (p .clusters) 8) _ (and-elim-right (leb 1 (p .clusters)) _ right))

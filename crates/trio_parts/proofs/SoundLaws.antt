@@ -14,7 +14,7 @@ use lib.Ieee.Fits.{add-fits, nan-fits, and-l, and-r}
 use Rattle.lists.specs.Lists.{sameNumbers}
 use Rattle.lists.specs.Every.{every}
 use Rattle.lists.proofs.SameLaws.{same-equal}
-use Rattle.floats.specs.Bits.{sameBits, AllFit}
+use Rattle.floats.specs.Bits.{sameBits, EachFits}
 use Rattle.floats.proofs.SameBits.{same-bits, same-floats}
 use Rattle.limits.specs.Limits.{allFit}
 use Rattle.trio_entries.specs.declared.entry.Entry.{Entry}
@@ -23,7 +23,7 @@ use Rattle.trio_entries.specs.Held.{entriesUsed, heldList}
 use Rattle.trio_samples.specs.declared.scores.Scores.{Scores}
 use Rattle.trio_samples.specs.Scores.{sameScores}
 use Rattle.trio_samples.proofs.ScoresLaws.{ListsFit, lists-fit, scores-self, scores-equal}
-use Rattle.trio_search.specs.Shape.{inMarked, workRight}
+use Rattle.trio_search.specs.Shape.{inMarked}
 use Rattle.trio_search.specs.Work.{IsEntry}
 use Rattle.trio_search.proofs.MarksLaws.{unmarked-above}
 use Rattle.trio_search_laws.proofs.ShapeLaws.{Shaped, right-shaped}
@@ -33,19 +33,17 @@ use Rattle.trio_triples.specs.Stored.{scoreOver}
 use Rattle.trio_triples.proofs.StoredLaws.{over-is}
 use Rattle.trio_parts.specs.declared.part.Part.{Part}
 use Rattle.trio_parts.specs.Part.{listsIn, scoreIn, rowCount}
-use Rattle.trio_parts.specs.Right.{inputRight, rightPart}
+use Rattle.trio_parts.specs.Right.{rightPart}
 use Rattle.trio_parts.specs.Same.{sameInput}
 use Rattle.trio_parts.specs.Sound.{storedRight, scoredTrue, heldTrue, soundPart}
 use Rattle.trio_parts.specs.Typed.{TypedPart, TruePart}
-use Rattle.trio_parts.proofs.RightLaws.{right-input, some-clusters, few-clusters}
+use Rattle.trio_parts.proofs.RightLaws.{right-input, right-work, some-clusters, few-clusters}
 
 -- ---- by the number of triples held, as the code tests them: over the lists, which are those of the input
 
 module _ (p : Part) (right : rightPart p ≡ true) (lists : p .scores ≡ listsIn p) where
   shaped : Shaped (rowCount p) (p .marks) (p .held)
-  unfolding rightPart
-  shaped =
-      right-shaped (rowCount p) (p .marks) (p .held) (and-elim-right (inputRight p) (workRight (rowCount p) (p .marks) (p .held)) right)
+  shaped = right-shaped (rowCount p) (p .marks) (p .held) (right-work p right)
 
   -- a triple held stands at a position of the search, where the lists give the score of the rules
   held-over : (e : Entry) → In (heldList (p .held)) e → scoredTrue (scoreOver (p .clusters) (p .scores)) e ≡ scoredTrue (scoreIn p) e
@@ -143,11 +141,11 @@ true-sound p t =
 -- ---- of f64s
 
 -- the sum of the four is an f64, whatever they are
-score-fits : (p : Part) (q : ℕ) → T (fits binary64 (scoreIn p q))
+position-fits : (p : Part) (q : ℕ) → T (fits binary64 (scoreIn p q))
 unfolding tripleScore
-score-fits p q = add-fits binary64 _ _
+position-fits p q = add-fits binary64 _ _
 
-each-fits : (l : List Float) → T (allFit l) → AllFit l
+each-fits : (l : List Float) → T (allFit l) → EachFits l
 each-fits [] h k = nan-fits binary64
 each-fits (x ∷ l) h zero = and-l (fits binary64 x) (allFit l) h
 each-fits (x ∷ l) h (suc k) = each-fits l (and-r (fits binary64 x) (allFit l) h) k
@@ -188,7 +186,7 @@ module _ (p : Part) (typed : TypedPart p) where
           let bits = eqb-true (toBits binary64 (e .score)) (toBits binary64 (scoreIn p (e .position)))
           (in-every (scoredTrue (scoreIn p)) (heldList (p .held)) (sound-held p sound) e i) in
           ap (λ (x : Float). record { position = e .position; score = x })
-          (same-bits (e .score) (scoreIn p (e .position)) (held-fit p typed e i) (score-fits p (e .position)) bits)
+          (same-bits (e .score) (scoreIn p (e .position)) (held-fit p typed e i) (position-fits p (e .position)) bits)
 
 -- two parts of one input have the same clusters, counts and weights, and so the same scores
 pub record OneInput (a b : Part) : Type 0 where

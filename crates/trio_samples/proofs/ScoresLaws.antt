@@ -16,7 +16,7 @@ use lib.Ieee.Fits.{add-fits, cond-fits, inf-fits, nan-fits, ofInt-fits}
 use Rattle.lists.specs.Lists.{numbers}
 use Rattle.lists.proofs.PaddedLaws.{padded-next}
 use Rattle.floats.specs.F64.{_⊕_, nat, sumFrom}
-use Rattle.floats.specs.Bits.{sameBits, AllFit}
+use Rattle.floats.specs.Bits.{sameBits, EachFits}
 use Rattle.floats.proofs.SameBits.{bits-self, same-floats}
 use Rattle.trio_family.specs.declared.pair.Pair.{Pair}
 use Rattle.trio_family.specs.declared.sample.Sample.{Sample}
@@ -93,33 +93,33 @@ sum-fits : (x : Float) (l : List Float) → T (fits binary64 x) → T (fits bina
 sum-fits x [] h = h
 sum-fits x (y ∷ l) h = sum-fits (x ⊕ y) l (add-fits binary64 x y)
 
-score-fits : (n : ℕ) (counts : List ℕ) (weights : List Float) (s : Sample) (h : Pair) → T (fits binary64 (sampleScore n counts weights s h))
+animal-fits : (n : ℕ) (counts : List ℕ) (weights : List Float) (s : Sample) (h : Pair) → T (fits binary64 (sampleScore n counts weights s h))
 unfolding sampleScore
-score-fits n counts weights s h =
+animal-fits n counts weights s h =
     cond-fits binary64 (eqb (columnTotal n counts s) 0) (inf true) (sumFrom (nat 0) (map (clusterTerm n counts weights s h) (clusters n)))
     (inf-fits binary64 true) (sum-fits (nat 0) (map (clusterTerm n counts weights s h) (clusters n)) (ofInt-fits binary64 (pos 0)))
 
-zeros-fit : (m : ℕ) → AllFit (replicate m (nat 0))
+zeros-fit : (m : ℕ) → EachFits (replicate m (nat 0))
 zeros-fit zero k = nan-fits binary64
 zeros-fit (suc m) zero = ofInt-fits binary64 (pos 0)
 zeros-fit (suc m) (suc k) = zeros-fit m k
 
 filled-fit : {A : Type 0} (f : A → Float) → ((x : A) → T (fits binary64 (f x)))
-    → (l : List A) (m : ℕ) → AllFit (map f l ++ replicate m (nat 0))
+    → (l : List A) (m : ℕ) → EachFits (map f l ++ replicate m (nat 0))
 filled-fit f h [] m k = zeros-fit m k
 filled-fit f h (x ∷ l) m zero = h x
 filled-fit f h (x ∷ l) m (suc k) = filled-fit f h l m k
 
-under-fit : (n : ℕ) (counts : List ℕ) (weights : List Float) (s : Sample) → AllFit (scoresUnder n counts weights s)
+under-fit : (n : ℕ) (counts : List ℕ) (weights : List Float) (s : Sample) → EachFits (scoresUnder n counts weights s)
 under-fit n counts weights s =
     let f = sampleScore n counts weights s in
-    filled-fit f (score-fits n counts weights s) (genotypes n) (36 - length (map f (genotypes n)))
+    filled-fit f (animal-fits n counts weights s) (genotypes n) (36 - length (map f (genotypes n)))
 
 -- all members of the three lists
 pub record ListsFit (l : Scores) : Type 0 where
-  pub child-fit : AllFit (l .child)
-  pub father-fit : AllFit (l .father)
-  pub mother-fit : AllFit (l .mother)
+  pub child-fit : EachFits (l .child)
+  pub father-fit : EachFits (l .father)
+  pub mother-fit : EachFits (l .mother)
 
 none-fit : ListsFit noScores
 unfolding noScores

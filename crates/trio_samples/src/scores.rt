@@ -8,7 +8,7 @@ ghost use Rattle.trio_samples.specs.Scores.{noScores, scoresOf, sameScor
 use crate::samples::score_by;
 use crate::samples::shares_of;
 use crate::samples::weight_logs;
-use floats::bits::bits;
+use floats::bits::same_bits;
 use trio_family::genotypes::genotype_at;
 use trio_family::genotypes::genotype_count;
 use trio_family::sample::Sample;
@@ -69,21 +69,12 @@ pub fn fill_scores(n: u64, counts: [u32; 24], weights: [f64; 8]) -> Scores
     Scores::none()
 }
 
-// Bit for bit: 0.0 and -0.0 differ. Of two lists of f64s that is equality.
+// Of two lists of f64s, the same bit for bit is equal.
 fn same_list(a: [f64; 36], b: [f64; 36]) -> bool
     ensures { λ r. ⌜ r ≡ sameBits a b ⌝ }
     ensures { λ r. ⌜ (r ≡ true → a ≡ b) ⌝ }
 {
-    let mut i: usize = 0;
-    while i < 36 {
-        let x = bits(a[i]);
-        let y = bits(b[i]);
-        if x != y {
-            return false;
-        }
-        i += 1;
-    }
-    true
+    same_bits(&a, &b)
 }
 
 // Are these the same lists, bit for bit? Then they are equal.

@@ -21,10 +21,10 @@ use Rattle.trio_family.proofs.GenotypesLaws.{genotypes-few}
 use Rattle.trio_mendel.specs.Mendel.{mendelTerm}
 use Rattle.trio_stored.specs.declared.terms.Places.{Places}
 use Rattle.trio_stored.specs.Terms.{PairIn, placesOf, onPlaces, likelyTerm, unlikeTerm, TermsAt}
-use Rattle.trio_stored.specs.Walk.{fallen, fourOf, blockScore, evenScore, familyScore, markOf, AtMost, HeldPast}
+use Rattle.trio_stored.specs.Walk.{fallen, fourOf, blockScore, evenScore, familyScore, toPass, AtMost, HeldPast}
 use Rattle.trio_stored.proofs.PlacesLaws.{Rise, places-rise, term-by-place}
 use Rattle.trio_stored.proofs.TermLaws.{Term, likely-term, unlike-term, mendel-term, at-most-likely}
-use Rattle.trio_stored.proofs.WalkLaws.{NoGain, no-gain-under, at-mark, place-back}
+use Rattle.trio_stored.proofs.WalkLaws.{NoGain, no-gain-under, not-passing, place-back}
 use Rattle.trio_stored.proofs.FallLaws.{fallen-same, fallen-ext}
 use Rattle.trio_stored.proofs.FourLaws.{four-fallen, four-ext}
 
@@ -60,12 +60,12 @@ module _ (n : ℕ) (f m : Pair) (child : List Float) (base top : Float) (at : �
       (under-bound base (getD child k nan) top (termAt k) t (most .all-fit k) (most .fit) (mendel-term (genotypeAt n k) f m .is-f64)
       (is .is-f64) (is .is-finite) (most .most k l) h number)
 
-  module _ (q : ℕ) (h : Held) (past : HeldPast q h) (t : Float) (test : T (le (base ⊕ top ⊕ t) (markOf h))) where
+  module _ (q : ℕ) (h : Held) (past : HeldPast q h) (t : Float) (test : T (le (base ⊕ top ⊕ t) (toPass h))) where
     pub bound-number : isNan (base ⊕ top ⊕ t) ≡ false
-    bound-number = le-number (base ⊕ top ⊕ t) (markOf h) test
+    bound-number = le-number (base ⊕ top ⊕ t) (toPass h) test
 
     pub bound-no-gain : NoGain (base ⊕ top ⊕ t) (heldList h)
-    bound-no-gain = at-mark q (base ⊕ top ⊕ t) h (add-fits binary64 (base ⊕ top) t) past test
+    bound-no-gain = not-passing q (base ⊕ top ⊕ t) h (add-fits binary64 (base ⊕ top) t) past test
 
   -- ---- the three ways
 
@@ -75,7 +75,7 @@ module _ (n : ℕ) (f m : Pair) (child : List Float) (base top : Float) (at : �
     inside k l = rw (← is) l
 
     -- no child is offered
-    pub family-none : (t : Float) → t ≡ likelyTerm f m → T (le (base ⊕ top ⊕ t) (markOf h)) → h ≡ heldOf (fallen score at g (heldList h))
+    pub family-none : (t : Float) → t ≡ likelyTerm f m → T (le (base ⊕ top ⊕ t) (toPass h)) → h ≡ heldOf (fallen score at g (heldList h))
     family-none t e test =
         past .normal
         ∙ ap heldOf (sym (fallen-same score at g (at + g) (heldList h) (past .past) (omega arith) (λ k l.
@@ -117,7 +117,7 @@ module _ (n : ℕ) (f m : Pair) (child : List Float) (base top : Float) (at : �
     rise : Rise k g
     rise = rw is (places-rise n f m few F M)
 
-    pub family-four : (t : Float) → t ≡ likelyTerm f m → T (le (base ⊕ top ⊕ unlikeTerm) (markOf h))
+    pub family-four : (t : Float) → t ≡ likelyTerm f m → T (le (base ⊕ top ⊕ unlikeTerm) (toPass h))
         → fourOf (evenScore child t base at) at g k (heldList h) ≡ fallen score at g (heldList h)
     family-four t e test =
         let w = rise .to-second in

@@ -21,9 +21,9 @@ use Rattle.trio_entries.specs.Rank.{beatsOf}
 use Rattle.trio_search.specs.Work.{entryAt}
 use Rattle.trio_stored.specs.declared.terms.Places.{Places}
 use Rattle.trio_stored.specs.Terms.{onPlaces}
-use Rattle.trio_stored.specs.Walk.{fallen, nextOf, fourOf, evenScore, markOf, AllPast, HeldPast}
+use Rattle.trio_stored.specs.Walk.{fallen, nextOf, fourOf, evenScore, toPass, AllPast, HeldPast}
 use Rattle.trio_stored.proofs.PlacesLaws.{Rise}
-use Rattle.trio_stored.proofs.WalkLaws.{NoGain, no-gain-under, no-gain-later, at-mark, unchanged, place-back}
+use Rattle.trio_stored.proofs.WalkLaws.{NoGain, no-gain-under, no-gain-later, not-passing, unchanged, place-back}
 use Rattle.trio_stored.proofs.WalkLaws.{past-offered, past-less, past-back}
 use Rattle.trio_stored.proofs.FallLaws.{fallen-split, fallen-same}
 
@@ -40,10 +40,10 @@ module _ (score : ℕ → Float) (fit : (q : ℕ) → T (fits binary64 (score q)
       go false e = past-less (at + last) (at + k) h (omega arith) a
 
   -- a place whose score is not above the second best, one that is offered, and one that does not lie before the last
-  pub next-low : (k last : ℕ) (h : Held) → k < last → HeldPast (at + last) h → T (le (score (at + k)) (markOf h))
+  pub next-low : (k last : ℕ) (h : Held) → k < last → HeldPast (at + last) h → T (le (score (at + k)) (toPass h))
       → h ≡ heldOf (nextOf score at k last (heldList h))
   next-low k last h l a t =
-      let g = at-mark (at + last) (score (at + k)) h (fit (at + k)) a t in
+      let g = not-passing (at + last) (score (at + k)) h (fit (at + k)) a t in
       rw (lt-ltb k last l)
       (a .normal ∙ ap heldOf (sym (unchanged (at + last) (entryAt score (at + k)) (heldList h) (a .past) (omega arith) g)))
 

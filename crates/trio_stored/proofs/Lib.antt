@@ -7,4 +7,4 @@ pub mod FourLaws
 pub mod TopLaws
 pub mod FamilyLaws
 pub mod RowLaws
-pub mod StoredLaws
+pub mod BestOfLaws

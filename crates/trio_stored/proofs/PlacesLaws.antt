@@ -7,6 +7,7 @@ use mathlib.Core.Path.{_≡_, refl, sym, ap, subst, _∙_}
 use borrow.Author.Tests.{eq-eqb, ne-eqb, le-leb, lt-ltb, leb-true, leb-false, ltb-true, eqb-true}
 use lib.Dec.{T, eqb, leb, ltb}
 use lib.Ieee.Fits.{and-l, and-r}
+use Rattle.lists.proofs.EveryLaws.{every-up}
 use Rattle.lists.specs.Lists.{numbers}
 use Rattle.lists.specs.Every.{every}
 use Rattle.trio_family.specs.declared.pair.Pair.{Pair}
@@ -18,13 +19,6 @@ use Rattle.trio_stored.specs.declared.terms.Places.{Places}
 use Rattle.trio_stored.specs.Terms.{placeOf, placeBoth, PairIn, laterOf, earlierOf, placesOf, onPlaces, likelyTerm, unlikeTerm}
 
 -- ---- a test on numbers that holds up to a limit
-
-pub every-up : (f : ℕ → Bool) (i m d : ℕ) → T (every f (numbers i m)) → d < m → T (f (i + d))
-every-up f i zero d h l = absurd (omega arith)
-every-up f i (suc m) zero h l = let e : i + 0 ≡ i = omega arith in rw e (and-l (f i) (every f (numbers (suc i) m)) h)
-every-up f i (suc m) (suc d) h l =
-    let e : i + suc d ≡ suc i + d = omega arith in
-    rw e (every-up f (suc i) m d (and-r (f i) (every f (numbers (suc i) m)) h) (omega arith))
 
 every-below : (f : ℕ → Bool) (m d : ℕ) → T (every f (numbers 0 m)) → d < m → T (f d)
 every-below f m d h l = let e : 0 + d ≡ d = omega arith in subst (λ (k : ℕ). T (f k)) e (every-up f 0 m d h l)

@@ -21,7 +21,7 @@ use Rattle.trio_samples.specs.declared.scores.Scores.{Scores}
 use Rattle.trio_search.specs.Work.{onePass, entriesFrom}
 use Rattle.trio_triples.specs.Stored.{storedScore}
 use Rattle.trio_stored.specs.Terms.{PairIn}
-use Rattle.trio_stored.specs.Walk.{fallen, familyScore, markOf, AtMost, HeldPast}
+use Rattle.trio_stored.specs.Walk.{fallen, familyScore, toPass, AtMost, HeldPast}
 use Rattle.trio_stored.proofs.PlacesLaws.{pair-in}
 use Rattle.trio_stored.proofs.TermLaws.{zero-term, mendel-term}
 use Rattle.trio_stored.proofs.WalkLaws.{NoGain, no-gain-under, past-less, past-back, place-back}
@@ -95,7 +95,7 @@ module _ (n : ℕ) (s : Scores) (f m : ℕ) (hm : m < genotypeCount n) where
   family-is h = fallen-ext own (storedScore n s) at G h stored-at
 
   -- where the bound with a term of 0.0 is not above the second best, no score is
-  pub family-low : (q : ℕ) (top : Float) (h : Held) → AtMost (s .child) G top → HeldPast q h → T (le (parents ⊕ top ⊕ nought) (markOf h))
+  pub family-low : (q : ℕ) (top : Float) (h : Held) → AtMost (s .child) G top → HeldPast q h → T (le (parents ⊕ top ⊕ nought) (toPass h))
       → (p : ℕ) → p < G → NoGain (storedScore n s (at + p)) (heldList h)
   family-low q top h most past t p l =
       let F = genotypeAt n f in
@@ -178,9 +178,9 @@ module _ (n f : ℕ) (s : Scores) (h₀ : Held) where
     both = getD (s .father) f nan ⊕ getD (s .mother) (m - 1) nan
 
     pub mother-skipped : (g : ℕ) (top : Float) → g ≡ genotypeCount n → AtMost (s .child) g top → Mothers g h m
-        → T (le (both ⊕ top ⊕ nought) (markOf h)) → Mothers g h (m - 1)
+        → T (le (both ⊕ top ⊕ nought) (toPass h)) → Mothers g h (m - 1)
     mother-skipped g top e =
-        subst (λ (g : ℕ). AtMost (s .child) g top → Mothers g h m → T (le (both ⊕ top ⊕ nought) (markOf h)) → Mothers g h (m - 1)) (sym e)
+        subst (λ (g : ℕ). AtMost (s .child) g top → Mothers g h m → T (le (both ⊕ top ⊕ nought) (toPass h)) → Mothers g h (m - 1)) (sym e)
         (λ most b t.
         let c = genotypeCount n in
         blocks-same (storedScore n s) (stored-fits n s) (f * (c * c)) c c h₀ h m some b

@@ -27,17 +27,11 @@ use Rattle.trio_family.specs.declared.pair.Pair.{Pair}
 use Rattle.trio_mendel.specs.Mendel.{ordered, samePair, among, distinct, combinations, childPairs, mendelTerm}
 use Rattle.trio_stored.specs.declared.terms.Places.{Places}
 use Rattle.trio_stored.specs.Terms.{likelyTerm, unlikeTerm, TermsAt}
-use Rattle.trio_stored.proofs.PlacesLaws.{every-up, is-true}
+use Rattle.trio_stored.proofs.PlacesLaws.{is-true}
+use Rattle.lists.proofs.EveryLaws.{every-up}
+use Rattle.trio_mendel.proofs.MendelLaws.{child-pairs-few}
 
 -- ---- how many pairs: one to four
-
-distinct-length : (l : List Pair) → length (distinct l) ≤ length l
-distinct-length [] = zero-le
-distinct-length (p ∷ l) = suc-le-suc (le-trans (passing-length (λ q. not (samePair p q)) (distinct l)) (distinct-length l))
-
-pub child-pairs-few : (f m : Pair) → (1 ≤ length (childPairs f m)) × (length (childPairs f m) ≤ 4)
-unfolding childPairs
-child-pairs-few f m = (suc-le-suc zero-le, distinct-length (combinations f m))
 
 -- ---- the logarithms, as the code writes them
 

@@ -21,7 +21,7 @@ use Rattle.trio_entries.specs.Rank.{beatsOf}
 use Rattle.trio_entries.proofs.HeldLaws.{kept-whole}
 use Rattle.trio_entries.proofs.RankLaws.{beats-transitive, later-beats}
 use Rattle.trio_search.specs.Work.{entryAt}
-use Rattle.trio_stored.specs.Walk.{fallen, blockScore, markOf, AllPast, HeldPast}
+use Rattle.trio_stored.specs.Walk.{fallen, blockScore, toPass, AllPast, HeldPast}
 use Rattle.trio_stored.proofs.PlacesLaws.{is-true}
 
 -- ---- an earlier position beats by a larger key alone
@@ -114,10 +114,10 @@ nan-most nan h = h
 nan-most (inf s) h = h
 nan-most (fin s m e) h = h
 
--- the test against the mark tells it
-pub at-mark : (q : ℕ) (x : Float) (h : Held) → T (fits binary64 x) → HeldPast q h → T (le x (markOf h)) → NoGain x (heldList h)
-unfolding markOf
-at-mark q x h f a m = go (h .count) (a .past) refl m
+-- the test against the score to pass tells it
+pub not-passing : (q : ℕ) (x : Float) (h : Held) → T (fits binary64 x) → HeldPast q h → T (le x (toPass h)) → NoGain x (heldList h)
+unfolding toPass
+not-passing q x h f a m = go (h .count) (a .past) refl m
   where
     more : (n : ℕ) → suc (suc (suc n)) ≡ 2 → ⊥
     more n e = omega arith
@@ -167,10 +167,10 @@ module _ (score : ℕ → Float) (at g₀ : ℕ) (h₀ : Held) where
   pub record Falling (h : Held) (least : Float) (p : ℕ) : Type 0 where
     pub within : p ≤ g₀
     pub held : HeldPast (at + p) h
-    pub marked : least ≡ markOf h
+    pub marked : least ≡ toPass h
     pub others : fallen score at p (heldList h) ≡ fallen score at g₀ (heldList h₀)
 
-  pub falling-none : (least : Float) → HeldPast (at + g₀) h₀ → least ≡ markOf h₀ → Falling h₀ least g₀
+  pub falling-none : (least : Float) → HeldPast (at + g₀) h₀ → least ≡ toPass h₀ → Falling h₀ least g₀
   falling-none least p m = record { within = omega arith; held = p; marked = m; others = refl }
 
   -- x is the score of the next one
@@ -191,7 +191,7 @@ module _ (score : ℕ → Float) (at g₀ : ℕ) (h₀ : Held) where
     -- a score that is not above the second best
     pub falling-same : le x least ≡ true → Falling h least k
     falling-same t =
-        let g = at-mark (at + p) x h f64 (s .held) (subst T (sym (rw (s .marked) at t)) tt) in
+        let g = not-passing (at + p) x h f64 (s .held) (subst T (sym (rw (s .marked) at t)) tt) in
         let e = unchanged (at + p) now (heldList h) (s .held .past) (omega arith) (rw is at g) in
         record {
           within = omega arith;
@@ -201,7 +201,7 @@ module _ (score : ℕ → Float) (at g₀ : ℕ) (h₀ : Held) where
         }
 
     pub falling-more : (o : Held) (next : Float) → o ≡ heldOf (offered beatsOf 2 (record { position = at + k; score = x }) (heldList h))
-        → next ≡ markOf o → Falling o next k
+        → next ≡ toPass o → Falling o next k
     falling-more o next e m =
         let e' : o ≡ heldOf (offered beatsOf 2 now (heldList h)) = rw is at e in
         let l : heldList o ≡ offered beatsOf 2 now (heldList h) = ap heldList e' ∙ kept-whole now (heldList h) in

@@ -55,8 +55,8 @@ familyScore n f m child base at q = base ⊕ getD child (q - at) nan ⊕ mendelT
 -- ---- what may be left out
 
 -- T5: the score that another must pass: the second best, or NaN without one, which every score passes
-unfoldable pub markOf : Held → Float
-markOf h = cond (eqb (h .count) 2) (h .second .score) nan
+unfoldable pub toPass : Held → Float
+toPass h = cond (eqb (h .count) 2) (h .second .score) nan
 
 -- T5, K8: the members are f64s, and so is x; the first g have no larger key than x
 pub record AtMost (l : List Float) (g : ℕ) (x : Float) : Type 0 where

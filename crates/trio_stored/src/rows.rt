@@ -4,10 +4,10 @@ ghost use Prim.Native.Nat.{_+_, _*_, _≤_, _<_};
 ghost use Rattle.trio_entries.specs.Held.{heldOf, heldList};
 ghost use Rattle.trio_family.specs.Genotypes.{genotypeCount};
 ghost use Rattle.trio_stored.specs.Rows.{rowFallen};
-ghost use Rattle.trio_stored.specs.Stored.{bestOfRow, bestOfAll};
+ghost use Rattle.trio_stored.specs.BestOf.{bestOfRow, bestOfAll};
 ghost use Rattle.trio_stored.specs.Walk.{AtMost, HeldPast};
 use crate::walk::family;
-use crate::walk::mark;
+use crate::walk::to_pass;
 use trio_entries::held::Held;
 use trio_family::genotypes::genotype_at;
 use trio_family::genotypes::genotype_count;
@@ -51,7 +51,7 @@ fn row(
     while 0 < m {
         m -= 1;
         let base = father[f as usize] + mother[m as usize];
-        if (base + top) + 0.0 <= mark(h) {} else {
+        if (base + top) + 0.0 <= to_pass(h) {} else {
             let other = genotype_at(n, m);
             let at = f * (g * g) + m * g;
             h = family(n, own, other, child, base, top, g, at, h);

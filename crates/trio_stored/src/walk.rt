@@ -6,7 +6,7 @@ ghost use Rattle.trio_entries.specs.Held.{heldOf, heldList};
 ghost use Rattle.trio_family.specs.Genotypes.{genotypeCount};
 ghost use Rattle.trio_stored.specs.Terms.{PairIn};
 ghost use Rattle.trio_stored.specs.Walk.{fallen, nextOf, fourOf, blockScore, evenScore, familyScore};
-ghost use Rattle.trio_stored.specs.Walk.{markOf, AtMost, HeldPast};
+ghost use Rattle.trio_stored.specs.Walk.{toPass, AtMost, HeldPast};
 use crate::terms::Places;
 use crate::terms::UNLIKE;
 use crate::terms::likely;
@@ -19,8 +19,8 @@ use trio_family::pair::Pair;
 use trio_mendel::mendel::distinct_pairs;
 
 // The score that the next one must pass: the second best, or NaN, which every score passes.
-pub(crate) fn mark(h: Held) -> f64
-    ensures { λ r. ⌜ r ≡ markOf h ⌝ }
+pub(crate) fn to_pass(h: Held) -> f64
+    ensures { λ r. ⌜ r ≡ toPass h ⌝ }
 {
     if h.count == 2 {
         return h.second.score;
@@ -34,7 +34,7 @@ fn down(child: &[f64; 36], terms: &[f64; 36], base: f64, g: u64, at: u64, held: 
     ensures { λ r. ⌜ r ≡ heldOf (fallen (blockScore (now (child .entry)) (now (terms .entry)) base at) at g (heldList held)) ⌝ }
 {
     let mut h = held;
-    let mut least = mark(h);
+    let mut least = to_pass(h);
     let mut p = g;
     while 0 < p {
         p -= 1;
@@ -47,7 +47,7 @@ fn down(child: &[f64; 36], terms: &[f64; 36], base: f64, g: u64, at: u64, held: 
                     score,
                 },
             );
-            least = mark(h);
+            least = to_pass(h);
         }
     }
     h
@@ -60,7 +60,7 @@ fn next(child: &[f64; 36], base: f64, term: f64, at: u64, k: u64, last: u64, hel
 {
     if k < last {
         let score = (base + child[k as usize]) + term;
-        if score <= mark(held) {
+        if score <= to_pass(held) {
             return held;
         }
         return offer(
@@ -104,7 +104,7 @@ pub(crate) fn family(
     ensures { λ r. ⌜ r ≡ heldOf (fallen (familyScore n f m (now (child .entry)) base at) at g (heldList held)) ⌝ }
 {
     let term = likely(distinct_pairs(f, m));
-    let least = mark(held);
+    let least = to_pass(held);
     if (base + top) + term <= least {
         return held;
     }

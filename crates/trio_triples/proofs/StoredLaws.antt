@@ -1,13 +1,13 @@
 -- Lists that hold the scores of the three animals give the scores of the rules. Assumes nothing.
-use Prim.Native.Nat.{ℕ, zero, suc, _*_, _/_, _%_, _≤_, _<_}
+use Prim.Native.Nat.{ℕ, _*_, _/_, _%_, _≤_, _<_}
 use native.Mathlib.Nat.{mod-lt, div-lt-iff-lt-mul, mul-le-mul}
 use native.Mathlib.Omega.{arith}
-use mathlib.Core.List.{List, [], _∷_, map}
-use mathlib.Core.Path.{_≡_, refl, ap, _∙_}
+use mathlib.Core.List.{List, map}
+use mathlib.Core.Path.{_≡_, _∙_}
 use borrow.Author.Tests.{le-leb, lt-ltb}
-use lib.ListN.{length, getD, List·getD-append}
+use lib.ListN.{length, getD, length-map, List·getD-append}
 use lib.Ieee.{Float, nan}
-use Rattle.trio_family.specs.declared.pair.Pair.{Pair}
+use Rattle.lists.proofs.PlaceLaws.{map-at}
 use Rattle.trio_family.specs.declared.sample.Sample.{Sample}
 use Rattle.trio_family.specs.declared.sample.Sample.the-variants.{Child, Father, Mother}
 use Rattle.trio_family.specs.Genotypes.{pair, genotypes, genotypeCount, genotypeAt}
@@ -21,24 +21,14 @@ use Rattle.trio_triples.proofs.GenotypesLaws.{triple-within}
 
 -- ---- the scores of one animal, by the number of the genotype
 
--- a member of a mapped list
-mapped-at : (f : Pair → Float) (l : List Pair) (k : ℕ) (d : Pair) → k < length l → getD (map f l) k nan ≡ f (getD l k d)
-mapped-at f [] k d h = absurd (omega arith)
-mapped-at f (x ∷ l) zero d h = refl
-mapped-at f (x ∷ l) (suc k) d h = mapped-at f l k d (omega arith)
-
-mapped-many : (f : Pair → Float) (l : List Pair) → length (map f l) ≡ length l
-mapped-many f [] = refl
-mapped-many f (x ∷ l) = ap suc (mapped-many f l)
-
 pub under-at : (n : ℕ) (counts : List ℕ) (weights : List Float) (s : Sample) (k : ℕ) → k < genotypeCount n
     → getD (scoresUnder n counts weights s) k nan ≡ sampleScore n counts weights s (genotypeAt n k)
 unfolding genotypeCount genotypeAt
 under-at n counts weights s k h =
     let f = sampleScore n counts weights s in
     let l = map f (genotypes n) in
-    let many : length l ≡ length (genotypes n) = mapped-many f (genotypes n) in
-    List·getD-append l _ nan k (omega arith) ∙ mapped-at f (genotypes n) k (pair 0 0) h
+    let many : length l ≡ length (genotypes n) = length-map (genotypes n) f in
+    List·getD-append l _ nan k (omega arith) ∙ map-at f (genotypes n) (pair 0 0) nan k h
 
 -- ---- the scores of positions
 

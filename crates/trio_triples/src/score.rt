@@ -27,7 +27,7 @@ fn stored_score(n: u64, g: u64, scores: Scores, position: u64) -> f64
 }
 
 // The same for every position: a NaN where there is none such.
-fn score_in(n: u64, scores: Scores, position: u64) -> f64
+fn over_few(n: u64, scores: Scores, position: u64) -> f64
     requires { ⌜ (1 ≤ n) × (n ≤ 8) ⌝ }
     ensures { λ r. ⌜ r ≡ scoreOver n scores position ⌝ }
 {
@@ -43,7 +43,7 @@ pub fn score_over(n: u64, scores: Scores, position: u64) -> f64
     ensures { λ r. ⌜ r ≡ scoreOver n scores position ⌝ }
 {
     if 1 <= n && n <= 8 {
-        return score_in(n, scores, position);
+        return over_few(n, scores, position);
     }
     0.0 / 0.0
 }

@@ -70,7 +70,5 @@ pub fn run() {
     let usual = calls();
     println!();
     super::public_steps::run();
-    if let Err(error) = plot::write(&usual) {
-        eprintln!("the plot was not written: {error}");
-    }
+    plot::write(&usual).expect("the plot can be written");
 }

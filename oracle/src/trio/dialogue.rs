@@ -40,6 +40,6 @@ impl Dialogue<'_> {
     /// Every step on register r, beside a sound part of register s, with copies of that one in register t; what comes back is shown.
     pub fn every_step(&mut self, r: usize, s: usize, t: usize) {
         self.all([Step::Row(r, 0), Step::Row(r, 99), Step::Merge(r, s), Step::Merge(r, r), Step::Copy(t, s), Step::Merge(t, r)]);
-        self.all([Step::Close(r), Step::Show(r), Step::Scores(r), Step::Show(t)]);
+        self.all([Step::Close(r), Step::Show(r), Step::Scores(r), Step::Show(t), Step::Scores(t)]);
     }
 }

@@ -1,5 +1,5 @@
 //! Parts that no opening gave: sound ones with something put in that mostly does not belong there, in their words or in their lists, and
-//! sound ones that hold other triples than the best (docs/RULES.md, S1, S2).
+//! sound ones that hold other triples than the best (docs/RULES.md, S2, S4).
 use super::known::Trio;
 use super::lists::{differing, used, Lists, PLACES};
 use super::part::Part;

@@ -1,10 +1,12 @@
-//! Random histories of parts, through the program `vectors` and through the plain model of desks.rs, line by line.
+//! Random histories of parts, through the program `vectors`, through the port's C functions, and through the plain model of desks.rs, step
+//! by step.
 use super::desks::{Desks, Register};
 use super::faults::Faults;
 use super::forged::{forged, forged_score};
 use super::grounds::Grounds;
 use super::inputs::{allowed, disturbed};
 use super::part::Part;
+use super::ported::Ported;
 use super::step::Step;
 use super::types::Input;
 use super::words;
@@ -13,11 +15,11 @@ use crate::floor::exchange::Exchange;
 use crate::floor::random::{pick, Random};
 use crate::floor::tally::Tally;
 
-const HISTORIES: usize = 120_000;
+const HISTORIES: usize = 160_000;
 /// How many histories one run of the program has, in which registers are kept from one to the next.
 const TOGETHER: usize = 500;
 
-/// So many steps are compared at least.
+/// So many steps are compared at least: openings, rows, merges, closings, and what puts parts in or changes them.
 const LEAST_STEPS: usize = 3_000_000;
 
 /// Lines that cannot be read, and would change registers if they were.
@@ -113,59 +115,99 @@ fn missing(random: &mut Random, desks: &mut Desks, r: usize) -> Vec<u32> {
 }
 
 /// Works the rows that a register lacks, closes it and shows it. Of a sound part the answer is that of one pass, however it came about.
-fn finish(random: &mut Random, desks: &mut Desks, r: usize, exchange: &mut Exchange) {
+fn finish(random: &mut Random, desks: &mut Desks, r: usize, taken: &mut Taken) {
     for row in missing(random, desks, r) {
-        take(desks, Step::Row(r, row), exchange);
+        taken.take(desks, Step::Row(r, row));
     }
     let part = desks.registers[r].part();
     let whole = desks.is_sound(&part).then(|| desks.known.trio_of(&part));
-    let answer = take(desks, Step::Close(r), exchange);
+    let answer = taken.take(desks, Step::Close(r));
     if let Some(trio) = whole {
         assert_eq!(answer, words::answer(trio.answer()), "the model's part with all rows closes with another answer: {part:?}");
     }
-    take(desks, Step::Show(r), exchange);
-    take(desks, Step::Scores(r), exchange);
+    taken.take(desks, Step::Show(r));
+    taken.take(desks, Step::Scores(r));
 }
 
-/// Takes a step, and answers what the model does.
-fn take(desks: &mut Desks, step: Step, exchange: &mut Exchange) -> String {
-    let answer = desks.answer(&step);
-    exchange.add(step.question(), answer.clone());
-    answer
+/// Steps that were taken, with the model's answers.
+#[derive(Default)]
+pub struct Taken(Vec<(Step, String)>);
+
+impl Taken {
+    /// Takes a step, and answers what the model does.
+    fn take(&mut self, desks: &mut Desks, step: Step) -> String {
+        let answer = desks.answer(&step);
+        self.0.push((step, answer.clone()));
+        answer
+    }
+
+    /// The same as lines.
+    pub fn lines(&self, exchange: &mut Exchange) {
+        self.0.iter().for_each(|(step, answer)| exchange.add(step.question(), answer.clone()));
+    }
+
+    /// How many of them are steps on parts, and no looks at a register or lines that cannot be read.
+    fn steps(&self) -> usize {
+        let looks = |step: &Step| matches!(step, Step::Show(_) | Step::Scores(_) | Step::Unreadable(_));
+        self.0.iter().filter(|(step, _)| !looks(step)).count()
+    }
+
+    /// Those that the port's C functions answer in another way.
+    fn ported(&self) -> Tally {
+        let mut ported = Ported::new();
+        let mut tally = Tally::default();
+        for (step, expected) in &self.0 {
+            let Some(answer) = ported.answer(step) else {
+                continue;
+            };
+            tally.cases += 1;
+            if answer != *expected {
+                tally.differences += 1;
+                println!("    steps in C: `{}` gives `{answer}`, not `{expected}`", step.question());
+            }
+        }
+        tally
+    }
 }
 
 /// One history: openings, a few dozen steps of any kind, and the rows that are left of one part, which is then closed and shown. The
 /// answers are the model's.
-pub fn history(random: &mut Random, desks: &mut Desks, exchange: &mut Exchange) {
+pub fn history(random: &mut Random, desks: &mut Desks, taken: &mut Taken) {
     let inputs = inputs(random);
     for r in 0..3 {
         let input = inputs[random.below(inputs.len() as u64) as usize].clone();
-        take(desks, Step::Open(r, input), exchange);
+        taken.take(desks, Step::Open(r, input));
     }
     for _ in 0..10 + random.below(20) {
         let step = step(random, desks, &inputs);
-        take(desks, step, exchange);
+        taken.take(desks, step);
     }
     let r = register(random);
-    finish(random, desks, r, exchange);
+    finish(random, desks, r, taken);
 }
 
 /// The steps on registers: `open`, `part`, `forge`, `copy`, `row`, `merge`, `close`, `show` and `scores`.
 pub fn run() -> Tally {
     let random = &mut Random::new(50);
     let (mut all, mut grounds, mut faults) = (Tally::default(), Grounds::default(), Faults::default());
+    let (mut steps, mut in_c) = (0, Tally::default());
     for _ in 0..HISTORIES / TOGETHER {
-        let (mut desks, mut exchange) = (Desks::new(), Exchange::default());
+        let (mut desks, mut taken, mut exchange) = (Desks::new(), Taken::default(), Exchange::default());
         for _ in 0..TOGETHER {
-            history(random, &mut desks, &mut exchange);
+            history(random, &mut desks, &mut taken);
         }
+        taken.lines(&mut exchange);
         all = all + asked("steps", &exchange);
+        steps += taken.steps();
+        in_c = in_c + taken.ported();
         grounds.join(&desks.grounds);
         faults.join(&desks.faults);
     }
-    if all.cases < LEAST_STEPS {
-        println!("    steps: {} are fewer than {LEAST_STEPS}", all.cases);
+    println!("    steps: {steps} on parts; the others are looks at a register, and lines that cannot be read");
+    if steps < LEAST_STEPS {
+        println!("    steps: these are fewer than {LEAST_STEPS}");
         all.differences += 1;
     }
-    (all + grounds.tally("closings") + faults.tally()).line(&format!("steps in {HISTORIES} histories of parts"))
+    let in_c = in_c.line("steps in C");
+    (all + grounds.tally("closings") + faults.tally()).line(&format!("steps in {HISTORIES} histories of parts")) + in_c
 }

@@ -1,4 +1,4 @@
-//! The scores that a part carries, of child, father and mother, each under every genotype in its order (docs/RULES.md, T1, T2, S1).
+//! The scores that a part carries, of child, father and mother, each under every genotype in its order (docs/RULES.md, T1, T2, S3).
 use super::kanpig::{matrix, OURS};
 use super::types::{genotypes, Input};
 use crate::floor::floats::{same, words};

@@ -1,5 +1,5 @@
-//! A part as its words say it, forged or not, with its lists; when its shape is right and when it is sound (docs/RULES.md, S1), by another
-//! way than the port's.
+//! A part as its words say it, forged or not, with its lists; when its shape is right and when it is sound (docs/RULES.md, S1, S4), by
+//! another way than the port's.
 use super::lists::{self, Lists};
 use super::types::{count_allowed, genotypes, weight_allowed, Input};
 use super::words::numbers;

@@ -1,4 +1,5 @@
-//! The port's public steps under their C names, for timing.
+//! The port's public steps under their C names.
+use super::part;
 use super::types::{Answer, Input};
 
 #[derive(Clone, Copy)]
@@ -8,7 +9,7 @@ struct Entry {
     score: f64,
 }
 
-/// A part as the port has it. It goes in and comes out by value, and nobody here looks into it.
+/// A part as the port has it. It goes in and comes out by value.
 #[derive(Clone, Copy)]
 #[repr(C)]
 pub struct Part {
@@ -19,6 +20,41 @@ pub struct Part {
     marks: u64,
     held: u64,
     entries: [Entry; 2],
+}
+
+impl Part {
+    /// The port's part with what the model's has.
+    pub fn of(part: &part::Part) -> Part {
+        let entry = |i: usize| Entry { position: u64::from(part.positions[i]), score: part.scores[i] };
+        Part {
+            clusters: u64::from(part.n),
+            counts: part.counts,
+            weights: part.weights,
+            scores: part.lists,
+            marks: part.marks,
+            held: u64::from(part.held),
+            entries: [entry(0), entry(1)],
+        }
+    }
+
+    /// And back.
+    pub fn model(&self) -> part::Part {
+        part::Part {
+            n: self.clusters as u32,
+            marks: self.marks,
+            held: self.held as u32,
+            positions: self.entries.map(|entry| entry.position as u32),
+            scores: self.entries.map(|entry| entry.score),
+            counts: self.counts,
+            weights: self.weights,
+            lists: self.scores,
+        }
+    }
+
+    /// Puts x at a place of an animal's list.
+    pub fn forge(&mut self, s: usize, k: usize, x: f64) {
+        self.scores[s][k] = x;
+    }
 }
 
 #[rustfmt::skip]

@@ -3,7 +3,7 @@
 use super::cases::{input, plain};
 use super::desks::Desks;
 use super::dialogue::Dialogue;
-use super::histories::history;
+use super::histories::{history, Taken};
 use super::step::Step;
 use super::{forged_cases, list_cases};
 use crate::floor::exchange::{with_word, Exchange};
@@ -103,6 +103,8 @@ pub fn write(cases: &mut Exchange) {
     unreadable(&mut dialogue);
     let random = &mut Random::new(63);
     for _ in 0..6 {
-        history(random, &mut dialogue.desks, dialogue.cases);
+        let mut taken = Taken::default();
+        history(random, &mut dialogue.desks, &mut taken);
+        taken.lines(dialogue.cases);
     }
 }

@@ -4,8 +4,8 @@ use native.Mathlib.Omega.{arith}
 use borrow.Author.Needs.{needs}
 use Rattle.trio_samples.specs.declared.scores.Scores.{Scores}
 use Rattle.trio_family.proofs.GenotypesLaws.{genotypes-few}
-use Rattle.trio_stored.specs.Stored.{bestOfRow}
-use Rattle.trio_stored.proofs.StoredLaws.{row-stored}
+use Rattle.trio_stored.specs.BestOf.{bestOfRow}
+use Rattle.trio_stored.proofs.BestOfLaws.{row-stored}
 use Rattle.trio.proofs.RowCode.{marked-alone}
 use Rattle.trio.proofs.rows.row_part.Statement.{statement}
 use Rattle.trio.proofs.rows.row_part.Tie as tie

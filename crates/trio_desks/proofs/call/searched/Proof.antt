@@ -9,8 +9,8 @@ use Rattle.trio_family.proofs.GenotypesLaws.{genotypes-few}
 use Rattle.trio_entries.specs.declared.held.Held.{Held}
 use Rattle.trio_search.specs.Marks.{fullMarks}
 use Rattle.trio_search.proofs.Words.{one-shifted}
-use Rattle.trio_stored.specs.Stored.{bestOfAll}
-use Rattle.trio_stored.proofs.StoredLaws.{all-stored}
+use Rattle.trio_stored.specs.BestOf.{bestOfAll}
+use Rattle.trio_stored.proofs.BestOfLaws.{all-stored}
 use Rattle.trio_desks.proofs.call.searched.Statement.{statement}
 use Rattle.trio_desks.proofs.call.searched.Tie as tie
 

@@ -1,109 +1,31 @@
--- `trio_samples::scores::same_list` meets its contract. The loop's invariant: what is left of the two lists of bits decides.
-use Prim.Native.Nat.{ℕ, _≤_, _-_}
-use mathlib.Core.Bool.{true, true≢false}
-use mathlib.Core.List.{List, map}
-use mathlib.Core.Path.{_≡_, refl, sym, _∙_}
-use native.Mathlib.Omega.{arith}
+-- `trio_samples::scores::same_list` meets its contract: the members of both arrays are f64s, so that equal bits are equal floats.
+use mathlib.Core.Path.{sym, _∙_}
 use borrow.Author.Needs.{needs}
-use lib.Ieee.{Float, binary64, toBits, nan}
-use lib.ListN.{length, drop, length-map, List·getD-map}
-use Rattle.lists.specs.Lists.{sameNumbers}
-use Rattle.lists.proofs.SameLaws.{same-differ, same-more, same-end}
-use Rattle.floats.specs.Bits.{sameBits}
 use Rattle.floats.proofs.SameBits.{same-floats}
 use Rattle.trio_samples.proofs.FitLaws.{elements-fit}
 use Rattle.trio_samples.proofs.scores.same_list.Statement.{statement}
 use Rattle.trio_samples.proofs.scores.same_list.Tie as tie
 
-abbrev bitsOf : List Float → List ℕ
-bitsOf l = map (toBits binary64) l
+slice-aggregate-same-bits : tie.Need-slice-aggregate-same-bits
+slice-aggregate-same-bits c = search needs
 
-abbrev Inv-loop : tie.InvT-loop
-Inv-loop a b i₀ i = (i ≤ 36) × (sameNumbers (drop i (bitsOf a)) (drop i (bitsOf b)) ≡ sameBits a b)
+slice-aggregate-same-bits-2 : tie.Need-slice-aggregate-same-bits-2
+slice-aggregate-same-bits-2 c = search needs
 
-abbrev μ-loop : tie.MeasureT-loop
-μ-loop a b i₀ i = 36 - i
+same-bits-requires : tie.Need-same-bits-requires
+same-bits-requires c κs = search needs
 
-loop-holds : tie.Need-loop-holds Inv-loop μ-loop
-loop-holds c = search needs
-
-mul-bits : tie.Need-mul-bits Inv-loop μ-loop
-mul-bits c = search needs
-
-array-read-bits : tie.Need-array-read-bits Inv-loop μ-loop
-array-read-bits c = search needs
-
-bits-requires : tie.Need-bits-requires Inv-loop μ-loop
-bits-requires c κs = search needs
-
-mul-bits-2 : tie.Need-mul-bits-2 Inv-loop μ-loop
-mul-bits-2 c = search needs
-
-array-read-bits-2 : tie.Need-array-read-bits-2 Inv-loop μ-loop
-array-read-bits-2 c = search needs
-
-bits-requires-2 : tie.Need-bits-requires-2 Inv-loop μ-loop
-bits-requires-2 c κs = search needs
-
-returns : tie.Need-returns Inv-loop μ-loop
+returns : tie.Need-returns
 returns c =
-    let a = c .before .before .before .before .before .args in
-    let s = c .before .before .before .before .loop in
-    let la : length (bitsOf (a .t1)) ≡ 36 = length-map (a .t1) (toBits binary64) ∙ search needs in
-    let lb : length (bitsOf (a .t2)) ≡ 36 = length-map (a .t2) (toBits binary64) ∙ search needs in
-    let x = List·getD-map (toBits binary64) (a .t1) (s .i) nan in
-    let y = List·getD-map (toBits binary64) (a .t2) (s .i) nan in (
-      same-differ (bitsOf (a .t1)) (bitsOf (a .t2)) (toBits binary64 nan) (s .i) (omega arith) (omega arith)
-          (λ e. c .if1 .taken (c .before .before .bits .ensures ∙ sym x ∙ e ∙ y ∙ sym (c .before .bits2 .ensures)))
-          ∙ s .inv .1,
-      λ e. absurd (true≢false (sym e)),
+    let start = c .before .before .before in
+    let a = start .args in
+    let same = c .same-bits .ensures in (
+      same,
+      λ e.
+          same-floats (a .t1) (a .t2) (elements-fit 36 (a .t1) _ (start .good .0)) (elements-fit 36 (a .t2) _ (start .good .1 .0))
+          (sym same ∙ e),
     )
-
-add-i : tie.Need-add-i Inv-loop μ-loop
-add-i c = search needs
-
-loop-less : tie.Need-loop-less Inv-loop μ-loop
-loop-less c = search needs
-
-loop-again : tie.Need-loop-again Inv-loop μ-loop
-loop-again c =
-    let a = c .before .before .before .before .before .args in
-    let s = c .before .before .before .before .loop in
-    let la : length (bitsOf (a .t1)) ≡ 36 = length-map (a .t1) (toBits binary64) ∙ search needs in
-    let lb : length (bitsOf (a .t2)) ≡ 36 = length-map (a .t2) (toBits binary64) ∙ search needs in
-    let x = List·getD-map (toBits binary64) (a .t1) (s .i) nan in
-    let y = List·getD-map (toBits binary64) (a .t2) (s .i) nan in (
-      omega arith,
-      same-more (bitsOf (a .t1)) (bitsOf (a .t2)) (toBits binary64 nan) (s .i) (omega arith) (omega arith)
-          (x ∙ sym (c .before .before .bits .ensures) ∙ c .if1 .left ∙ c .before .bits2 .ensures ∙ sym y) ∙ s .inv .1,
-    )
-
-returns-2 : tie.Need-returns-2 Inv-loop μ-loop
-returns-2 c =
-    let t = c .before .before in
-    let a = t .args in
-    let s = c .before .loop in
-    let la : length (bitsOf (a .t1)) ≡ 36 = length-map (a .t1) (toBits binary64) ∙ search needs in
-    let lb : length (bitsOf (a .t2)) ≡ 36 = length-map (a .t2) (toBits binary64) ∙ search needs in
-    let same : true ≡ sameBits (a .t1) (a .t2) =
-    same-end (bitsOf (a .t1)) (bitsOf (a .t2)) (toBits binary64 nan) (s .i) (omega arith) (omega arith) ∙ s .inv .1 in
-    (same, λ e. same-floats (a .t1) (a .t2) (elements-fit 36 (a .t1) _ (t .good .0)) (elements-fit 36 (a .t2) _ (t .good .1 .0)) (sym same))
 
 pub same-list-spec : {M : Type 1} → statement M
 same-list-spec =
-    tie.close
-    (tie.spec
-    Inv-loop
-    μ-loop
-    loop-holds
-    mul-bits
-    array-read-bits
-    bits-requires
-    mul-bits-2
-    array-read-bits-2
-    bits-requires-2
-    returns
-    add-i
-    loop-less
-    loop-again
-    returns-2)
+    tie.close (tie.spec slice-aggregate-same-bits slice-aggregate-same-bits-2 same-bits-requires returns)

@@ -7,7 +7,7 @@ use borrow.Author.Needs.{needs}
 use borrow.Author.Tests.{le-leb}
 use Rattle.trio_entries.specs.Held.{heldOf}
 use Rattle.trio_triples.specs.Stored.{storedScore}
-use Rattle.trio_stored.specs.Stored.{bestOfAll}
+use Rattle.trio_stored.specs.BestOf.{bestOfAll}
 use Rattle.trio_stored.specs.Rows.{listed}
 use Rattle.trio_stored.proofs.PlacesLaws.{few-genotypes}
 use Rattle.trio_stored.proofs.RowLaws.{Rows, rows-past, rows-more, rows-all, blocks-none, nothing-past, stored-fits}

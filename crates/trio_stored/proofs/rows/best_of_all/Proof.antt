@@ -2,7 +2,7 @@
 use mathlib.Core.Logic.{⊎-elim}
 use borrow.Author.Needs.{needs}
 use borrow.Author.Tests.{le-leb, lt-leb}
-use Rattle.trio_stored.specs.Stored.{bestOfAll}
+use Rattle.trio_stored.specs.BestOf.{bestOfAll}
 use Rattle.trio_stored.proofs.rows.best_of_all.Statement.{statement}
 use Rattle.trio_stored.proofs.rows.best_of_all.Tie as tie
 

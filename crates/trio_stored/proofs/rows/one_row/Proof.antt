@@ -6,7 +6,7 @@ use borrow.Author.Needs.{needs}
 use borrow.Author.Tests.{le-leb, lt-ltb, le-ltb}
 use Rattle.trio_entries.specs.Held.{heldOf}
 use Rattle.trio_triples.specs.Stored.{storedScore}
-use Rattle.trio_stored.specs.Stored.{bestOfRow}
+use Rattle.trio_stored.specs.BestOf.{bestOfRow}
 use Rattle.trio_stored.specs.Walk.{fallen}
 use Rattle.trio_stored.proofs.PlacesLaws.{few-genotypes}
 use Rattle.trio_stored.proofs.FallLaws.{fallen-pass}

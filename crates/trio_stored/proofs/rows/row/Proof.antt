@@ -60,8 +60,8 @@ mul-base-2 c =
 element-copy-out-base-2 : tie.Need-element-copy-out-base-2 Inv-loop μ-loop
 element-copy-out-base-2 c = let inside = c .before in omega (arith, few (inside .before .before .before), next-in inside)
 
-mark-requires : tie.Need-mark-requires Inv-loop μ-loop
-mark-requires c κs = search needs
+to-pass-requires : tie.Need-to-pass-requires Inv-loop μ-loop
+to-pass-requires c κs = search needs
 
 loop-less : tie.Need-loop-less Inv-loop μ-loop
 loop-less c = search needs
@@ -76,7 +76,7 @@ loop-again c =
     let p = begun .pre in
     let s = inside .before .loop in
     mother-skipped (a .n) (a .f) (lists begun) (a .held) (s .h) (s .m) (inside .loop-test .taken) (a .g) (a .top) (p .2) (p .4) (s .inv)
-    (subst T (sym (rw (marked .mark .ensures) at (c .if1 .taken))) tt)
+    (subst T (sym (rw (marked .to-pass .ensures) at (c .if1 .taken))) tt)
 
 genotype-at-requires-2 : tie.Need-genotype-at-requires-2 Inv-loop μ-loop
 genotype-at-requires-2 c κs = search needs
@@ -164,7 +164,7 @@ row-spec =
     element-copy-out-base
     mul-base-2
     element-copy-out-base-2
-    mark-requires
+    to-pass-requires
     loop-less
     loop-again
     genotype-at-requires-2

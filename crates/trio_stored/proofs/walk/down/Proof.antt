@@ -39,14 +39,14 @@ left c = let a = start c .args in a .base ⊕ getD (a .child .now) (next c) nan
 abbrev term : tie.After-score2 Inv-loop μ-loop → Float
 term c = getD (start c .args .terms .now) (next c) nan
 
-mark-requires : tie.Need-mark-requires Inv-loop μ-loop
-mark-requires c κs = search needs
+to-pass-requires : tie.Need-to-pass-requires Inv-loop μ-loop
+to-pass-requires c κs = search needs
 
 loop-holds : tie.Need-loop-holds Inv-loop μ-loop
 loop-holds c =
     let begun = c .before in
     let a = begun .args in
-    falling-none (scored begun) (a .at) (a .g) (a .held) (c .mark .result) (begun .pre .2) (c .mark .ensures)
+    falling-none (scored begun) (a .at) (a .g) (a .held) (c .to-pass .result) (begun .pre .2) (c .to-pass .ensures)
 
 sub-p : tie.Need-sub-p Inv-loop μ-loop
 sub-p c = search needs
@@ -82,8 +82,8 @@ add-t23 c = let h = inLoop (c .before) .before .loop .inv .within in search need
 offer-requires : tie.Need-offer-requires Inv-loop μ-loop
 offer-requires c κs = search needs
 
-mark-requires-2 : tie.Need-mark-requires-2 Inv-loop μ-loop
-mark-requires-2 c κs = search needs
+to-pass-requires-2 : tie.Need-to-pass-requires-2 Inv-loop μ-loop
+to-pass-requires-2 c κs = search needs
 
 loop-less-2 : tie.Need-loop-less-2 Inv-loop μ-loop
 loop-less-2 c = search needs
@@ -97,7 +97,7 @@ loop-again-2 c =
     let a = start made .args in
     falling-more (scored (start made)) (a .at) (a .g) (a .held) (s .h) (s .least) (s .p) (left made ⊕ term made) (inside .loop-test .taken)
     (s .inv) (child-score (a .child .now) (a .terms .now) (a .base) (a .at) (next made)) (add-fits binary64 (left made) (term made))
-    (taken .offer .result) (c .mark2 .result) (taken .offer .ensures) (c .mark2 .ensures)
+    (taken .offer .result) (c .to-pass2 .result) (taken .offer .ensures) (c .to-pass2 .ensures)
 
 returns : tie.Need-returns Inv-loop μ-loop
 returns c =
@@ -114,7 +114,7 @@ down-spec =
     (tie.spec
     Inv-loop
     μ-loop
-    mark-requires
+    to-pass-requires
     loop-holds
     sub-p
     mul-score
@@ -125,7 +125,7 @@ down-spec =
     loop-again
     add-t23
     offer-requires
-    mark-requires-2
+    to-pass-requires-2
     loop-less-2
     loop-again-2
     returns)

@@ -11,7 +11,8 @@ use Rattle.trio_stored.specs.declared.terms.Places.{Places}
 use Rattle.trio_stored.specs.Terms.{likelyTerm, placesOf}
 use Rattle.trio_stored.proofs.FamilyLaws.{family-none, family-four, family-all}
 use Rattle.trio_stored.proofs.PlacesLaws.{Rise, places-rise, few-genotypes}
-use Rattle.trio_stored.proofs.TermLaws.{child-pairs-few, ln-unlike}
+use Rattle.trio_mendel.proofs.MendelLaws.{child-pairs-few}
+use Rattle.trio_stored.proofs.TermLaws.{ln-unlike}
 use Rattle.trio_stored.proofs.walk.family.Statement.{statement}
 use Rattle.trio_stored.proofs.walk.family.Tie as tie
 
@@ -37,8 +38,8 @@ distinct-pairs-requires c κs = search needs
 likely-requires : tie.Need-likely-requires
 likely-requires c κs = rw (c .distinct-pairs .ensures) (child-pairs-few (c .before .args .f) (c .before .args .m))
 
-mark-requires : tie.Need-mark-requires
-mark-requires c κs = search needs
+to-pass-requires : tie.Need-to-pass-requires
+to-pass-requires c κs = search needs
 
 returns : tie.Need-returns
 returns c =
@@ -48,7 +49,7 @@ returns c =
     let p = begun .pre .0 in
     family-none (a .n) (a .f) (a .m) (a .child .now) (a .base) (a .top) (a .at) (a .g) (a .held) (p .0) (p .3) (p .1) (p .2) (p .4)
     (begun .pre .1 .1) (marked .before .likely .result) (likely-is (marked .before))
-    (subst T (sym (rw (marked .mark .ensures) at (c .if1 .taken))) tt)
+    (subst T (sym (rw (marked .to-pass .ensures) at (c .if1 .taken))) tt)
 
 places-of-requires : tie.Need-places-of-requires
 places-of-requires c κs = search needs
@@ -68,7 +69,7 @@ returns-2 c =
     let begun = start placed in
     let a = begun .args in
     let p = begun .pre .0 in
-    let test = rw (marked .mark .ensures, ← ln-unlike) at (c .before .if2 .taken) in
+    let test = rw (marked .to-pass .ensures, ← ln-unlike) at (c .before .if2 .taken) in
     rw (c .four .ensures, placed .places-of .ensures)
     (ap heldOf
     (family-four (a .n) (a .f) (a .m) (a .child .now) (a .base) (a .top) (a .at) (a .g) (a .held) (p .0) (p .3) (p .1) (p .2) (p .4)
@@ -112,7 +113,7 @@ family-spec =
     (tie.spec
     distinct-pairs-requires
     likely-requires
-    mark-requires
+    to-pass-requires
     returns
     places-of-requires
     four-requires

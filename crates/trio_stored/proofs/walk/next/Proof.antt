@@ -19,8 +19,8 @@ mul-score c = search needs
 element-copy-out-score : tie.Need-element-copy-out-score
 element-copy-out-score c = search needs
 
-mark-requires : tie.Need-mark-requires
-mark-requires c κs = search needs
+to-pass-requires : tie.Need-to-pass-requires
+to-pass-requires c κs = search needs
 
 returns : tie.Need-returns
 returns c =
@@ -30,7 +30,7 @@ returns c =
     let a = start .args in
     let is = even-score (a .child .now) (a .term) (a .base) (a .at) (a .k) in
     next-low (scored start) (even-fits (a .child .now) (a .term) (a .base) (a .at)) (a .at) (a .k) (a .last) (a .held)
-    (inside .if1 .taken) (start .pre .3) (subst T (sym (rw (marked .mark .ensures, is) at (c .if2 .taken))) tt)
+    (inside .if1 .taken) (start .pre .3) (subst T (sym (rw (marked .to-pass .ensures, is) at (c .if2 .taken))) tt)
 
 add-t17 : tie.Need-add-t17
 add-t17 c = search needs
@@ -60,7 +60,7 @@ next-spec =
     (tie.spec
     mul-score
     element-copy-out-score
-    mark-requires
+    to-pass-requires
     returns
     add-t17
     offer-requires

@@ -7,8 +7,8 @@ use Rattle.trio_triples.specs.Stored.{scoreOver}
 use Rattle.trio_triples.proofs.score.score_over.Statement.{statement}
 use Rattle.trio_triples.proofs.score.score_over.Tie as tie
 
-score-in-requires : tie.Need-score-in-requires
-score-in-requires c κs = search needs
+over-few-requires : tie.Need-over-few-requires
+over-few-requires c κs = search needs
 
 returns : tie.Need-returns
 returns c = search needs
@@ -20,4 +20,4 @@ returns-2 c =
     ⊎-elim (λ w. rw (le-leb 1 n (w .0 .taken), w .1 .left)) (λ w. rw (lt-leb 1 n (w .left))) (c .if1 .came)
 
 pub score-over-spec : {M : Type 1} → statement M
-score-over-spec = tie.close (tie.spec score-in-requires returns returns-2)
+score-over-spec = tie.close (tie.spec over-few-requires returns returns-2)

@@ -14,7 +14,7 @@ use Rattle.trio_triples.specs.Score.{scoreOf}
 use Rattle.trio_triples.specs.Stored.{storedScore}
 use Rattle.trio_triples.proofs.StoredLaws.{stored-is}
 use Rattle.trio_search.specs.Work.{onePass, entryAt, entriesFrom, rowEntries, allEntries}
-use Rattle.trio_stored.specs.Stored.{bestOfRow, bestOfAll}
+use Rattle.trio_stored.specs.BestOf.{bestOfRow, bestOfAll}
 
 entries-same : (s t : ℕ → Float) (p m : ℕ) → ((q : ℕ) → p ≤ q → q < p + m → s q ≡ t q) → entriesFrom s p m ≡ entriesFrom t p m
 entries-same s t p zero h = refl

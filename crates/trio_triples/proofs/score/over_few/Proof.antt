@@ -1,4 +1,4 @@
--- `trio_triples::score::score_in` meets its contract. By whether there is such a position. Assumes nothing.
+-- `trio_triples::score::over_few` meets its contract. By whether there is such a position. Assumes nothing.
 use Prim.Native.Nat.{ℕ, _*_, _≤_, _<_}
 use mathlib.Core.Path.{_≡_, sym, ap, subst}
 use native.Mathlib.Nat.{mul-le-mul, lt-of-le-of-lt}
@@ -8,8 +8,8 @@ use borrow.Author.Needs.{needs}
 use borrow.Author.Tests.{le-leb, lt-ltb, le-ltb}
 use Rattle.trio_family.proofs.GenotypesLaws.{genotypes-some, genotypes-few}
 use Rattle.trio_triples.specs.Stored.{scoreOver}
-use Rattle.trio_triples.proofs.score.score_in.Statement.{statement}
-use Rattle.trio_triples.proofs.score.score_in.Tie as tie
+use Rattle.trio_triples.proofs.score.over_few.Statement.{statement}
+use Rattle.trio_triples.proofs.score.over_few.Tie as tie
 
 some-genotypes : (c : tie.After-genotype-count) → 1 ≤ c .genotype-count .result
 some-genotypes c = rw (c .genotype-count .ensures) (genotypes-some (c .before .args .n) (c .before .pre .0))
@@ -59,8 +59,8 @@ returns-2 c =
       le-ltb (a .position) _ (subst (λ (g : ℕ). g * (g * g) ≤ a .position) (counted .genotype-count .ensures) (c .if1 .left)),
     )
 
-pub score-in-spec : {M : Type 1} → statement M
-score-in-spec =
+pub over-few-spec : {M : Type 1} → statement M
+over-few-spec =
     tie.close
     (tie.spec
     cast-genotype-count
