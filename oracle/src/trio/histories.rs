@@ -186,8 +186,9 @@ pub fn history(random: &mut Random, desks: &mut Desks, taken: &mut Taken) {
     finish(random, desks, r, taken);
 }
 
-/// The steps on registers: `open`, `part`, `forge`, `copy`, `row`, `merge`, `close`, `show` and `scores`.
-pub fn run() -> Tally {
+/// The steps on registers, `open`, `part`, `forge`, `copy`, `row`, `merge`, `close`, `show` and `scores`: as text, and those that can be
+/// read by the C functions.
+pub fn run() -> [Tally; 2] {
     let random = &mut Random::new(50);
     let (mut all, mut grounds, mut faults) = (Tally::default(), Grounds::default(), Faults::default());
     let (mut steps, mut in_c) = (0, Tally::default());
@@ -208,6 +209,6 @@ pub fn run() -> Tally {
         println!("    steps: these are fewer than {LEAST_STEPS}");
         all.differences += 1;
     }
-    let in_c = in_c.line("steps in C");
-    (all + grounds.tally("closings") + faults.tally()).line(&format!("steps in {HISTORIES} histories of parts")) + in_c
+    let all = all + grounds.tally("closings") + faults.tally();
+    [all.line(&format!("steps in {HISTORIES} histories of parts")), in_c.line("these steps in C")]
 }

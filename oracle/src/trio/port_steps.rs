@@ -22,6 +22,9 @@ pub struct Part {
     entries: [Entry; 2],
 }
 
+/// F6; the layouts are one, or the steps in C would not give what the model gives.
+const _: () = assert!(size_of::<Part>() == 1080);
+
 impl Part {
     /// The port's part with what the model's has.
     pub fn of(part: &part::Part) -> Part {
