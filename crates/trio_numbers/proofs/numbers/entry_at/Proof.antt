@@ -13,7 +13,9 @@ of-bits-requires : tie.Need-of-bits-requires
 of-bits-requires c κs = search needs
 
 returns : tie.Need-returns
-returns c = cc
+returns c =
+    let scored = c .before in
+    rw (c .of-bits .ensures, scored .number-at2 .ensures, scored .before .number-at .ensures)
 
 pub entry-at-spec : {M : Type 1} → statement M
 entry-at-spec =

@@ -21,7 +21,17 @@ part-with-requires c κs = search needs
 
 returns : tie.Need-returns
 unfolding linePart
-returns c = cc
+returns c =
+    let filled = c .before in
+    let weighed = filled .before in
+    let counted = weighed .before in
+    rw (
+      c .part-with .ensures,
+      filled .fill-scores .ensures,
+      weighed .weights-at .ensures,
+      counted .counts-at .ensures,
+      counted .before .number-at .ensures,
+    )
 
 pub line-part-spec : {M : Type 1} → statement M
 line-part-spec =

@@ -12,7 +12,7 @@ part-with-requires c κs = search needs
 
 returns : tie.Need-returns
 unfolding numbersPart
-returns c = cc
+returns c = rw (c .part-with .ensures, c .before .scores-at .ensures)
 
 pub part-at-spec : {M : Type 1} → statement M
 part-at-spec = tie.close (tie.spec scores-at-requires part-with-requires returns)

@@ -25,7 +25,21 @@ number-at-requires-3 : tie.Need-number-at-requires-3
 number-at-requires-3 c κs = search needs
 
 returns : tie.Need-returns
-returns c = cc
+returns c =
+    let weighed = c .before in
+    let counted = weighed .before in
+    let numbered = counted .before in
+    let second = numbered .before in
+    let first = second .before in
+    rw (
+      c .number-at3 .ensures,
+      weighed .weights-at .ensures,
+      counted .counts-at .ensures,
+      numbered .number-at2 .ensures,
+      second .entry-at2 .ensures,
+      first .entry-at .ensures,
+      first .before .number-at .ensures,
+    )
 
 pub part-with-spec : {M : Type 1} → statement M
 part-with-spec =

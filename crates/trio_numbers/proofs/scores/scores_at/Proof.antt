@@ -15,7 +15,9 @@ list-at-requires-3 c κs = search needs
 
 returns : tie.Need-returns
 unfolding numbersScores
-returns c = cc
+returns c =
+    let second = c .before in
+    rw (c .list-at3 .ensures, second .list-at2 .ensures, second .before .list-at .ensures)
 
 pub scores-at-spec : {M : Type 1} → statement M
 scores-at-spec =
