@@ -1,5 +1,5 @@
--- A rounded sum rises with each of its numbers: rounding keeps the order. By keys, so that infinities and NaN are included: a NaN has the
--- least key of all. Assumes nothing.
+-- A rounded sum does not fall where one of its numbers rises, if the larger sum is a number: rounding keeps the order. By keys, so that
+-- infinities are included, and a NaN among the smaller ones, which has the least key of all. Assumes nothing.
 use Prim.Native.Nat.{ℕ, zero, suc, _+_, _-_, _*_, _≤_, _<_, _^_}
 use native.Mathlib.Nat.{add-comm, mul-right-comm, mul-pos, add-mul, mul-lt-mul-of-pos-right, mul-le-mul-right, zero-mul, zero-lt-suc}
 use native.Mathlib.Nat.{mul-assoc}

@@ -1,10 +1,10 @@
 -- A test on every member of a list, and, for the laws, a statement of every member and of some. Definitions only (RULES.md, L1, L3 to L5,
--- A2).
+-- A2, S4).
 use mathlib.Core.Bool.{Bool, true, _&&_}
 use mathlib.Core.List.{List, [], _∷_}
 use mathlib.Core.Logic.{_⊎_}
 
--- L1, L3 to L5, A2: every member passes
+-- L1, L3 to L5, A2, S4: every member passes
 abbrev pub every : {A : Type 0} → (A → Bool) → List A → Bool
 every passes [] = true
 every passes (x ∷ l) = passes x && every passes l

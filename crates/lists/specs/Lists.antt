@@ -26,7 +26,7 @@ abbrev pub distinctBy : {A : Type 0} → (A → A → Bool) → List A → List 
 distinctBy same [] = []
 distinctBy same (x ∷ l) = x ∷ passing (λ y. not (same x y)) (distinctBy same l)
 
--- M7, M8: a list in n places, what is left of them filled with d; one that is longer stays as it is
+-- S3, T6, M7, M8: a list in n places, what is left of them filled with d; one that is longer stays as it is
 abbrev pub padded : {A : Type 0} → ℕ → A → List A → List A
 padded n d l = l ++ replicate (n - length l) d
 

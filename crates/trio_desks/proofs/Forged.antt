@@ -24,7 +24,7 @@ use Rattle.trio_family.specs.declared.sample.Sample.the-variants.{Child}
 use Rattle.trio_family.specs.Genotypes.{genotypeCount, genotypeAt}
 use Rattle.trio_triples.specs.Genotypes.{tripleAt, tripleOf}
 use Rattle.trio_samples.specs.Samples.{columnTotal, sampleScore}
-use Rattle.trio_samples.specs.Scores.{scoresOf}
+use Rattle.trio_samples.specs.Scores.{listsOf}
 use Rattle.trio_reads.specs.Unread.{unread}
 use Rattle.trio_parts.specs.declared.part.Part.{Part}
 use Rattle.trio_parts.specs.Part.{weightAllowed, scoreIn, rowCount, freshPart, emptyPart, gives}
@@ -81,7 +81,7 @@ zeros-small (suc m) (suc i) = zeros-small m i
 
 -- it is a part as the types have them
 pub forged-typed : TypedPart forged
-unfolding forged scoresOf sampleScore columnTotal fits ofInt
+unfolding forged listsOf sampleScore columnTotal fits ofInt
 forged-typed =
     record {
       counts-24 = refl;

@@ -77,7 +77,7 @@ both-true a b t u o =
           (λ e i. subst (λ (score : ℕ → Float). IsEntry score e) (one-score a b o) (u .entries e i));
     }
 
--- a sound part stays sound in every merge, with whatever part
+-- a sound part stays sound in every merge, with whatever part the types allow
 pub merge-keeps-sound : (a b : Part) → TypedPart a → TypedPart b → soundPart a ≡ true → soundPart (mergeStep a b .part) ≡ true
 unfolding mergeStep
 merge-keeps-sound a b t u r = rw r (go (soundPart b) (sameInput a b) refl refl)

@@ -13,7 +13,7 @@ use lib.Seq.{take-at, drop-at, drop-cons, sets-eq, length-take-le}
 use Rattle.lists.specs.Lists.{numbers}
 use Rattle.limits.specs.Limits.{allFit}
 use Rattle.trio_samples.specs.declared.scores.Scores.{Scores}
-use Rattle.trio_samples.specs.Scores.{scoresOf}
+use Rattle.trio_samples.specs.Scores.{listsOf}
 use Rattle.trio_parts.specs.declared.part.Part.{Part}
 use Rattle.trio_parts.specs.Part.{listsIn}
 use Rattle.trio_parts.specs.Typed.{Floats, TypedPart}
@@ -170,6 +170,6 @@ pub line-back : (p : Part) → TypedPart p → p .scores ≡ listsIn p → lineP
 unfolding linePart partNumbers
 line-back p is e =
     let row = partNumbers p ++ [] in
-    let lists : scoresOf (p .clusters) (numbersCounts row) (numbersFloats row 31 8) ≡ p .scores =
-    ap₂ (scoresOf (p .clusters)) (counts-same p is []) (weights-same p is []) ∙ sym e in
+    let lists : listsOf (p .clusters) (numbersCounts row) (numbersFloats row 31 8) ≡ p .scores =
+    ap₂ (listsOf (p .clusters)) (counts-same p is []) (weights-same p is []) ∙ sym e in
     ap linePart (sym (append-nil (partNumbers p))) ∙ with-same p is [] _ lists

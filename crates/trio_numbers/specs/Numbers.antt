@@ -9,7 +9,7 @@ use lib.Seq.{sets}
 use Rattle.lists.specs.Lists.{numbers}
 use Rattle.trio_entries.specs.declared.entry.Entry.{Entry}
 use Rattle.trio_samples.specs.declared.scores.Scores.{Scores}
-use Rattle.trio_samples.specs.Scores.{scoresOf}
+use Rattle.trio_samples.specs.Scores.{listsOf}
 use Rattle.trio_parts.specs.declared.part.Part.{Part}
 
 -- ---- the numbers of a part
@@ -82,4 +82,4 @@ numbersPart l = partWith l (numbersScores l)
 
 -- the part of 39 numbers, its lists worked out
 unfoldable pub linePart : List ℕ → Part
-linePart l = partWith l (scoresOf (getD l 0 0) (numbersCounts l) (numbersFloats l 31 8))
+linePart l = partWith l (listsOf (getD l 0 0) (numbersCounts l) (numbersFloats l 31 8))

@@ -10,7 +10,7 @@ use Rattle.trio_entries.specs.Held.{heldOf, heldList}
 use Rattle.trio_search.specs.Work.{Work, noWork}
 use Rattle.trio_family.specs.Genotypes.{genotypeCount}
 use Rattle.trio_samples.specs.declared.scores.Scores.{Scores}
-use Rattle.trio_samples.specs.Scores.{scoresOf}
+use Rattle.trio_samples.specs.Scores.{listsOf}
 use Rattle.trio_triples.specs.Score.{scoreOf}
 use Rattle.refusals.specs.declared.Refusal.{Refusal}
 use Rattle.trio_parts.specs.declared.part.Part.{Part}
@@ -26,7 +26,7 @@ weightAllowed x = inRange (nat 0) (nat 1000) x
 
 -- S3, T2: the lists of scores that the input of a part gives
 abbrev pub listsIn : Part → Scores
-listsIn p = scoresOf (p .clusters) (p .counts) (p .weights)
+listsIn p = listsOf (p .clusters) (p .counts) (p .weights)
 
 -- T4: the score by which the input of a part is searched, by position
 abbrev pub scoreIn : Part → ℕ → Float
@@ -63,7 +63,7 @@ freshPart n counts weights =
       clusters = n;
       counts = padded 24 0 counts;
       weights = padded 8 (nat 0) weights;
-      scores = scoresOf n (padded 24 0 counts) (padded 8 (nat 0) weights);
+      scores = listsOf n (padded 24 0 counts) (padded 8 (nat 0) weights);
       marks = noWork .marks;
       held = heldOf (noWork .held);
     }

@@ -23,7 +23,7 @@ use Rattle.trio_family.specs.declared.sample.Sample.{Sample}
 use Rattle.trio_family.specs.declared.sample.Sample.the-variants.{Child, Father, Mother}
 use Rattle.trio_family.specs.Genotypes.{pair, genotypes, genotypeCount, genotypeAt}
 use Rattle.trio_samples.specs.Samples.{clusters, columnTotal, clusterTerm, sampleScore, WeightLogs, loggedScore}
-use Rattle.trio_samples.specs.Scores.{placed, scoresUnder, noScores, scoresOf, sameScores}
+use Rattle.trio_samples.specs.Scores.{inPlaces, scoresUnder, noScores, listsOf, sameScores}
 use Rattle.trio_samples.specs.declared.scores.Scores.{Scores}
 use Rattle.trio_samples.proofs.SampleLaws.{logged-is}
 
@@ -42,14 +42,14 @@ numbers-many f i (suc k) = ap suc (numbers-many f (suc i) k)
 
 -- the first k scores in their places, and zeros behind them
 abbrev pub firstScores : (ℕ → Float) → ℕ → List Float
-firstScores f k = placed (map f (numbers 0 k))
+firstScores f k = inPlaces (map f (numbers 0 k))
 
 pub scores-more : (f : ℕ → Float) (k : ℕ) → k < 36 → set (firstScores f k) k (f k) ≡ firstScores f (k + 1)
 scores-more f k h =
     let many = numbers-many f 0 k in
     ap (λ (i : ℕ). set (firstScores f k) i (f k)) (sym many)
     ∙ padded-next 36 (nat 0) (map f (numbers 0 k)) (f k) (subst (λ (i : ℕ). i < 36) (sym many) h)
-    ∙ ap placed
+    ∙ ap inPlaces
     (sym
     (ap (λ (i : ℕ). map f (numbers 0 i)) (add-one k)
     ∙ numbers-more f 0 k
@@ -72,14 +72,14 @@ module _ (n : ℕ) (counts : List ℕ) (weights logs : List Float) (taken : Weig
   pub all-scores : (s : Sample) → firstScores (scoreAt s) (genotypeCount n) ≡ scoresUnder n counts weights s
   unfolding genotypeCount genotypeAt
   all-scores s =
-      ap placed
+      ap inPlaces
       (by-places (sampleScore n counts weights s) (pair 0 0) (genotypes n) 0 (scoreAt s)
       (λ k b. ap (scoreAt s) (zero-add k) ∙ logged-is n counts weights logs s (genotypeAt n k) taken))
 
   pub all-lists : (c f m : List Float) (k : ℕ) → 1 ≤ n → n ≤ 8 → k ≡ genotypeCount n
       → c ≡ firstScores (scoreAt Child) k → f ≡ firstScores (scoreAt Father) k → m ≡ firstScores (scoreAt Mother) k
-      → record { child = c; father = f; mother = m } ≡ scoresOf n counts weights
-  unfolding scoresOf
+      → record { child = c; father = f; mother = m } ≡ listsOf n counts weights
+  unfolding listsOf
   all-lists c f m k one few e p q r =
       rw (le-leb 1 n one, le-leb n 8 few)
       (λ i. record { child = of Child c p i; father = of Father f q i; mother = of Mother m r i })
@@ -125,8 +125,8 @@ none-fit : ListsFit noScores
 unfolding noScores
 none-fit = record { child-fit = zeros-fit 36; father-fit = zeros-fit 36; mother-fit = zeros-fit 36 }
 
-pub lists-fit : (n : ℕ) (counts : List ℕ) (weights : List Float) → ListsFit (scoresOf n counts weights)
-unfolding scoresOf
+pub lists-fit : (n : ℕ) (counts : List ℕ) (weights : List Float) → ListsFit (listsOf n counts weights)
+unfolding listsOf
 lists-fit n counts weights = go (leb 1 n && leb n 8)
   where
     lists : Scores

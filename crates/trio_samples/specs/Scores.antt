@@ -14,20 +14,20 @@ use Rattle.trio_samples.specs.Samples.{sampleScore}
 use Rattle.trio_samples.specs.declared.scores.Scores.{Scores}
 
 -- S3: a list of scores in its 36 places, as many as eight clusters have genotypes, and zeros behind it
-abbrev pub placed : List Float → List Float
-placed l = padded 36 (nat 0) l
+abbrev pub inPlaces : List Float → List Float
+inPlaces l = padded 36 (nat 0) l
 
 -- T2, S3: the scores of one animal under each genotype, in the order of these
 abbrev pub scoresUnder : ℕ → List ℕ → List Float → Sample → List Float
-scoresUnder n counts weights s = placed (map (sampleScore n counts weights s) (genotypes n))
+scoresUnder n counts weights s = inPlaces (map (sampleScore n counts weights s) (genotypes n))
 
 -- O3: no score of any animal
 unfoldable pub noScores : Scores
-noScores = record { child = placed []; father = placed []; mother = placed [] }
+noScores = record { child = inPlaces []; father = inPlaces []; mother = inPlaces [] }
 
 -- S3, L2: the lists of the three animals; none where n is no number of clusters
-unfoldable pub scoresOf : ℕ → List ℕ → List Float → Scores
-scoresOf n counts weights =
+unfoldable pub listsOf : ℕ → List ℕ → List Float → Scores
+listsOf n counts weights =
     cond (leb 1 n && leb n 8)
     (record {
       child = scoresUnder n counts weights Child;

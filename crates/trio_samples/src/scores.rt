@@ -4,7 +4,7 @@ ghost use mathlib.Core.Bool.{true};
 ghost use mathlib.Core.Path.{_≡_};
 ghost use Prim.Native.Nat.{_≤_};
 ghost use Rattle.floats.specs.Bits.{sameBits};
-ghost use Rattle.trio_samples.specs.Scores.{noScores, scoresOf, sameScores};
+ghost use Rattle.trio_samples.specs.Scores.{noScores, listsOf, sameScores};
 use crate::samples::score_by;
 use crate::samples::shares_of;
 use crate::samples::weight_logs;
@@ -36,7 +36,7 @@ impl Scores {
 
 fn filled(n: u64, counts: [u32; 24], weights: [f64; 8]) -> Scores
     requires { ⌜ (1 ≤ n) × (n ≤ 8) ⌝ }
-    ensures { λ r. ⌜ r ≡ scoresOf n counts weights ⌝ }
+    ensures { λ r. ⌜ r ≡ listsOf n counts weights ⌝ }
 {
     let logs = weight_logs(n, weights);
     let g = genotype_count(n as u32);
@@ -61,7 +61,7 @@ fn filled(n: u64, counts: [u32; 24], weights: [f64; 8]) -> Scores
 
 // The lists of n clusters with these counts and weights; zeros where n is no number of clusters.
 pub fn fill_scores(n: u64, counts: [u32; 24], weights: [f64; 8]) -> Scores
-    ensures { λ r. ⌜ r ≡ scoresOf n counts weights ⌝ }
+    ensures { λ r. ⌜ r ≡ listsOf n counts weights ⌝ }
 {
     if 1 <= n && n <= 8 {
         return filled(n, counts, weights);

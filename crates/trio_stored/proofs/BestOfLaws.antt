@@ -8,7 +8,7 @@ use borrow.Author.Tests.{le-leb, lt-ltb}
 use lib.Ieee.{Float}
 use Rattle.trio_entries.specs.Held.{heldOf}
 use Rattle.trio_family.specs.Genotypes.{genotypeCount}
-use Rattle.trio_samples.specs.Scores.{scoresOf}
+use Rattle.trio_samples.specs.Scores.{listsOf}
 use Rattle.trio_triples.specs.Genotypes.{rowWidth}
 use Rattle.trio_triples.specs.Score.{scoreOf}
 use Rattle.trio_triples.specs.Stored.{storedScore}
@@ -31,7 +31,7 @@ module _ (n : ℕ) (counts : List ℕ) (weights : List Float) (one : 1 ≤ n) (f
   W = rowWidth n
 
   abbrev stored : ℕ → Float
-  stored = storedScore n (scoresOf n counts weights)
+  stored = storedScore n (listsOf n counts weights)
 
   abbrev ruled : ℕ → Float
   ruled = scoreOf n counts weights
@@ -40,14 +40,14 @@ module _ (n : ℕ) (counts : List ℕ) (weights : List Float) (one : 1 ≤ n) (f
   same q h = stored-is n counts weights one few q h
 
   -- all rows of the lists of an input: the rules' own one pass
-  pub all-stored : bestOfAll n (scoresOf n counts weights) ≡ heldOf (onePass 2 (allEntries G W ruled))
+  pub all-stored : bestOfAll n (listsOf n counts weights) ≡ heldOf (onePass 2 (allEntries G W ruled))
   unfolding bestOfAll
   all-stored =
       rw (le-leb 1 n one, le-leb n 8 few)
       (ap (λ l. heldOf (onePass 2 l)) (entries-same stored ruled 0 (G * W) (λ q a b. same q (omega arith))))
 
   -- a row of them
-  pub row-stored : (r : ℕ) → r < G → bestOfRow n r (scoresOf n counts weights) ≡ heldOf (onePass 2 (rowEntries W ruled r))
+  pub row-stored : (r : ℕ) → r < G → bestOfRow n r (listsOf n counts weights) ≡ heldOf (onePass 2 (rowEntries W ruled r))
   unfolding bestOfRow
   row-stored r h =
       let last : r * W + W ≤ G * W = omega (arith, suc-mul r W, mul-le-mul h (le-refl W)) in

@@ -31,29 +31,27 @@ use Rattle.trio_stored.proofs.PlacesLaws.{is-true}
 use Rattle.lists.proofs.EveryLaws.{every-up}
 use Rattle.trio_mendel.proofs.MendelLaws.{child-pairs-few}
 
--- ---- how many pairs: one to four
-
 -- ---- the logarithms, as the code writes them
 
-pub ln-unlike : unlikeTerm ≡ ofBits binary64 0xC02B_A18A_998F_FFA0
+pub log-unlike : unlikeTerm ≡ ofBits binary64 0xC02B_A18A_998F_FFA0
 unfolding lnOf lnPositive lnReduced lnParts lnNearOne exponent significand size add sub mul div round lt le ofInt ofBits neg
-ln-unlike = refl
+log-unlike = refl
 
-pub ln-one : lnOf (nat 1 ⊘ nat 1) ≡ ofBits binary64 0
+pub log-one : lnOf (nat 1 ⊘ nat 1) ≡ ofBits binary64 0
 unfolding lnOf lnPositive lnReduced lnParts lnNearOne exponent significand size add sub mul div round lt le ofInt ofBits neg
-ln-one = refl
+log-one = refl
 
-pub ln-half : lnOf (nat 1 ⊘ nat 2) ≡ neg (ofBits binary64 0x3FE6_2E42_FEFA_39EF)
+pub log-half : lnOf (nat 1 ⊘ nat 2) ≡ neg (ofBits binary64 0x3FE6_2E42_FEFA_39EF)
 unfolding lnOf lnPositive lnReduced lnParts lnNearOne exponent significand size add sub mul div round lt le ofInt ofBits neg
-ln-half = refl
+log-half = refl
 
-pub ln-third : lnOf (nat 1 ⊘ nat 3) ≡ neg (ofBits binary64 0x3FF1_93EA_7AAD_030B)
+pub log-third : lnOf (nat 1 ⊘ nat 3) ≡ neg (ofBits binary64 0x3FF1_93EA_7AAD_030B)
 unfolding lnOf lnPositive lnReduced lnParts lnNearOne exponent significand size add sub mul div round lt le ofInt ofBits neg
-ln-third = refl
+log-third = refl
 
-pub ln-quarter : lnOf (nat 1 ⊘ nat 4) ≡ neg (ofBits binary64 0x3FF6_2E42_FEFA_39EF)
+pub log-quarter : lnOf (nat 1 ⊘ nat 4) ≡ neg (ofBits binary64 0x3FF6_2E42_FEFA_39EF)
 unfolding lnOf lnPositive lnReduced lnParts lnNearOne exponent significand size add sub mul div round lt le ofInt ofBits neg
-ln-quarter = refl
+log-quarter = refl
 
 -- ---- their order: ln(1e-6) is below the other four, and none is above 0.0
 
@@ -183,5 +181,5 @@ four-set k x p h =
       one-set l₁ (k .second) p x (omega arith),
       one-set l₀ (k .first) p x (omega arith),
       getD-replicate 36 p u nan h,
-      ln-unlike,
+      log-unlike,
     ) (in-one x u (eqb p (k .first)) (eqb p (k .second)) (eqb p (k .third)) (eqb p (k .fourth)))

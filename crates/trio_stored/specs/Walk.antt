@@ -8,6 +8,7 @@ use lib.Dec.{T, eqb, ltb}
 use lib.ListN.{getD}
 use lib.Signed.{ltZ}
 use lib.Ieee.{Float, nan, binary64, fits}
+use Rattle.floats.specs.Bits.{EachFits}
 use Rattle.floats.specs.F64.{_⊕_}
 use Rattle.floats.specs.Key.{keyOf}
 use Rattle.trio_family.specs.declared.pair.Pair.{Pair}
@@ -60,7 +61,7 @@ toPass h = cond (eqb (h .count) 2) (h .second .score) nan
 
 -- T5, K8: the members are f64s, and so is x; the first g have no larger key than x
 pub record AtMost (l : List Float) (g : ℕ) (x : Float) : Type 0 where
-  pub all-fit : (k : ℕ) → T (fits binary64 (getD l k nan))
+  pub all-fit : EachFits l
   pub fit : T (fits binary64 x)
   pub most : (k : ℕ) → k < g → ltZ (keyOf x) (keyOf (getD l k nan)) ≡ false
 

@@ -13,7 +13,7 @@ use Rattle.trio_family.specs.declared.sample.Sample.the-variants.{Child, Father
 use Rattle.trio_family.specs.Genotypes.{pair, genotypes, genotypeCount, genotypeAt}
 use Rattle.trio_family.proofs.GenotypesLaws.{genotypes-some}
 use Rattle.trio_samples.specs.Samples.{sampleScore}
-use Rattle.trio_samples.specs.Scores.{scoresUnder, scoresOf}
+use Rattle.trio_samples.specs.Scores.{scoresUnder, listsOf}
 use Rattle.trio_triples.specs.Genotypes.{rowWidth, tripleAt}
 use Rattle.trio_triples.specs.Score.{tripleScore, scoreOf}
 use Rattle.trio_triples.specs.Stored.{storedScore, scoreOver}
@@ -36,8 +36,8 @@ module _ (n : ℕ) (counts : List ℕ) (weights : List Float) (one : 1 ≤ n) (f
   abbrev G : ℕ
   G = genotypeCount n
 
-  pub stored-is : (q : ℕ) → q < G * rowWidth n → storedScore n (scoresOf n counts weights) q ≡ scoreOf n counts weights q
-  unfolding storedScore scoresOf tripleScore tripleAt
+  pub stored-is : (q : ℕ) → q < G * rowWidth n → storedScore n (listsOf n counts weights) q ≡ scoreOf n counts weights q
+  unfolding storedScore listsOf tripleScore tripleAt
   stored-is q h =
       let some : 0 < G = genotypes-some n one in
       let f : q / (G * G) < G = div-lt-iff-lt-mul (mul-le-mul some some) .1 h in
@@ -51,6 +51,6 @@ module _ (n : ℕ) (counts : List ℕ) (weights : List Float) (one : 1 ≤ n) (f
       )
 
   -- so of every position of the search
-  pub over-is : (q : ℕ) → q < G * rowWidth n → scoreOver n (scoresOf n counts weights) q ≡ scoreOf n counts weights q
+  pub over-is : (q : ℕ) → q < G * rowWidth n → scoreOver n (listsOf n counts weights) q ≡ scoreOf n counts weights q
   unfolding scoreOver
   over-is q h = rw (le-leb 1 n one, le-leb n 8 few, lt-ltb q (G * rowWidth n) h) (stored-is q h)

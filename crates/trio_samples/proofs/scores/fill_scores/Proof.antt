@@ -2,7 +2,7 @@
 use mathlib.Core.Logic.{⊎-elim}
 use borrow.Author.Needs.{needs}
 use borrow.Author.Tests.{le-leb, lt-leb}
-use Rattle.trio_samples.specs.Scores.{scoresOf}
+use Rattle.trio_samples.specs.Scores.{listsOf}
 use Rattle.trio_samples.proofs.scores.fill_scores.Statement.{statement}
 use Rattle.trio_samples.proofs.scores.fill_scores.Tie as tie
 
@@ -16,7 +16,7 @@ none-requires : tie.Need-none-requires
 none-requires c κs = search needs
 
 returns-2 : tie.Need-returns-2
-unfolding scoresOf
+unfolding listsOf
 returns-2 c =
     let n = c .before .before .args .n in
     ⊎-elim (λ w. rw (le-leb 1 n (w .0 .taken), w .1 .left) (c .none .ensures)) (λ w. rw (lt-leb 1 n (w .left)) (c .none .ensures))

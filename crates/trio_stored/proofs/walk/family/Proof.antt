@@ -12,7 +12,7 @@ use Rattle.trio_stored.specs.Terms.{likelyTerm, placesOf}
 use Rattle.trio_stored.proofs.FamilyLaws.{family-none, family-four, family-all}
 use Rattle.trio_stored.proofs.PlacesLaws.{Rise, places-rise, few-genotypes}
 use Rattle.trio_mendel.proofs.MendelLaws.{child-pairs-few}
-use Rattle.trio_stored.proofs.TermLaws.{ln-unlike}
+use Rattle.trio_stored.proofs.TermLaws.{log-unlike}
 use Rattle.trio_stored.proofs.walk.family.Statement.{statement}
 use Rattle.trio_stored.proofs.walk.family.Tie as tie
 
@@ -69,7 +69,7 @@ returns-2 c =
     let begun = start placed in
     let a = begun .args in
     let p = begun .pre .0 in
-    let test = rw (marked .to-pass .ensures, ← ln-unlike) at (c .before .if2 .taken) in
+    let test = rw (marked .to-pass .ensures, ← log-unlike) at (c .before .if2 .taken) in
     rw (c .four .ensures, placed .places-of .ensures)
     (ap heldOf
     (family-four (a .n) (a .f) (a .m) (a .child .now) (a .base) (a .top) (a .at) (a .g) (a .held) (p .0) (p .3) (p .1) (p .2) (p .4)
