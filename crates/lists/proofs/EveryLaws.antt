@@ -28,7 +28,8 @@ module _ {A : Type 0} (passes : A → Bool) (d : A) (l : List A) (i : ℕ) where
   every-end h = rw (drop-of-length-le l h)
 
 -- a member of a list that passes, passes; what stands for a place beyond the list has to where the place is one
-pub every-at : {A : Type 0} (passes : A → Bool) (l : List A) (i : ℕ) (d : A) → T (every passes l) → (length l ≤ i → T (passes d)) → T (passes (getD l i d))
+pub every-at : {A : Type 0} (passes : A → Bool) (l : List A) (i : ℕ) (d : A) → T (every passes l) → (length l ≤ i → T (passes d))
+    → T (passes (getD l i d))
 every-at passes [] i d h e = e zero-le
 every-at passes (x ∷ l) zero d h e = and-l (passes x) (every passes l) h
 every-at passes (x ∷ l) (suc i) d h e = every-at passes l i d (and-r (passes x) (every passes l) h) (λ k. e (suc-le-suc k))

@@ -223,7 +223,8 @@ module _ (start : Part) (fresh : Fresh start) where
     accepted-on r = ap (λ (x : Stepped). x .refusal) (row-on w v s r) ∙ go (ltb r rows)
       where
         go : (t : Bool)
-            → cond t (gives Done (withWork start (joined v (rowWork width score r)))) (gives Row (withWork start v)) .refusal ≡ cond t Done Row
+            → cond t (gives Done (withWork start (joined v (rowWork width score r)))) (gives Row (withWork start v)) .refusal
+            ≡ cond t Done Row
         go true = refl
         go false = refl
 

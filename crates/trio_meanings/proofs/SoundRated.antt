@@ -181,6 +181,7 @@ shared-closing p typed sound u e =
 
     go : (r t : Bool) → hasRunner (p .held) ≡ r → decide (shared p typed sound) ≡ t → (r && t) ≡ true
         → trioQuality false r (p .held .first .score) (p .held .second .score) ≡ 3
-    go true true a d f = tied-three _ _ (best-finite p typed sound read a) (next-finite p typed sound read a) (decide-iff (shared p typed sound) .0 d)
+    go true true a d f =
+        tied-three _ _ (best-finite p typed sound read a) (next-finite p typed sound read a) (decide-iff (shared p typed sound) .0 d)
     go true false a d f = absurd (true≢false (sym f))
     go false t a d f = absurd (true≢false (sym f))

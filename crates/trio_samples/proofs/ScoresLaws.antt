@@ -93,7 +93,8 @@ sum-fits : (x : Float) (l : List Float) → T (fits binary64 x) → T (fits bina
 sum-fits x [] h = h
 sum-fits x (y ∷ l) h = sum-fits (x ⊕ y) l (add-fits binary64 x y)
 
-animal-fits : (n : ℕ) (counts : List ℕ) (weights : List Float) (s : Sample) (h : Pair) → T (fits binary64 (sampleScore n counts weights s h))
+animal-fits : (n : ℕ) (counts : List ℕ) (weights : List Float) (s : Sample) (h : Pair)
+    → T (fits binary64 (sampleScore n counts weights s h))
 unfolding sampleScore
 animal-fits n counts weights s h =
     cond-fits binary64 (eqb (columnTotal n counts s) 0) (inf true) (sumFrom (nat 0) (map (clusterTerm n counts weights s h) (clusters n)))
