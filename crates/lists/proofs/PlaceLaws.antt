@@ -1,6 +1,6 @@
 -- How many consecutive numbers there are, what a function makes of them, and what stands at a place: of these numbers, of a mapped list,
 -- and of a list that is left from there on. Assumes nothing.
-use mathlib.Core.Path.{_≡_, refl, ap, ap₂, _∙_}
+use mathlib.Core.Path.{_≡_, refl, sym, ap, ap₂, _∙_, subst}
 use mathlib.Core.List.{List, _∷_, map}
 use Prim.Native.Nat.{ℕ, zero, suc, _+_, _<_}
 use native.Mathlib.Nat.{not-suc-le-zero, suc-le-suc-iff}
@@ -30,3 +30,8 @@ map-at h (x ∷ l) a d (suc i) e = map-at h l a d i (suc-le-suc-iff .0 e)
 
 pub drop-next : {A : Type 0} (l : List A) (i : ℕ) (d : A) → i < length l → drop i l ≡ getD l i d ∷ drop (i + 1) l
 drop-next l i d h = rw (add-one i) (drop-cons l i d h)
+
+-- at each place of what a function makes of consecutive numbers
+pub read-at : {B : Type 0} (f : ℕ → B) (at n : ℕ) (d : B) (i : ℕ) → i < n → getD (map f (numbers at n)) i d ≡ f (at + i)
+read-at f at n d i h =
+    map-at f (numbers at n) 0 d i (subst (λ (k : ℕ). i < k) (sym (numbers-length at n)) h) ∙ ap f (number-at at n i h)

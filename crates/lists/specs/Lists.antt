@@ -1,6 +1,6 @@
--- Lists that the rules of several crates are said over. Definitions only (RULES.md, T1 to T3, T8, T9, R9, S4, M1,
+-- Lists that the rules of several crates are said over. Definitions only (RULES.md, T1 to T3, T8, T9, R9, S4, B3, M1, M3,
 -- M7, M8).
-use Prim.Native.Nat.{ℕ, zero, suc, _-_}
+use Prim.Native.Nat.{ℕ, zero, suc, _+_, _-_}
 use mathlib.Core.Bool.{Bool, true, false, not, cond, _&&_}
 use mathlib.Core.List.{List, [], _∷_, _++_}
 use lib.Dec.{eqb}
@@ -36,3 +36,8 @@ sameNumbers [] [] = true
 sameNumbers [] (y ∷ ys) = false
 sameNumbers (x ∷ xs) [] = false
 sameNumbers (x ∷ xs) (y ∷ ys) = eqb x y && sameNumbers xs ys
+
+-- B3, M1, M3: numbers, summed
+abbrev pub totalOf : List ℕ → ℕ
+totalOf [] = 0
+totalOf (x ∷ l) = x + totalOf l

@@ -13,9 +13,9 @@ use Rattle.mosaic_params.specs.declared.params.Params.{Params}
 use Rattle.lists.specs.Over.{placed}
 use Rattle.floats.specs.MaxMin.{Pick, larger, smaller}
 use Rattle.mosaic_probabilities.specs.Quality.{probabilities, qualityOf}
-use Rattle.mosaic_alleles.specs.Alleles.{totalOf, alone, somaticIn}
+use Rattle.mosaic_alleles.specs.Alleles.{alone, somaticIn}
 use Rattle.mosaic_alleles.specs.declared.pair.GermlinePair.{GermlinePair}
-use Rattle.lists.specs.Lists.{padded}
+use Rattle.lists.specs.Lists.{padded, totalOf}
 use Rattle.mosaic_hypotheses.specs.Edition.{Edition, firstEdition}
 use Rattle.mosaic_hypotheses.specs.Hypotheses.{seenAlleles}
 use Rattle.mosaic_hypotheses.specs.Choice.{chosen}

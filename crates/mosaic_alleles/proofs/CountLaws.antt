@@ -10,7 +10,8 @@ use lib.Dec.{T, leb→le}
 use lib.ListN.{length}
 use Rattle.lists.proofs.EveryLaws.{every-at}
 use Rattle.limits.specs.Limits.{countAllowed, countsAllowed}
-use Rattle.mosaic_alleles.specs.Alleles.{countAt, totalOver, totalOf, totalAllowed}
+use Rattle.lists.specs.Lists.{totalOf}
+use Rattle.mosaic_alleles.specs.Alleles.{countAt, totalOver, totalAllowed}
 
 -- a place beyond the counts has the count 0
 at-most : (counts : List ℕ) → T (countsAllowed counts) → (i : ℕ) → countAt counts i ≤ 1000000

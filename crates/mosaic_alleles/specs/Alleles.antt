@@ -5,7 +5,7 @@ use mathlib.Core.List.{List, [], _∷_}
 use lib.Dec.{leb, ltb, eqb}
 use lib.ListN.{length, getD}
 use Rattle.limits.specs.Limits.{countsAllowed}
-use Rattle.lists.specs.Lists.{numbers, passing}
+use Rattle.lists.specs.Lists.{numbers, passing, totalOf}
 use Rattle.lists.specs.Over.{over}
 use Rattle.mosaic_alleles.specs.declared.pair.GermlinePair.{GermlinePair}
 
@@ -13,12 +13,7 @@ use Rattle.mosaic_alleles.specs.declared.pair.GermlinePair.{GermlinePair
 abbrev pub countAt : List ℕ → ℕ → ℕ
 countAt counts i = getD counts i 0
 
--- M1, M3: all counts, summed
-abbrev pub totalOf : List ℕ → ℕ
-totalOf [] = 0
-totalOf (c ∷ l) = c + totalOf l
-
--- L1, L2: the total of at most eight counts that are allowed; 0 of any others
+-- L1, L2, M3: the total of at most eight counts that are allowed; 0 of any others
 unfoldable pub totalAllowed : List ℕ → ℕ
 totalAllowed counts = cond (leb (length counts) 8 && countsAllowed counts) (totalOf counts) 0
 

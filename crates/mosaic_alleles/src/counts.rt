@@ -4,7 +4,8 @@ ghost use mathlib.Core.Bool.{true};
 ghost use Prim.Native.Nat.{_≤_};
 ghost use lib.ListN.{length};
 ghost use Rattle.limits.specs.Limits.{countsAllowed};
-ghost use Rattle.mosaic_alleles.specs.Alleles.{countAt, totalOf, totalAllowed, germlineIn, somaticIn};
+ghost use Rattle.lists.specs.Lists.{totalOf};
+ghost use Rattle.mosaic_alleles.specs.Alleles.{countAt, totalAllowed, germlineIn, somaticIn};
 use crate::pair::GermlinePair;
 use limits::counts::counts_allowed;
 

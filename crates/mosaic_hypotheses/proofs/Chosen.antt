@@ -10,7 +10,8 @@ use Rattle.limits.specs.Limits.{countsAllowed}
 use Rattle.mosaic_probabilities.specs.Winner.{winningPlace}
 use Rattle.mosaic_probabilities.proofs.InUse.{in-use-all}
 use Rattle.mosaic_params.specs.declared.params.Params.{Params}
-use Rattle.mosaic_alleles.specs.Alleles.{totalOf, totalAllowed, twoAlleles}
+use Rattle.lists.specs.Lists.{totalOf}
+use Rattle.mosaic_alleles.specs.Alleles.{totalAllowed, twoAlleles}
 use Rattle.mosaic_alleles.specs.declared.pair.GermlinePair.{GermlinePair}
 use Rattle.mosaic_shared.specs.Shared.{sharedOf}
 use Rattle.mosaic_shared.specs.declared.shared.Shared.{Shared}

@@ -15,7 +15,8 @@ use Rattle.floats.specs.Key.{keyOf}
 use Rattle.kernels.specs.Ln.{lnOf}
 use Rattle.kernels_stirling.specs.Stirling.{stirlingOf, lnFactorial}
 use Rattle.mosaic_hypotheses.specs.Edition.{firstEdition}
-use Rattle.mosaic_alleles.specs.Alleles.{countAt, seenIn, germlineIn, somaticIn, alone, totalOf}
+use Rattle.lists.specs.Lists.{totalOf}
+use Rattle.mosaic_alleles.specs.Alleles.{countAt, seenIn, germlineIn, somaticIn, alone}
 use Rattle.mosaic_candidates.specs.Shares.{anyOver, anySomatic, vafAt, massOf, germlineShare, gainBy, startVafs, stepOf, observedShare}
 use Rattle.mosaic_hypotheses.specs.Likelihood.{alleleShare, likelihoodOf}
 use Rattle.mosaic_shared.specs.Shared.{densityOf, forOne, forTwo, factorialsOf, startsOf, sharedOf}

@@ -10,7 +10,8 @@ use Rattle.kernels_stirling.specs.Stirling.{lnFactorial}
 use Rattle.lists.specs.Over.{over}
 use Rattle.mosaic_candidates.specs.Shares.{vafAt, massOf, germlineShare}
 use Rattle.mosaic_hypotheses.specs.Edition.{Edition}
-use Rattle.mosaic_alleles.specs.Alleles.{countAt, seenIn, germlineIn, totalOf}
+use Rattle.lists.specs.Lists.{totalOf}
+use Rattle.mosaic_alleles.specs.Alleles.{countAt, seenIn, germlineIn}
 use Rattle.mosaic_alleles.specs.declared.pair.GermlinePair.{GermlinePair}
 
 -- M3: the share of an allele that is seen

@@ -10,7 +10,8 @@ use Rattle.floats.specs.Key.{keyOf}
 use Rattle.lists.specs.Over.{over}
 use Rattle.mosaic_candidates.specs.Shares.{anySomatic, startVafs, observedShare, stepOf}
 use Rattle.mosaic_hypotheses.specs.Edition.{Edition}
-use Rattle.mosaic_alleles.specs.Alleles.{countAt, somaticIn, totalOf}
+use Rattle.lists.specs.Lists.{totalOf}
+use Rattle.mosaic_alleles.specs.Alleles.{countAt, somaticIn}
 use Rattle.mosaic_hypotheses.specs.Likelihood.{likelihoodOf}
 use Rattle.mosaic_hypotheses.specs.Prior.{priorOf}
 use Rattle.mosaic_params.specs.declared.params.Params.{Params}

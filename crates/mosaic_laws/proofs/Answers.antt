@@ -24,10 +24,10 @@ use Rattle.mosaic_probabilities.specs.Inner.{probabilityOf}
 use Rattle.mosaic_probabilities.proofs.Normal.{probability-at, probability-beyond}
 use Rattle.mosaic_probabilities.proofs.InUse.{in-use-all}
 use Rattle.lists.specs.Every.{Each}
-use Rattle.lists.specs.Lists.{numbers, passing}
+use Rattle.lists.specs.Lists.{numbers, passing, totalOf}
 use Rattle.lists.proofs.PlaceLaws.{number-at, map-at}
 use Rattle.mosaic_hypotheses.specs.Edition.{firstEdition}
-use Rattle.mosaic_alleles.specs.Alleles.{countAt, seenIn, germlineIn, somaticIn, totalOver, totalOf, twoAlleles}
+use Rattle.mosaic_alleles.specs.Alleles.{countAt, seenIn, germlineIn, somaticIn, totalOver, twoAlleles}
 use Rattle.mosaic_hypotheses.specs.Hypotheses.{seenAlleles, singles, pairs, hypotheses, allPairs, bothSeen}
 use Rattle.mosaic_candidates.specs.Shares.{vafAt}
 use Rattle.mosaic_hypotheses.specs.Search.{foundOf}

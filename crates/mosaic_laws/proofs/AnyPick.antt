@@ -22,12 +22,11 @@ use Rattle.kernels_tens.specs.Normalised.{largestFrom, wholeOver, lessWhole, no
 use Rattle.mosaic_params.specs.declared.params.Params.{Params}
 use Rattle.floats.specs.MaxMin.{Pick, IsMax, IsMin, larger, smaller}
 use Rattle.lists.specs.Every.{Each}
-use Rattle.lists.specs.Lists.{padded}
+use Rattle.lists.specs.Lists.{padded, totalOf}
 use Rattle.floats.proofs.MaxMinLaws.{zero-number, max-alike, max-same, min-alike, cap-same, larger-alike, smaller-alike, larger-number}
 use Rattle.kernels_laws.proofs.TenAtMost.{pow10-alike}
 use Rattle.mosaic_probabilities.specs.Quality.{tensOf, probabilities, qualityBy}
 use Rattle.mosaic_probabilities.proofs.InUse.{in-use-all}
-use Rattle.mosaic_alleles.specs.Alleles.{totalOf}
 use Rattle.mosaic_hypotheses.specs.Edition.{firstEdition}
 use Rattle.mosaic_hypotheses.specs.Hypotheses.{hypotheses}
 use Rattle.mosaic_hypotheses.specs.Choice.{posteriors}

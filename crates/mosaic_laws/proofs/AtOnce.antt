@@ -31,7 +31,8 @@ use Rattle.kernels_laws.proofs.LnBounds.{low-ln}
 use Rattle.kernels_stirling.specs.Stirling.{stirlingOf, lnFactorial}
 use Rattle.limits.specs.Limits.{countsAllowed}
 use Rattle.lists.specs.Over.{over}
-use Rattle.mosaic_alleles.specs.Alleles.{countAt, seenIn, germlineIn, somaticIn, totalOf}
+use Rattle.lists.specs.Lists.{totalOf}
+use Rattle.mosaic_alleles.specs.Alleles.{countAt, seenIn, germlineIn, somaticIn}
 use Rattle.mosaic_alleles.specs.declared.pair.GermlinePair.{GermlinePair}
 use Rattle.mosaic_alleles.proofs.CountLaws.{count-bound, total-bound, total-over}
 use Rattle.mosaic_candidates.specs.Shares.{vafAt, massOf, germlineShare}

@@ -13,7 +13,7 @@ use Rattle.refusals.specs.declared.Refusal.{Refusal}
 use Rattle.refusals.specs.declared.Refusal.the-variants.{TooMany, Count, Model, NoCall}
 use Rattle.limits.specs.Limits.{countsAllowed}
 use Rattle.mosaic_params.specs.declared.params.Params.{Params}
-use Rattle.mosaic_alleles.specs.Alleles.{totalOf}
+use Rattle.lists.specs.Lists.{totalOf}
 use Rattle.mosaic_params.specs.Allowed.{paramsAllowed}
 use Rattle.mosaic.specs.Genotype.{blankMosaic}
 use Rattle.mosaic.specs.declared.genotype.MosaicResult.{MosaicResult}

@@ -29,7 +29,8 @@ use Rattle.lists.specs.Over.{over}
 use Rattle.mosaic_candidates.proofs.ShareLaws.{sum-passing, mass-over, any-over}
 use Rattle.mosaic_hypotheses.proofs.Terms.{start-at}
 use Rattle.mosaic_hypotheses.specs.Edition.{firstEdition}
-use Rattle.mosaic_alleles.specs.Alleles.{countAt, seenIn, germlineIn, somaticIn, totalOf}
+use Rattle.lists.specs.Lists.{totalOf}
+use Rattle.mosaic_alleles.specs.Alleles.{countAt, seenIn, germlineIn, somaticIn}
 use Rattle.mosaic_candidates.specs.Shares.{anyOver, anySomatic, vafAt, massOf, germlineShare, startVafs, stepOf, observedShare}
 use Rattle.mosaic_hypotheses.specs.Hypotheses.{bothSeen}
 use Rattle.mosaic_hypotheses.specs.Likelihood.{alleleShare, likelihoodOf}

@@ -12,7 +12,8 @@ use Rattle.floats.specs.F64.{nat, decimal}
 use Rattle.floats.proofs.KeyOrder.{key-order}
 use Rattle.mosaic_params.specs.declared.params.Params.{Params}
 use Rattle.mosaic_hypotheses.specs.Edition.{Edition}
-use Rattle.mosaic_alleles.specs.Alleles.{countAt, somaticIn, totalOf}
+use Rattle.lists.specs.Lists.{totalOf}
+use Rattle.mosaic_alleles.specs.Alleles.{countAt, somaticIn}
 use Rattle.mosaic_candidates.specs.Shares.{startVafs, stepOf, observedShare}
 use Rattle.mosaic_hypotheses.specs.Search.{BestVafs, valueOf, tried, triedStep, searchedAllele, searchedAll}
 use Rattle.mosaic_alleles.specs.declared.pair.GermlinePair.{GermlinePair}

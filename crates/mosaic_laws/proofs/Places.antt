@@ -12,7 +12,8 @@ use lib.Ieee.{Float, nan, inf, lt}
 use Rattle.floats.specs.F64.{nat, decimal}
 use Rattle.floats.specs.Key.{keyOf}
 use Rattle.mosaic_hypotheses.specs.Edition.{Edition}
-use Rattle.mosaic_alleles.specs.Alleles.{countAt, germlineIn, somaticIn, totalOf}
+use Rattle.lists.specs.Lists.{totalOf}
+use Rattle.mosaic_alleles.specs.Alleles.{countAt, germlineIn, somaticIn}
 use Rattle.mosaic_candidates.specs.Shares.{anySomatic, vafAt, startVafs, stepOf, observedShare}
 use Rattle.mosaic_hypotheses.specs.Likelihood.{likelihoodOf}
 use Rattle.mosaic_hypotheses.specs.Search.{BestVafs, valueOf, tried, triedStep, searchedAllele, searchedAll, foundOf}

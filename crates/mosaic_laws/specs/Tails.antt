@@ -16,9 +16,8 @@ use Rattle.refusals.specs.declared.Refusal.the-variants.{TooMany, Count, Model,
 use Rattle.limits.specs.Limits.{countsAllowed}
 use Rattle.mosaic_params.specs.declared.params.Params.{Params}
 use Rattle.floats.specs.MaxMin.{larger, smaller}
-use Rattle.lists.specs.Lists.{padded}
+use Rattle.lists.specs.Lists.{padded, totalOf}
 use Rattle.mosaic_probabilities.specs.Quality.{upToThirtySix, tensOf}
-use Rattle.mosaic_alleles.specs.Alleles.{totalOf}
 use Rattle.mosaic_hypotheses.specs.Edition.{firstEdition}
 use Rattle.mosaic_hypotheses.specs.Hypotheses.{hypotheses}
 use Rattle.mosaic_hypotheses.specs.Choice.{posteriors, chosen}

@@ -19,6 +19,9 @@ pub enum Refusal {
     NotComplete,
     NoCall,
     BadPart,
+    Block,
+    Check,
+    Layout,
 }
 
 // The number by which callers in other languages and every text form know it.
@@ -39,5 +42,8 @@ pub fn number(r: Refusal) -> u32
         Refusal::NotComplete => 10,
         Refusal::NoCall => 11,
         Refusal::BadPart => 12,
+        Refusal::Block => 13,
+        Refusal::Check => 14,
+        Refusal::Layout => 15,
     }
 }

@@ -21,5 +21,8 @@ pub fn name(r: Refusal) -> [u8; 11]
         Refusal::NotComplete => *b"NotComplete",
         Refusal::NoCall => *b"NoCall\0\0\0\0\0",
         Refusal::BadPart => *b"BadPart\0\0\0\0",
+        Refusal::Block => *b"Block\0\0\0\0\0\0",
+        Refusal::Check => *b"Check\0\0\0\0\0\0",
+        Refusal::Layout => *b"Layout\0\0\0\0\0",
     }
 }

@@ -1,5 +1,5 @@
--- What loops need that store the members of a list one after the other; the numbers of a part and of its scores as such stores leave them,
--- with room for them and without; and what is read of numbers. Assumes nothing.
+-- The numbers of a part and of its scores as stores leave them, with room for them and without; and what is read of numbers. Assumes
+-- nothing.
 use Prim.Native.Nat.{ℕ, suc, _+_, _≤_, _<_}
 use mathlib.Core.List.{List, [], _∷_, _++_, map, append-nil}
 use mathlib.Core.Path.{_≡_, refl, sym, ap, _∙_, subst}
@@ -11,41 +11,12 @@ use lib.Ieee.{binary64, toBits, ofBits, nan}
 use lib.ListN.{length, getD, set, drop, replicate, length-append, length-map, drop-of-length-le, List·getD-eq-default}
 use lib.Seq.{sets, sets-eq, getD-drop}
 use Rattle.lists.specs.Lists.{numbers}
-use Rattle.lists.proofs.PlaceLaws.{number-at, numbers-length, map-at, drop-next}
+use Rattle.lists.proofs.PlaceLaws.{numbers-length, read-at}
+use Rattle.lists.proofs.StoredLaws.{stored-over, stored-behind}
 use Rattle.trio_samples.specs.declared.scores.Scores.{Scores}
 use Rattle.trio_parts.specs.declared.part.Part.{Part}
 use Rattle.trio_numbers.specs.Numbers.{firstNumbers, partNumbers, scoreNumbers, allNumbers, partPut}
 use Rattle.trio_numbers.specs.Numbers.{asCount, numbersCounts, numbersFloats}
-
--- ---- a list v stored from place `at` on, its members before i already
-
-module _ {A : Type 0} (l v : List A) (d : A) (at i : ℕ) where
-  pub store-more : (x : A) (next : ℕ) → i < length v → x ≡ getD v i d → next ≡ suc at
-      → sets (set l at x) next (drop (i + 1) v) ≡ sets l at (drop i v)
-  store-more x next h e n = rw (drop-next v i d h, e) (ap (λ (k : ℕ). sets (set l at (getD v i d)) k (drop (i + 1) v)) n)
-
-  pub store-end : length v ≤ i → l ≡ sets l at (drop i v)
-  store-end h = rw (drop-of-length-le v h)
-
--- over a whole list nothing of it is left
-pub stored-over : {A : Type 0} (l v : List A) → length v ≡ length l → sets l 0 v ≡ v
-stored-over l v e =
-    sets-eq v l 0 (le-of-eq (zero-add (length v) ∙ e))
-    ∙ ap (λ (t : List _). v ++ t) (drop-of-length-le l (le-of-eq (sym e ∙ sym (zero-add (length v)))))
-    ∙ append-nil v
-
--- one list behind another
-stored-behind : {A : Type 0} (l : List A) (i : ℕ) (v w : List A) → sets l i (v ++ w) ≡ sets (sets l i v) (i + length v) w
-stored-behind l i [] w = ap (λ (k : ℕ). sets l k w) (add-nothing i)
-  where
-    add-nothing : (i : ℕ) → i ≡ i + 0
-    add-nothing i = omega arith
-stored-behind l i (x ∷ v) w =
-    stored-behind (set l i x) (suc i) v w
-    ∙ ap (λ (k : ℕ). sets (sets (set l i x) (suc i) v) k w) (moved i (length v))
-  where
-    moved : (i n : ℕ) → suc i + n ≡ i + suc n
-    moved i n = omega arith
 
 -- ---- the numbers of a part
 
@@ -133,11 +104,6 @@ module _ (l : List ℕ) (at : ℕ) (p : Part) where
 
 pub none-there : (l : List ℕ) (at i : ℕ) → length l ≤ at + i → 0 ≡ getD (drop at l) i 0
 none-there l at i h = sym (getD-drop at l i 0 ∙ List·getD-eq-default l 0 h)
-
--- at each place of what a function makes of consecutive numbers
-read-at : {B : Type 0} (f : ℕ → B) (at n : ℕ) (d : B) (i : ℕ) → i < n → getD (map f (numbers at n)) i d ≡ f (at + i)
-read-at f at n d i h =
-    map-at f (numbers at n) 0 d i (subst (λ (k : ℕ). i < k) (sym (numbers-length at n)) h) ∙ ap f (number-at at n i h)
 
 module _ (l : List ℕ) where
   pub counts-length : length (numbersCounts l) ≡ 24

@@ -1,7 +1,7 @@
 -- `mosaic::genotype::call` meets its contract: each return is one case of the definition. Assumes nothing.
 use mathlib.Core.Path.{_≡_, _∙_}
 use borrow.Author.Tests.{lt-ltb, le-ltb, eq-eqb, ne-eqb}
-use Rattle.mosaic_alleles.specs.Alleles.{totalOf}
+use Rattle.lists.specs.Lists.{totalOf}
 use Rattle.mosaic_alleles.proofs.CountLaws.{total-allowed}
 use Rattle.mosaic_hypotheses.specs.Choice.{choiceOf}
 use Rattle.mosaic.specs.Genotype.{mosaicCalled}

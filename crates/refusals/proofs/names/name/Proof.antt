@@ -43,6 +43,15 @@ enum-told-12 c = search needs
 enum-told-13 : tie.Need-enum-told-13
 enum-told-13 c = search needs
 
+enum-told-14 : tie.Need-enum-told-14
+enum-told-14 c = search needs
+
+enum-told-15 : tie.Need-enum-told-15
+enum-told-15 c = search needs
+
+enum-told-16 : tie.Need-enum-told-16
+enum-told-16 c = search needs
+
 returns : tie.Need-returns
 returns c = rw (c .before .before .enum-told .given .1) refl
 
@@ -82,6 +91,15 @@ returns-12 c = rw (c .before .before .enum-told12 .given .1) refl
 returns-13 : tie.Need-returns-13
 returns-13 c = rw (c .before .before .enum-told13 .given .1) refl
 
+returns-14 : tie.Need-returns-14
+returns-14 c = rw (c .before .before .enum-told14 .given .1) refl
+
+returns-15 : tie.Need-returns-15
+returns-15 c = rw (c .before .before .enum-told15 .given .1) refl
+
+returns-16 : tie.Need-returns-16
+returns-16 c = rw (c .before .before .enum-told16 .given .1) refl
+
 pub name-spec : {M : Type 1} → statement M
 name-spec =
     tie.close
@@ -99,6 +117,9 @@ name-spec =
     enum-told-11
     enum-told-12
     enum-told-13
+    enum-told-14
+    enum-told-15
+    enum-told-16
     returns
     returns-2
     returns-3
@@ -111,4 +132,7 @@ name-spec =
     returns-10
     returns-11
     returns-12
-    returns-13)
+    returns-13
+    returns-14
+    returns-15
+    returns-16)

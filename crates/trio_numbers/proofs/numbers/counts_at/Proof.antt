@@ -4,7 +4,8 @@ use mathlib.Core.Path.{_≡_, sym, ap, _∙_}
 use lib.ListN.{drop, replicate}
 use lib.Seq.{sets}
 use Rattle.trio_numbers.specs.Numbers.{asCount, numbersCounts}
-use Rattle.trio_numbers.proofs.NumbersLaws.{store-more, store-end, stored-over, counts-length, count-at}
+use Rattle.lists.proofs.StoredLaws.{store-more, store-end, stored-over}
+use Rattle.trio_numbers.proofs.NumbersLaws.{counts-length, count-at}
 use borrow.Author.Needs.{needs}
 use native.Mathlib.Omega.{arith}
 use Rattle.trio_numbers.proofs.numbers.counts_at.Statement.{statement}

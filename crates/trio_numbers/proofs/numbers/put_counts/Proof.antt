@@ -3,7 +3,7 @@ use Prim.Native.Nat.{_+_, _-_, _≤_}
 use mathlib.Core.Path.{_≡_, refl, _∙_}
 use lib.ListN.{length, drop}
 use lib.Seq.{sets}
-use Rattle.trio_numbers.proofs.NumbersLaws.{store-more, store-end}
+use Rattle.lists.proofs.StoredLaws.{store-more, store-end}
 use borrow.Author.Needs.{needs}
 use native.Mathlib.Omega.{arith}
 use Rattle.trio_numbers.proofs.numbers.put_counts.Statement.{statement}

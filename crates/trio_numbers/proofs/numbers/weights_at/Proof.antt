@@ -5,7 +5,8 @@ use lib.Ieee.{binary64, ofBits, nan}
 use lib.ListN.{drop, replicate}
 use lib.Seq.{sets}
 use Rattle.trio_numbers.specs.Numbers.{numbersFloats}
-use Rattle.trio_numbers.proofs.NumbersLaws.{store-more, store-end, stored-over, floats-length, float-at}
+use Rattle.lists.proofs.StoredLaws.{store-more, store-end, stored-over}
+use Rattle.trio_numbers.proofs.NumbersLaws.{floats-length, float-at}
 use borrow.Author.Needs.{needs}
 use native.Mathlib.Omega.{arith}
 use Rattle.trio_numbers.proofs.numbers.weights_at.Statement.{statement}

@@ -3,7 +3,7 @@ use Prim.Native.Nat.{ℕ, _+_, _-_, _≤_}
 use mathlib.Core.Path.{_≡_, refl, ap, _∙_}
 use lib.ListN.{length, drop, length-set}
 use lib.Seq.{sets}
-use Rattle.trio_numbers.proofs.NumbersLaws.{store-more, store-end}
+use Rattle.lists.proofs.StoredLaws.{store-more, store-end}
 use borrow.Author.Needs.{needs}
 use native.Mathlib.Nat.{add-zero}
 use native.Mathlib.Omega.{arith}

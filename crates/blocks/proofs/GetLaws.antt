@@ -1,0 +1,66 @@
+-- Bytes read one after the other, the highest first; and that a number of w bytes is below 256 to the w. Assumes nothing.
+use Prim.Native.Nat.{ℕ, suc, min, _+_, _*_, _<_, _≤_, _^_}
+use mathlib.Core.List.{List, [], _∷_}
+use mathlib.Core.Path.{_≡_, refl, sym, ap, _∙_, subst}
+use native.Mathlib.Nat.{pow-succ', pow-le-pow-right, add-zero}
+use native.Mathlib.Omega.{arith}
+use lib.Dec.{lit<}
+use lib.ListN.{length, getD, take, drop, length-take, length-drop, drop-of-length-le}
+use lib.Seq.{getD-drop, getD-take, drop-drop}
+use Rattle.blocks.specs.Bytes.{wholeOf, at, Bytes}
+use Rattle.blocks.proofs.ByteLaws.{bytes-drop, bytes-take}
+
+whole-small : (l : List ℕ) → Bytes l → wholeOf l < 256 ^ length l
+whole-small [] h = lit< tt
+whole-small (b ∷ l) h =
+    subst (λ (n : ℕ). b + 256 * wholeOf l < n) (sym (pow-succ' 256 (length l)))
+    (less b (wholeOf l) (256 ^ length l) (h 0) (whole-small l (λ i. h (suc i))))
+  where
+    less : (b v p : ℕ) → b < 256 → v < p → b + 256 * v < 256 * p
+    less b v p g h = omega arith
+
+within : (l : List ℕ) (n : ℕ) → Bytes l → length l ≤ n → wholeOf l < 256 ^ n
+within l n h few = less (wholeOf l) (256 ^ length l) (256 ^ n) (whole-small l h) (pow-le-pow-right (lit< tt) few)
+  where
+    less : (v p q : ℕ) → v < p → p ≤ q → v < q
+    less v p q h e = omega arith
+
+pub at-small : (o w : ℕ) (l : List ℕ) → Bytes l → at o w l < 256 ^ w
+at-small o w l h = within (take w (drop o l)) w (bytes-take w (drop o l) (bytes-drop o l h)) (few w (drop o l))
+  where
+    few : (w : ℕ) (l : List ℕ) → length (take w l) ≤ w
+    few w l = omega (arith, length-take w l)
+
+-- ---- the loop
+
+-- the first byte, and the others
+whole-next : (l : List ℕ) → wholeOf l ≡ getD l 0 0 + 256 * wholeOf (drop 1 l)
+whole-next [] = refl
+whole-next (b ∷ l) = refl
+
+-- the number of the bytes from place `left` on, of `width` bytes from `start` on
+abbrev pub behind : List ℕ → ℕ → ℕ → ℕ → ℕ
+behind b start width left = wholeOf (drop left (take width (drop start b)))
+
+module _ (b : List ℕ) (start width left : ℕ) where
+  abbrev here : List ℕ
+  here = take width (drop start b)
+
+  pub get-none : width ≤ left → 0 ≡ behind b start width left
+  get-none h = rw (drop-of-length-le here {i = left} (omega (arith, length-take width (drop start b))))
+
+  -- one byte more
+  pub get-step : left < width → behind b start width (left + 1) * 256 + getD b (start + left) 0 ≡ behind b start width left
+  get-step h =
+      let byte : getD (drop left here) 0 0 ≡ getD b (start + left) 0 =
+      getD-drop left here 0 0 ∙ ap (λ (k : ℕ). getD here k 0) (add-zero left) ∙ getD-take width (drop start b) left 0 h ∙ getD-drop start b left 0 in
+      sym (whole-next (drop left here) ∙ rw (byte, drop-drop 1 left here) (turned (behind b start width (left + 1)) (getD b (start + left) 0)))
+    where
+      turned : (v x : ℕ) → x + 256 * v ≡ v * 256 + x
+      turned v x = omega arith
+
+  -- of at most eight bytes, all but the first
+  pub get-small : Bytes b → width ≤ 8 → 0 < left → behind b start width left < 256 ^ 7
+  get-small h few some =
+      within (drop left here) 7 (bytes-drop left here (bytes-take width (drop start b) (bytes-drop start b h)))
+      (omega (arith, length-drop left here, length-take width (drop start b)))

@@ -1,0 +1,51 @@
+-- The check tells two lists of bytes apart that differ in one word. Assumes nothing.
+use Prim.Native.Nat.{ℕ, zero, suc, _+_, _*_, _/_}
+use mathlib.Core.List.{List, [], _∷_}
+use mathlib.Core.Path.{_≡_, refl, sym, ap, _∙_}
+use native.Mathlib.Omega.{arith}
+use lib.ListN.{length, getD}
+use lib.Seq.{ext-getD}
+use Rattle.lists.specs.Lists.{totalOf}
+use Rattle.blocks.specs.Check.{wordsOf}
+
+unlike : (n : ℕ) → 0 ≡ suc n → ⊥
+unlike n e = omega arith
+
+twice : (j : ℕ) → 2 * suc j ≡ suc (suc (2 * j))
+twice j = omega arith
+
+-- as `twice` leaves it
+odd : (j : ℕ) → suc (suc (2 * j)) + 1 ≡ suc (suc (2 * j + 1))
+odd j = omega arith
+
+swapped : (x y a b : ℕ) → a ≡ b → x + a + y ≡ y + b + x
+swapped x y a b e = omega arith
+
+added : (x y a b c d : ℕ) → x ≡ y → a + c ≡ b + d → x + a + c ≡ y + b + d
+added x y a b c d e f = omega arith
+
+pub length-words : (l : List ℕ) → length (wordsOf l) ≡ (length l + 1) / 2
+length-words [] = refl
+length-words (a ∷ []) = refl
+length-words (a ∷ b ∷ l) = ap suc (length-words l) ∙ more (length l)
+  where
+    more : (n : ℕ) → suc ((n + 1) / 2) ≡ (suc (suc n) + 1) / 2
+    more n = omega arith
+
+pub word-at : (l : List ℕ) (j : ℕ) → getD (wordsOf l) j 0 ≡ getD l (2 * j) 0 + 256 * getD l (2 * j + 1) 0
+word-at [] j = refl
+word-at (a ∷ []) zero = only a
+  where
+    only : (a : ℕ) → a ≡ a + 256 * 0
+    only a = omega arith
+word-at (a ∷ []) (suc j) = rw (twice j, odd j)
+word-at (a ∷ b ∷ l) zero = refl
+word-at (a ∷ b ∷ l) (suc j) = rw (twice j, odd j) (word-at l j)
+
+-- lists that agree at every place but k
+pub but-one : (k : ℕ) (l m : List ℕ) → length l ≡ length m → ((j : ℕ) → (j ≡ k → ⊥) → getD l j 0 ≡ getD m j 0) → totalOf l + getD m k 0 ≡ totalOf m + getD l k 0
+but-one k [] [] n h = refl
+but-one k [] (y ∷ m) n h = absurd (unlike (length m) n)
+but-one k (x ∷ l) [] n h = absurd (unlike (length l) (sym n))
+but-one zero (x ∷ l) (y ∷ m) n h = swapped x y (totalOf l) (totalOf m) (ap totalOf (ext-getD 0 l m (omega arith) (λ i e. h (suc i) (λ z. omega arith))))
+but-one (suc k) (x ∷ l) (y ∷ m) n h = added x y (totalOf l) (totalOf m) (getD m k 0) (getD l k 0) (h 0 (λ z. omega arith)) (but-one k l m (omega arith) (λ j e. h (suc j) (λ z. e (omega arith))))

@@ -1,0 +1,82 @@
+-- The part of a block, or why it has none. Definitions only (RULES.md, B1, B5 to B7).
+use Prim.Native.Nat.{ℕ, _+_, _*_}
+use mathlib.Core.Bool.{Bool, cond, _&&_}
+use mathlib.Core.List.{List, map}
+use lib.Dec.{eqb}
+use lib.Ieee.{Float, binary64, ofBits}
+use lib.ListN.{length}
+use Rattle.blocks.specs.Bytes.{at, wholesAt, zeroIn}
+use Rattle.blocks.specs.Check.{checkRight}
+use Rattle.refusals.specs.declared.Refusal.{Refusal}
+use Rattle.refusals.specs.declared.Refusal.the-variants.{Done, BadPart, Block, Check, Layout}
+use Rattle.trio_entries.specs.declared.entry.Entry.{Entry}
+use Rattle.trio_samples.specs.Scores.{listsOf}
+use Rattle.trio_parts.specs.declared.part.Part.{Part}
+use Rattle.trio_parts.specs.declared.part.Stepped.{Stepped}
+use Rattle.trio_parts.specs.Part.{emptyPart, gives}
+use Rattle.trio_parts.specs.Sound.{soundPart}
+
+-- ---- the part
+
+-- B1: the cluster number, and how many triples are held
+abbrev pub clustersIn : List ℕ → ℕ
+clustersIn b = at 1 1 b
+
+abbrev pub heldIn : List ℕ → ℕ
+heldIn b = at 2 1 b
+
+-- B1: the 24 counts
+abbrev pub countsIn : List ℕ → List ℕ
+countsIn b = wholesAt 16 4 24 b
+
+-- B1: the eight weights; the bits of a NaN give a NaN
+abbrev pub weightsIn : List ℕ → List Float
+weightsIn b = map (ofBits binary64) (wholesAt 112 8 8 b)
+
+-- B1: a held triple, whose position and whose score's bits stand from these bytes on
+abbrev pub entryIn : ℕ → ℕ → List ℕ → Entry
+entryIn position score b = record { position = at position 4 b; score = ofBits binary64 (at score 8 b) }
+
+-- B1, B6: what stands in the block; and the lists of scores, which do not, worked out
+unfoldable pub partIn : List ℕ → Part
+partIn b =
+    record {
+      clusters = clustersIn b;
+      counts = countsIn b;
+      weights = weightsIn b;
+      scores = listsOf (clustersIn b) (countsIn b) (weightsIn b);
+      marks = at 8 8 b;
+      held = record { count = heldIn b; first = entryIn 176 184 b; second = entryIn 180 192 b };
+    }
+
+-- ---- its layout
+
+-- B5: byte 0 is 1, bytes 3 to 7 are zero, and so are bytes 200 to 509
+unfoldable pub fixedRight : List ℕ → Bool
+fixedRight b = eqb (at 0 1 b) 1 && (zeroIn 3 8 b && zeroIn 200 510 b)
+
+-- B5: of n clusters 3·n counts and n weights are in use, of h held triples h positions and h scores; the places behind these are zero, up
+-- to the end of the counts, of the weights, of the positions and of the scores. More than 8 clusters leave none of the first two, more
+-- than 2 triples none of the others
+unfoldable pub unusedRight : List ℕ → Bool
+unusedRight b =
+    zeroIn (16 + 12 * clustersIn b) 112 b
+    && (zeroIn (112 + 8 * clustersIn b) 176 b && (zeroIn (176 + 4 * heldIn b) 184 b && zeroIn (184 + 8 * heldIn b) 200 b))
+
+-- ---- reading
+
+-- B7: a refusal has nothing of the block: its part is that of a refused opening
+abbrev pub refuses : Refusal → Stepped
+refuses r = gives r emptyPart
+
+-- B7: what reading gives of any bytes: 13 if there are not 512, 14 if the check is wrong, 15 if the layout is, 12 if the part is not sound,
+-- and else the part
+unfoldable pub readOf : List ℕ → Stepped
+readOf b =
+    cond (eqb (length b) 512)
+    (cond (checkRight b)
+    (cond (fixedRight b && unusedRight b)
+    (cond (soundPart (partIn b)) (gives Done (partIn b)) (refuses BadPart))
+    (refuses Layout))
+    (refuses Check))
+    (refuses Block)

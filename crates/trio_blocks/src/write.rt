@@ -1,0 +1,76 @@
+// A part written as a block (docs/RULES.md, B1 to B4).
+ghost use mathlib.Core.Path.{_≡_};
+ghost use mathlib.Core.List.{[], _∷_, _++_};
+ghost use Prim.Native.Nat.{_+_, _*_, _-_, _≤_};
+ghost use lib.Seq.{sets, slice};
+ghost use Rattle.blocks.specs.Bytes.{fieldsOf, asBytes};
+ghost use Rattle.trio_blocks.specs.Writing.{blockOf, writtenOf};
+ghost use Rattle.trio_blocks.specs.Inner.{layoutBy};
+use blocks::bytes::put;
+use blocks::check::check_of;
+use refusals::Refusal;
+use trio_numbers::numbers::numbers_of;
+use trio_parts::part::Part;
+use trio_parts::sound::sound_part;
+
+// What writing gives: the block, or a refusal and zeros.
+pub struct Written {
+    pub refusal: Refusal,
+    pub block: [u8; 512],
+}
+
+// The numbers of a part from number `from` to before `to`, each in `width` bytes, from byte `start` on.
+fn put_run(b: &mut [u8; 512], start: u16, width: u8, numbers: &[u64; 39], from: usize, to: usize)
+    requires { ⌜ (from ≤ to) × ((to ≤ 39) × (start + width * (to - from) ≤ 512)) ⌝ }
+    ensures { λ _. ⌜ now (b .exit) ≡ sets (now (b .entry)) start (asBytes (fieldsOf width (slice from to (now (numbers .entry))))) ⌝ }
+{
+    let mut at = start;
+    let mut i = from;
+    while i < to {
+        put(b, at, width, numbers[i]);
+        at += width as u16;
+        i += 1;
+    }
+}
+
+// All but the check.
+fn lay(numbers: [u64; 39]) -> [u8; 512]
+    ensures { λ r. ⌜ r ≡ asBytes (layoutBy numbers) ++ (0 ∷ 0 ∷ []) ⌝ }
+{
+    let mut b = [0u8; 512];
+    put(&mut b, 0, 1, 1);
+    put(&mut b, 1, 1, numbers[0]);
+    put(&mut b, 2, 1, numbers[2]);
+    put(&mut b, 8, 8, numbers[1]);
+    put_run(&mut b, 16, 4, &numbers, 7, 31);
+    put_run(&mut b, 112, 8, &numbers, 31, 39);
+    put_run(&mut b, 176, 4, &numbers, 3, 5);
+    put_run(&mut b, 184, 8, &numbers, 5, 7);
+    b
+}
+
+fn block_of(p: Part) -> [u8; 512]
+    ensures { λ r. ⌜ r ≡ blockOf p ⌝ }
+{
+    let mut b = lay(numbers_of(p));
+    let check = check_of(&b);
+    put(&mut b, 510, 2, check as u64);
+    b
+}
+
+// The block of a sound part.
+pub fn write_block(p: Part) -> Written
+    ensures { λ r. ⌜ r ≡ writtenOf p ⌝ }
+{
+    if sound_part(p) {
+        let block = block_of(p);
+        return Written {
+            refusal: Refusal::Done,
+            block,
+        };
+    }
+    Written {
+        refusal: Refusal::BadPart,
+        block: [0u8; 512],
+    }
+}
