@@ -1,13 +1,14 @@
 -- Bytes read one after the other, the highest first; and that a number of w bytes is below 256 to the w. Assumes nothing.
-use Prim.Native.Nat.{ℕ, suc, min, _+_, _*_, _<_, _≤_, _^_}
-use mathlib.Core.List.{List, [], _∷_}
+use Prim.Native.Nat.{ℕ, zero, suc, zero-le, _+_, _*_, _<_, _≤_, _^_}
+use mathlib.Core.List.{List, [], _∷_, map}
 use mathlib.Core.Path.{_≡_, refl, sym, ap, _∙_, subst}
 use native.Mathlib.Nat.{pow-succ', pow-le-pow-right, add-zero}
 use native.Mathlib.Omega.{arith}
 use lib.Dec.{lit<}
 use lib.ListN.{length, getD, take, drop, length-take, length-drop, drop-of-length-le}
 use lib.Seq.{getD-drop, getD-take, drop-drop}
-use Rattle.blocks.specs.Bytes.{wholeOf, at, Bytes}
+use Rattle.lists.specs.Lists.{numbers}
+use Rattle.blocks.specs.Bytes.{wholeOf, at, wholesAt, Bytes}
 use Rattle.blocks.proofs.ByteLaws.{bytes-drop, bytes-take}
 
 whole-small : (l : List ℕ) → Bytes l → wholeOf l < 256 ^ length l
@@ -30,6 +31,15 @@ at-small o w l h = within (take w (drop o l)) w (bytes-take w (drop o l) (bytes-
   where
     few : (w : ℕ) (l : List ℕ) → length (take w l) ≤ w
     few w l = omega (arith, length-take w l)
+
+pub wholes-small : (o w n : ℕ) (l : List ℕ) → Bytes l → (i : ℕ) → getD (wholesAt o w n l) i 0 < 256 ^ w
+unfolding wholesAt
+wholes-small o w n l h = from 0 n
+  where
+    from : (k n i : ℕ) → getD (map (λ j. at (o + w * j) w l) (numbers k n)) i 0 < 256 ^ w
+    from k zero i = pow-le-pow-right (lit< tt) {i = 0} {j = w} zero-le
+    from k (suc n) zero = at-small (o + w * k) w l h
+    from k (suc n) (suc i) = from (suc k) n i
 
 -- ---- the loop
 

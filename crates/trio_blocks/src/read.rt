@@ -1,7 +1,6 @@
 // A block read as a part, or refused (docs/RULES.md, B1, B5 to B7).
 ghost use mathlib.Core.Path.{_≡_};
 ghost use mathlib.Core.Bool.{cond, _&&_};
-ghost use Prim.Native.Nat.{_+_, _*_, _-_, _≤_};
 ghost use lib.ListN.{length};
 ghost use lib.Seq.{sets};
 ghost use Rattle.blocks.specs.Bytes.{wholesAt};
@@ -9,7 +8,7 @@ ghost use Rattle.refusals.specs.declared.Refusal.the-variants.{Done, BadPart};
 ghost use Rattle.trio_parts.specs.Part.{gives};
 ghost use Rattle.trio_parts.specs.Sound.{soundPart};
 ghost use Rattle.trio_blocks.specs.Reading.{partIn, fixedRight, unusedRight, refuses, readOf};
-ghost use Rattle.trio_blocks.specs.Inner.{numbersIn};
+ghost use Rattle.trio_blocks.specs.Inner.{IsRun, numbersIn};
 use blocks::bytes::get;
 use blocks::bytes::zeros;
 use blocks::check::check_of;
@@ -19,15 +18,15 @@ use trio_parts::part::Part;
 use trio_parts::part::Stepped;
 use trio_parts::sound::sound_part;
 
-// The numbers of `width` bytes from byte `start` on, as those from number `from` to before `to`.
-fn get_run(b: &[u8], start: u16, width: u8, numbers: &mut [u64; 39], from: usize, to: usize)
-    requires { ⌜ (from ≤ to) × ((to ≤ 39) × ((width ≤ 8) × (start + width * (to - from) ≤ 512))) ⌝ }
-    ensures { λ _. ⌜ now (numbers .exit) ≡ sets (now (numbers .entry)) from (wholesAt start width (to - from) (now (b .entry))) ⌝ }
+// `count` numbers of `width` bytes each, from byte `start` on, as those from number `from` on.
+fn get_run(b: &[u8], start: u16, width: u8, numbers: &mut [u64; 39], from: usize, count: usize)
+    requires { ⌜ IsRun start width from count ⌝ }
+    ensures { λ _. ⌜ now (numbers .exit) ≡ sets (now (numbers .entry)) from (wholesAt start width count (now (b .entry))) ⌝ }
 {
     let mut at = start;
-    let mut i = from;
-    while i < to {
-        numbers[i] = get(b, at, width);
+    let mut i = 0;
+    while i < count {
+        numbers[from + i] = get(b, at, width);
         at += width as u16;
         i += 1;
     }
@@ -41,10 +40,10 @@ fn numbers_in(b: &[u8]) -> [u64; 39]
     numbers[0] = get(b, 1, 1);
     numbers[1] = get(b, 8, 8);
     numbers[2] = get(b, 2, 1);
-    get_run(b, 176, 4, &mut numbers, 3, 5);
-    get_run(b, 184, 8, &mut numbers, 5, 7);
-    get_run(b, 16, 4, &mut numbers, 7, 31);
-    get_run(b, 112, 8, &mut numbers, 31, 39);
+    get_run(b, 176, 4, &mut numbers, 3, 2);
+    get_run(b, 184, 8, &mut numbers, 5, 2);
+    get_run(b, 16, 4, &mut numbers, 7, 24);
+    get_run(b, 112, 8, &mut numbers, 31, 8);
     numbers
 }
 
@@ -58,10 +57,7 @@ fn both(x: bool, y: bool) -> bool
 fn fixed_right(b: &[u8]) -> bool
     ensures { λ r. ⌜ r ≡ fixedRight (now (b .entry)) ⌝ }
 {
-    both(
-        get(b, 0, 1) == 1,
-        both(zeros(b, 3, 8), zeros(b, 200, 510)),
-    )
+    both(get(b, 0, 1) == 1, both(zeros(b, 3, 8), zeros(b, 200, 510)))
 }
 
 // Are the places zero that are not in use?
@@ -82,10 +78,7 @@ fn refuse(refusal: Refusal) -> Stepped
     ensures { λ r. ⌜ r ≡ refuses refusal ⌝ }
 {
     let part = Part::empty();
-    Stepped {
-        refusal,
-        part,
-    }
+    Stepped { refusal, part }
 }
 
 // The part, if it is sound.

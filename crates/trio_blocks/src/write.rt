@@ -1,11 +1,12 @@
 // A part written as a block (docs/RULES.md, B1 to B4).
 ghost use mathlib.Core.Path.{_≡_};
 ghost use mathlib.Core.List.{[], _∷_, _++_};
-ghost use Prim.Native.Nat.{_+_, _*_, _-_, _≤_};
-ghost use lib.Seq.{sets, slice};
+ghost use Prim.Native.Nat.{_+_, _*_, _≤_};
+ghost use lib.ListN.{length, replicate};
+ghost use lib.Seq.{sets};
 ghost use Rattle.blocks.specs.Bytes.{fieldsOf, asBytes};
 ghost use Rattle.trio_blocks.specs.Writing.{blockOf, writtenOf};
-ghost use Rattle.trio_blocks.specs.Inner.{layoutBy};
+ghost use Rattle.trio_blocks.specs.Inner.{headBy, layoutBy};
 use blocks::bytes::put;
 use blocks::check::check_of;
 use refusals::Refusal;
@@ -19,33 +20,41 @@ pub struct Written {
     pub block: [u8; 512],
 }
 
-// The numbers of a part from number `from` to before `to`, each in `width` bytes, from byte `start` on.
-fn put_run(b: &mut [u8; 512], start: u16, width: u8, numbers: &[u64; 39], from: usize, to: usize)
-    requires { ⌜ (from ≤ to) × ((to ≤ 39) × (start + width * (to - from) ≤ 512)) ⌝ }
-    ensures { λ _. ⌜ now (b .exit) ≡ sets (now (b .entry)) start (asBytes (fieldsOf width (slice from to (now (numbers .entry))))) ⌝ }
+// A run of numbers, each in `width` bytes, from byte `start` on.
+fn put_run(b: &mut [u8; 512], start: u16, width: u8, run: &[u64])
+    requires { ⌜ start + width * length (now run) ≤ 512 ⌝ }
+    ensures { λ _. ⌜ now (b .exit) ≡ sets (now (b .entry)) start (asBytes (fieldsOf width (now (run .entry)))) ⌝ }
 {
     let mut at = start;
-    let mut i = from;
-    while i < to {
-        put(b, at, width, numbers[i]);
+    let mut i = 0;
+    while i < run.len() {
+        put(b, at, width, run[i]);
         at += width as u16;
         i += 1;
     }
 }
 
-// All but the check.
-fn lay(numbers: [u64; 39]) -> [u8; 512]
-    ensures { λ r. ⌜ r ≡ asBytes (layoutBy numbers) ++ (0 ∷ 0 ∷ []) ⌝ }
+// The first sixteen bytes, and zeros.
+fn head(numbers: [u64; 39]) -> [u8; 512]
+    ensures { λ r. ⌜ r ≡ asBytes (headBy numbers) ++ replicate 496 0 ⌝ }
 {
     let mut b = [0u8; 512];
     put(&mut b, 0, 1, 1);
     put(&mut b, 1, 1, numbers[0]);
     put(&mut b, 2, 1, numbers[2]);
     put(&mut b, 8, 8, numbers[1]);
-    put_run(&mut b, 16, 4, &numbers, 7, 31);
-    put_run(&mut b, 112, 8, &numbers, 31, 39);
-    put_run(&mut b, 176, 4, &numbers, 3, 5);
-    put_run(&mut b, 184, 8, &numbers, 5, 7);
+    b
+}
+
+// All but the check.
+fn lay(numbers: [u64; 39]) -> [u8; 512]
+    ensures { λ r. ⌜ r ≡ asBytes (layoutBy numbers) ++ (0 ∷ 0 ∷ []) ⌝ }
+{
+    let mut b = head(numbers);
+    put_run(&mut b, 16, 4, &numbers[7..31]);
+    put_run(&mut b, 112, 8, &numbers[31..39]);
+    put_run(&mut b, 176, 4, &numbers[3..5]);
+    put_run(&mut b, 184, 8, &numbers[5..7]);
     b
 }
 

@@ -21,14 +21,15 @@ use Rattle.trio_numbers.specs.Numbers.{firstNumbers, partNumbers, scoreN
 use Rattle.trio_numbers.specs.Numbers.{asCount, numbersCounts, numbersFloats, numbersScores, partWith, numbersPart, linePart}
 use Rattle.trio_numbers.proofs.NumbersLaws.{numbers-39, Lists36, scores-108, put-all}
 
-counts-back : (l : List ℕ) → ((i : ℕ) → getD l i 0 < 2 ^ 32) → map asCount l ≡ l
+-- counts that are u32s stay as they are
+pub counts-back : (l : List ℕ) → ((i : ℕ) → getD l i 0 < 2 ^ 32) → map asCount l ≡ l
 counts-back [] h = refl
 counts-back (c ∷ l) h = ap₂ _∷_ (same c (h 0)) (counts-back l (λ i. h (suc i)))
   where
     same : (c : ℕ) → c < 4294967296 → min c 4294967295 ≡ c
     same c h = omega arith
 
-floats-back : (l : List Float) → T (allFit l) → map (ofBits binary64) (map (toBits binary64) l) ≡ l
+pub floats-back : (l : List Float) → T (allFit l) → map (ofBits binary64) (map (toBits binary64) l) ≡ l
 floats-back [] h = refl
 floats-back (x ∷ l) h =
     ap₂ _∷_ (ofBits-toBits binary64 x (and-l (fits binary64 x) (allFit l) h)) (floats-back l (and-r (fits binary64 x) (allFit l) h))

@@ -1,0 +1,59 @@
+-- `trio_blocks::read::sound_in` meets its contract, by whether the part is sound. Assumes nothing.
+use mathlib.Core.Path.{_≡_, sym, ap, _∙_}
+use Rattle.refusals.specs.declared.Refusal.the-variants.{Done}
+use Rattle.trio_parts.specs.Part.{gives}
+use Rattle.trio_parts.specs.Sound.{soundPart}
+use Rattle.trio_numbers.specs.Numbers.{linePart}
+use Rattle.trio_blocks.specs.Reading.{partIn}
+use Rattle.trio_blocks.proofs.NumbersLaws.{line-in}
+use borrow.Author.Needs.{needs}
+use Rattle.trio_blocks.proofs.read.sound_in.Statement.{statement}
+use Rattle.trio_blocks.proofs.read.sound_in.Tie as tie
+
+-- what was read is the part that stands in the block
+is-part : (c : tie.After-line-part) → c .line-part .result ≡ partIn (c .before .before .before .before .args .b .now)
+is-part c =
+    let numbers = c .before .before in
+    let slice = numbers .before in
+    let b = slice .before .args .b .now in
+    c .line-part .ensures ∙ ap linePart (numbers .numbers-in .ensures) ∙ line-in b (λ i. slice .shared-slice-known .given i .fits)
+
+told : (c : tie.After-sound-part) → c .sound-part .result ≡ soundPart (partIn (c .before .before .before .before .before .args .b .now))
+told c = c .sound-part .ensures .0 ∙ ap soundPart (is-part (c .before))
+
+numbers-in-requires : tie.Need-numbers-in-requires
+numbers-in-requires c κs = search needs
+
+slice-aggregate-line-part : tie.Need-slice-aggregate-line-part
+slice-aggregate-line-part c = search needs
+
+line-part-requires : tie.Need-line-part-requires
+line-part-requires c κs = search needs
+
+sound-part-requires : tie.Need-sound-part-requires
+sound-part-requires c κs = search needs
+
+returns : tie.Need-returns
+returns c =
+    let read = c .before .before in
+    rw (sym (told (c .before)) ∙ c .if1 .taken) (ap (λ q. gives Done q) (is-part read))
+
+refuse-requires : tie.Need-refuse-requires
+refuse-requires c κs = search needs
+
+returns-2 : tie.Need-returns-2
+returns-2 c =
+    let tested = c .before in
+    rw (sym (told (tested .before)) ∙ tested .if1 .left) (c .refuse .ensures)
+
+pub sound-in-spec : {M : Type 1} → statement M
+sound-in-spec =
+    tie.close
+    (tie.spec
+    numbers-in-requires
+    slice-aggregate-line-part
+    line-part-requires
+    sound-part-requires
+    returns
+    refuse-requires
+    returns-2)
