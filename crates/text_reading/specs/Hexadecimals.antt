@@ -31,6 +31,6 @@ hexadecimalOf l = cond (eqb (length l) 16 && every isHexDigit l) (Is (hexFrom 0 
 
 -- ---- for the code
 
--- A8: the value of a byte, 16 where it is no digit
+-- A8: the value of a digit, 16 of any other byte
 abbrev pub hexDigitOf : ℕ → ℕ
 hexDigitOf b = cond (isHexDigit b) (hexValue b) 16

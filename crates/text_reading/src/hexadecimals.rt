@@ -4,7 +4,7 @@ ghost use Rattle.text_reading.specs.Hexadecimals.{hexDigitOf, hexadecima
 use crate::wholes::Whole;
 
 // The value of a hexadecimal digit; 16 for any other byte.
-fn hex_digit(b: u8) -> u64
+pub fn hex_digit(b: u8) -> u64
     ensures { λ r. ⌜ r ≡ hexDigitOf b ⌝ }
 {
     match b {

@@ -1,5 +1,5 @@
-// The whole call of a trio, its steps, and a quality by itself, for callers in other languages: a cluster number and slices, parts,
-// or two scores in; numbers and parts out (docs/RULES.md, T9 to T12).
+// The whole call of a trio, its steps, its blocks, and a quality by itself, for callers in other languages: a cluster number and slices,
+// parts, bytes, or two scores in; numbers, parts and bytes out (docs/RULES.md, T9 to T12, B).
 // It answers every argument; what the foreign caller answers for is in docs/TRUST.md.
 ghost use mathlib.Core.Path.{_≡_};
 ghost use mathlib.Core.Bool.{cond, not};
@@ -12,6 +12,7 @@ use trio_family::ground;
 use trio_family::pair::Triple;
 use trio_reads::flags::TripleRead;
 
+pub mod blocks;
 pub mod steps;
 
 // 1 for true.

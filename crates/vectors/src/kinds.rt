@@ -4,6 +4,7 @@
 // itself, in a branch of `answered`. A word more in an answer is a digit and a number more; `close` and `call` have all fourteen, the last
 // of them six flags.
 use crate::animal_cases;
+use crate::block_cases;
 use crate::read::SPACE;
 use crate::read::read;
 use crate::registers;
@@ -66,9 +67,13 @@ const SHOW: u64 = 0x73686f77;
 
 const SCORES: u64 = 0x73636f726573;
 
+const WRITE: u64 = 0x7772697465;
+
+const READ: u64 = 0x72656164;
+
 // The words of a question, a hexadecimal digit for each: 4 and 8 a whole number of so many bytes, f a float, 9 a register, c a cluster,
 // 2 a mode or a sample, 5 a place of a sample's list, 1 a flag; 3 three floats, d a part; a a list of u32 and b one of floats, at most one
-// each, a first. 0 is no kind.
+// each, a first; 7 bytes, where the list of u32 would be. 0 is no kind.
 fn digits(name: u64) -> u64 {
     match name {
         LN | EXP | LOG10 | POW10 | LGAMMA | STIRLING | KEY => 0xf000_0000,
@@ -84,7 +89,8 @@ fn digits(name: u64) -> u64 {
         FORGE => 0x925f_0000,
         COPY | MERGE => 0x9900_0000,
         ROW => 0x9400_0000,
-        CLOSE | SHOW | SCORES => 0x9000_0000,
+        CLOSE | SHOW | SCORES | WRITE => 0x9000_0000,
+        READ => 0x9700_0000,
         _ => 0,
     }
 }
@@ -145,6 +151,7 @@ fn as_numbers(name: u64, words: &mut Words) -> Answer {
         MERGE => trio_cases::merged(words),
         CLOSE => trio_cases::closing(words),
         QUALITY => trio_cases::quality(words),
+        READ => block_cases::read(words),
         DIPLOID | SAMPLE | OPEN | CALL => listed(name, words),
         _ => write::float(kernel(name, words)),
     }
@@ -157,6 +164,7 @@ fn answered(name: u64, words: &mut Words, text: &mut Text, at: usize) -> usize {
         MOSAIC => animal_cases::mosaic(words, text, at),
         SHOW => registers::show(words, text, at),
         SCORES => registers::scores(words, text, at),
+        WRITE => block_cases::written(words, text, at),
         _ => write::lay_answer(text, at, as_numbers(name, words)),
     }
 }

@@ -1,5 +1,6 @@
 // Answers the cases of standard input, line for line (docs/VECTORS.md): each line is gathered in a buffer until it ends, and then answered.
 mod animal_cases;
+mod block_cases;
 mod kinds;
 mod read;
 mod registers;

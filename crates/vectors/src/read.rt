@@ -4,6 +4,7 @@ use crate::words;
 use crate::words::Words;
 use text_reading::fields::field;
 use text_reading::fields::next_field;
+use text_reading::hexadecimals::hex_digit;
 use text_reading::hexadecimals::read_hexadecimal;
 use text_reading::names::packed;
 use text_reading::wholes::Whole;
@@ -94,6 +95,63 @@ fn read_list(line: &[u8], at: usize, digit: u64, words: &mut Words, list: usize)
     read_words(line, first, digit, words, list + 1, n)
 }
 
+// How many bytes a word of hexadecimal digits has, two digits each: none is `-`, which is 2d in ASCII; more than any line has where it is no
+// such word.
+fn how_many_bytes(word: &[u8]) -> usize
+    ensures { λ r. ⌜ r ≤ 2049 ⌝ }
+{
+    if packed(word) == 0x2d {
+        return 0;
+    }
+    if word.len() > 2 * words::MOST {
+        return words::MOST + 1;
+    }
+    if word.len() == 0 || word.len() % 2 == 1 {
+        return words::MOST + 1;
+    }
+    word.len() / 2
+}
+
+// The value of a digit of a word, 16 where there is none.
+fn digit_value(word: &[u8], i: usize) -> u64 {
+    if i < word.len() {
+        return hex_digit(word[i]);
+    }
+    16
+}
+
+// The byte of two digits, 256 where one is none.
+fn byte_value(word: &[u8], i: usize) -> u64
+    requires { ⌜ i ≤ 2048 ⌝ }
+{
+    let high = digit_value(word, 2 * i);
+    let low = digit_value(word, 2 * i + 1);
+    if high > 15 || low > 15 {
+        return 256;
+    }
+    16 * (high % 16) + low % 16
+}
+
+// Bytes, as a list of them.
+fn read_bytes(line: &[u8], at: usize, words: &mut Words) -> usize {
+    let word = field(line, at, SPACE);
+    let n = how_many_bytes(word);
+    if n > words::MOST {
+        return NOWHERE;
+    }
+    words[words::COUNTS] = n as u64;
+    let mut i = 0;
+    while i < n {
+        let x = byte_value(word, i);
+        if x > 255 {
+            return NOWHERE;
+        }
+        words[words::COUNTS + 1 + i] = x;
+        i += 1;
+    }
+    next_field(line, at, SPACE)
+}
+
 fn read_digit(line: &[u8], at: usize, digit: u64, words: &mut Words, to: usize) -> usize
     requires { ⌜ to ≤ 4096 ⌝ }
 {
@@ -101,6 +159,7 @@ fn read_digit(line: &[u8], at: usize, digit: u64, words: &mut Words, to: usize) 
         0xa => read_list(line, at, 4, words, words::COUNTS),
         0xb => read_list(line, at, 0xf, words, words::FLOATS),
         3 => read_words(line, at, 0xf, words, to, 3),
+        7 => read_bytes(line, at, words),
         0xd => read_words(line, at, 0xd, words, to, 39),
         0 => at,
         _ => read_word(line, at, digit, words, to),

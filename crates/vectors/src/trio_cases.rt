@@ -145,7 +145,7 @@ pub fn forged(words: &mut Words) -> Answer {
 }
 
 // What came back from a step goes into the first register.
-fn stepped(words: &mut Words, step: Stepped) -> Answer {
+pub fn stepped(words: &mut Words, step: Stepped) -> Answer {
     let refusal = step.refusal;
     registers::set(words, step.part);
     write::refusal(refusal)

@@ -72,3 +72,13 @@ pub fn floats(words: &Words, at: usize, n: usize, floats: &mut [f64])
         i += 1;
     }
 }
+
+pub fn bytes(words: &Words, at: usize, n: usize, bytes: &mut [u8])
+    requires { ⌜ (at ≤ 5631) × (n ≤ length (now bytes)) ⌝ }
+{
+    let mut i = 0;
+    while i < n {
+        bytes[i] = (whole(words, at + i) % 256) as u8;
+        i += 1;
+    }
+}
