@@ -1,0 +1,7 @@
+-- What holds of every block.
+pub mod Shape
+pub mod Widths
+pub mod Fitting
+pub mod Places
+pub mod RoundTrip
+pub mod Bits

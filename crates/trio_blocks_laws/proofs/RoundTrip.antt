@@ -1,0 +1,187 @@
+-- Every sound part is read from the block that is written of it, every bit. Assumes nothing.
+use Prim.Native.Nat.{ℕ, _+_}
+use mathlib.Core.Bool.{true}
+use mathlib.Core.List.{List, [], _∷_, _++_, map, map-append}
+use mathlib.Core.Path.{_≡_, refl, sym, ap, _∙_}
+use mathlib.Mathlib.Data.Bool.Basic.{and-intro}
+use native.Mathlib.Nat.{mod-lt}
+use borrow.Author.Tests.{eq-eqb}
+use lib.Dec.{lit<}
+use lib.Ieee.{binary64, toBits}
+use lib.ListN.{length, getD, take, drop, length-append, length-map}
+use lib.Seq.{take-at, drop-at}
+use Rattle.lists.specs.Lists.{totalOf}
+use Rattle.blocks.specs.Bytes.{Field, bytesOf, wholeOf, at, wholesAt, fieldsOf, zeroIn, BlockBytes, fieldsIn}
+use Rattle.blocks.specs.Check.{wordsOf, checkOf, checkRight}
+use Rattle.blocks.proofs.ByteLaws.{whole-bytes, bytes-append, bytes-of, bytes-fields}
+use Rattle.blocks.proofs.FieldLaws.{read-written}
+use Rattle.refusals.specs.declared.Refusal.the-variants.{Done}
+use Rattle.trio_parts.specs.declared.part.Part.{Part}
+use Rattle.trio_parts.specs.Part.{gives}
+use Rattle.trio_parts.specs.Sound.{soundPart}
+use Rattle.trio_parts.specs.Typed.{TypedPart}
+use Rattle.trio_parts.proofs.SoundLaws.{sound-right, sound-true}
+use Rattle.trio_numbers.specs.Numbers.{partNumbers, linePart}
+use Rattle.trio_numbers.proofs.NumbersBack.{line-back}
+use Rattle.trio_blocks.specs.Writing.{bitsOf, headOf, tailOf, layoutOf, bodyOf, blockOf, writtenOf}
+use Rattle.trio_blocks.specs.Reading.{partIn, fixedRight, readOf}
+use Rattle.trio_blocks.specs.Inner.{numbersIn}
+use Rattle.trio_blocks.specs.declared.write.Written.{Written}
+use Rattle.trio_blocks.proofs.NumbersLaws.{long-body, line-in}
+use Rattle.trio_blocks_laws.proofs.Shape.{RightShape, right-shape}
+use Rattle.trio_blocks_laws.proofs.Widths.{widths, layoutAt, fields-at, widths-are}
+use Rattle.trio_blocks_laws.proofs.Fitting.{layout-holds}
+use Rattle.trio_blocks_laws.proofs.Places.{last-zero, unused-zero}
+
+-- ---- the block of a part
+
+module _ (p : Part) (is : TypedPart p) where
+  body-510 : length (bodyOf p) ≡ 510
+  body-510 = long-body p (is .counts-24) (is .weights .places)
+
+  block-512 : length (blockOf p) ≡ 512
+  unfolding blockOf
+  block-512 = length-append (bodyOf p) (bytesOf 2 (checkOf (bodyOf p))) ∙ rw body-510
+
+  -- it has 512 bytes
+  pub block-bytes : BlockBytes (blockOf p)
+  unfolding blockOf bodyOf
+  block-bytes =
+      record {
+        long = block-512;
+        bytes = bytes-append (bodyOf p) (bytesOf 2 (checkOf (bodyOf p))) (bytes-fields (layoutOf p)) (bytes-of 2 (checkOf (bodyOf p)));
+      }
+
+  -- and its check is right
+  pub block-checked : checkRight (blockOf p) ≡ true
+  unfolding checkRight blockOf
+  block-checked =
+      let check = checkOf (bodyOf p) in
+      let behind : drop 510 (blockOf p) ≡ bytesOf 2 check = drop-at (bodyOf p) (bytesOf 2 check) 510 body-510 in
+      let before : take 510 (blockOf p) ≡ bodyOf p = take-at (bodyOf p) (bytesOf 2 check) 510 body-510 in
+      let small = mod-lt (65535 + totalOf (wordsOf (bodyOf p))) (lit< tt) in
+      eq-eqb (at 510 2 (blockOf p)) (checkOf (take 510 (blockOf p)))
+      (ap (λ (l : List ℕ). wholeOf (take 2 l)) behind ∙ whole-bytes 2 check small ∙ ap checkOf (sym before))
+
+-- ---- its numbers are those of the part
+
+abbrev valuesOf : List Field → List ℕ
+valuesOf fs = map (λ f. f .value) fs
+
+same-values : (w : ℕ) (vs : List ℕ) → valuesOf (fieldsOf w vs) ≡ vs
+same-values w [] = refl
+same-values w (v ∷ vs) = ap (λ (l : List ℕ). v ∷ l) (same-values w vs)
+
+module _ (p : Part) (is : TypedPart p) (right : RightShape p) where
+  abbrev b : List ℕ
+  b = blockOf p
+
+  abbrev bits : List ℕ
+  bits = bitsOf (p .weights)
+
+  -- the fields that stand in the block are those that were written
+  fields-back : layoutAt b ≡ layoutOf p
+  unfolding blockOf bodyOf
+  fields-back =
+      sym (fields-at b)
+      ∙ ap (λ (ws : List ℕ). fieldsIn ws b) (sym (widths-are p is))
+      ∙ read-written (layoutOf p) (bytesOf 2 (checkOf (bodyOf p))) (layout-holds p is right)
+
+  -- their numbers: behind five of the head the counts, the weights, and five more
+  values-back : valuesOf (layoutAt b) ≡ valuesOf (headOf p) ++ (p .counts ++ (bits ++ valuesOf (tailOf p)))
+  unfolding layoutOf
+  values-back =
+      let value : Field → ℕ = λ f. f .value in
+      let counts = fieldsOf 4 (p .counts) in
+      let weights = fieldsOf 8 bits in
+      ap valuesOf fields-back
+      ∙ map-append value (headOf p) (counts ++ (weights ++ tailOf p))
+      ∙ ap (λ (l : List ℕ). valuesOf (headOf p) ++ l)
+      (map-append value counts (weights ++ tailOf p)
+      ∙ rw (same-values 4 (p .counts), map-append value weights (tailOf p), same-values 8 bits))
+
+  long-bits : length bits ≡ 8
+  long-bits = length-map (p .weights) (toBits binary64) ∙ is .weights .places
+
+  head-back : (k : ℕ) → getD (valuesOf (layoutAt b)) k 0 ≡ getD (valuesOf (headOf p) ++ (p .counts ++ (bits ++ valuesOf (tailOf p)))) k 0
+  head-back k = ap (λ (l : List ℕ). getD l k 0) values-back
+
+  form-back : at 0 1 b ≡ 1
+  unfolding layoutAt
+  form-back = head-back 0
+
+  clusters-back : at 1 1 b ≡ p .clusters
+  unfolding layoutAt
+  clusters-back = head-back 1
+
+  held-back : at 2 1 b ≡ p .held .count
+  unfolding layoutAt
+  held-back = head-back 2
+
+  marks-back : at 8 8 b ≡ p .marks
+  unfolding layoutAt
+  marks-back = head-back 4
+
+  counts-back : wholesAt 16 4 24 b ≡ p .counts
+  unfolding layoutAt wholesAt
+  counts-back = ap (λ (l : List ℕ). take 24 (drop 5 l)) values-back ∙ take-at (p .counts) (bits ++ valuesOf (tailOf p)) 24 (is .counts-24)
+
+  behind-counts : drop 29 (valuesOf (layoutAt b)) ≡ bits ++ valuesOf (tailOf p)
+  behind-counts = ap (drop 29) values-back ∙ drop-at (p .counts) (bits ++ valuesOf (tailOf p)) 24 (is .counts-24)
+
+  weights-back : wholesAt 112 8 8 b ≡ bits
+  unfolding layoutAt wholesAt
+  weights-back = ap (take 8) behind-counts ∙ take-at bits (valuesOf (tailOf p)) 8 long-bits
+
+  tail-back : drop 37 (valuesOf (layoutAt b)) ≡ valuesOf (tailOf p)
+  unfolding layoutAt wholesAt
+  tail-back = ap (drop 8) behind-counts ∙ drop-at bits (valuesOf (tailOf p)) 8 long-bits
+
+  positions-back : wholesAt 176 4 2 b ≡ p .held .first .position ∷ p .held .second .position ∷ []
+  unfolding layoutAt wholesAt
+  positions-back = ap (take 2) tail-back
+
+  scores-back : wholesAt 184 8 2 b ≡ toBits binary64 (p .held .first .score) ∷ toBits binary64 (p .held .second .score) ∷ []
+  unfolding layoutAt wholesAt
+  scores-back = ap (λ (l : List ℕ). take 2 (drop 2 l)) tail-back
+
+  numbers-back : numbersIn b ≡ partNumbers p
+  unfolding numbersIn partNumbers
+  numbers-back = rw (clusters-back, marks-back, held-back, positions-back, scores-back, counts-back, weights-back)
+
+  -- ---- so it is read as the part
+
+  five-zero : zeroIn 3 8 b ≡ true
+  unfolding blockOf bodyOf layoutOf
+  five-zero = refl
+
+  fixed-back : fixedRight b ≡ true
+  unfolding fixedRight
+  fixed-back = and-intro (eq-eqb (at 0 1 b) 1 form-back) (and-intro five-zero (last-zero p is))
+
+  part-back : soundPart p ≡ true → partIn b ≡ p
+  part-back sound =
+      sym (line-in b (block-bytes p is .bytes)) ∙ ap linePart numbers-back ∙ line-back p is (sound-true p is sound .lists)
+
+-- a sound part that the types allow comes back from its block
+pub read-back : (p : Part) → TypedPart p → soundPart p ≡ true → readOf (blockOf p) ≡ gives Done p
+unfolding readOf
+read-back p is sound =
+    let right = right-shape p (sound-right p sound) in
+    let unused = unused-zero p is right (clusters-back p is right) (held-back p is right) in
+    rw (
+      eq-eqb (length (blockOf p)) 512 (block-bytes p is .long),
+      block-checked p is,
+      fixed-back p is right,
+      unused,
+      part-back p is right sound,
+      sound,
+    )
+
+-- B8: so writing and then reading is Done both times, and gives the part
+pub round-trip : (p : Part) → TypedPart p → soundPart p ≡ true
+    → (writtenOf p .refusal ≡ Done) × (readOf (writtenOf p .block) ≡ gives Done p)
+unfolding writtenOf
+round-trip p is sound =
+    let written : writtenOf p ≡ record { refusal = Done; block = blockOf p } = rw sound in
+    (ap (λ (w : Written). w .refusal) written, ap (λ (w : Written). readOf (w .block)) written ∙ read-back p is sound)

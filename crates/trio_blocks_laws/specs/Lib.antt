@@ -1,0 +1,1 @@
+-- The definitions that the laws of blocks are said over.
