@@ -63,6 +63,10 @@ unusedRight b =
     zeroIn (16 + 12 * clustersIn b) 112 b
     && (zeroIn (112 + 8 * clustersIn b) 176 b && (zeroIn (176 + 4 * heldIn b) 184 b && zeroIn (184 + 8 * heldIn b) 200 b))
 
+-- B5: both
+abbrev pub layoutRight : List ℕ → Bool
+layoutRight b = fixedRight b && unusedRight b
+
 -- ---- reading
 
 -- B7: a refusal has nothing of the block: its part is that of a refused opening
@@ -75,7 +79,7 @@ unfoldable pub readOf : List ℕ → Stepped
 readOf b =
     cond (eqb (length b) 512)
     (cond (checkRight b)
-    (cond (fixedRight b && unusedRight b)
+    (cond (layoutRight b)
     (cond (soundPart (partIn b)) (gives Done (partIn b)) (refuses BadPart))
     (refuses Layout))
     (refuses Check))

@@ -5,3 +5,7 @@ pub mod Fitting
 pub mod Places
 pub mod RoundTrip
 pub mod Bits
+pub mod Accepted
+pub mod OneBlock
+pub mod Changed
+pub mod NoSignature

@@ -1,0 +1,96 @@
+-- When each refusal of a reading is given, Done among them; what is read; and that a refused block leaves nothing. Assumes nothing.
+use Prim.Native.Nat.{ℕ}
+use mathlib.Core.Bool.{Bool, true, false, cond}
+use mathlib.Core.List.{List}
+use mathlib.Core.Logic.{_≢_, _↔_}
+use mathlib.Core.Path.{_≡_, refl, sym, ap, _∙_, subst}
+use borrow.Author.Tests.{eqb-true, eqb-false, eq-eqb, ne-eqb}
+use lib.Dec.{eqb}
+use lib.ListN.{length}
+use Rattle.blocks.specs.Check.{checkRight}
+use Rattle.refusals.specs.declared.Refusal.{Refusal}
+use Rattle.refusals.specs.declared.Refusal.the-variants.{Done, NoCluster, TooMany, Shape, Count, Weight, Model, Table}
+use Rattle.refusals.specs.declared.Refusal.the-variants.{Row, OtherTrio, NotComplete, NoCall, BadPart, Block, Check, Layout}
+use Rattle.trio_parts.specs.declared.part.Part.{Part}
+use Rattle.trio_parts.specs.declared.part.Stepped.{Stepped}
+use Rattle.trio_parts.specs.Part.{emptyPart, gives}
+use Rattle.trio_parts.specs.Sound.{soundPart}
+use Rattle.trio_blocks.specs.Reading.{partIn, layoutRight, refuses, readOf}
+use Rattle.trio_blocks_laws.specs.ReadWhen.{WellSent, ReadWhen}
+
+module _ (b : List ℕ) where
+  abbrev read : (l c u s : Bool) → Stepped
+  read l c u s =
+      cond l (cond c (cond u (cond s (gives Done (partIn b)) (refuses BadPart)) (refuses Layout)) (refuses Check)) (refuses Block)
+
+  -- ---- exactly when
+
+  given-says : ReadWhen b (readOf b .refusal)
+  unfolding readOf
+  given-says = go (eqb (length b) 512) (checkRight b) (layoutRight b) (soundPart (partIn b)) refl refl refl refl
+    where
+      go : (l c u s : Bool) → eqb (length b) 512 ≡ l → checkRight b ≡ c → layoutRight b ≡ u → soundPart (partIn b) ≡ s
+          → ReadWhen b (read l c u s .refusal)
+      go true true true true el ec eu es = (record { all-there = eqb-true _ _ el; checks = ec }, eu, es)
+      go true true true false el ec eu es = (record { all-there = eqb-true _ _ el; checks = ec }, eu, es)
+      go true true false s el ec eu es = (record { all-there = eqb-true _ _ el; checks = ec }, eu)
+      go true false u s el ec eu es = (eqb-true _ _ el, ec)
+      go false c u s el ec eu es = eqb-false _ _ el
+
+  says-given : (r : Refusal) → ReadWhen b r → readOf b .refusal ≡ r
+  unfolding readOf
+  says-given Block w = rw (ne-eqb (length b) 512 w)
+  says-given Check w = rw (eq-eqb (length b) 512 (w .0), w .1)
+  says-given Layout w = rw (eq-eqb (length b) 512 (w .0 .all-there), w .0 .checks, w .1)
+  says-given BadPart w = rw (eq-eqb (length b) 512 (w .0 .all-there), w .0 .checks, w .1, w .2)
+  says-given Done w = rw (eq-eqb (length b) 512 (w .0 .all-there), w .0 .checks, w .1, w .2)
+  says-given NoCluster w = absurd w
+  says-given TooMany w = absurd w
+  says-given Shape w = absurd w
+  says-given Count w = absurd w
+  says-given Weight w = absurd w
+  says-given Model w = absurd w
+  says-given Table w = absurd w
+  says-given Row w = absurd w
+  says-given OtherTrio w = absurd w
+  says-given NotComplete w = absurd w
+  says-given NoCall w = absurd w
+
+  -- for every refusal of the enum, Done among them
+  pub reads-exactly : (r : Refusal) → (readOf b .refusal ≡ r) ↔ ReadWhen b r
+  reads-exactly r = (λ e. subst (ReadWhen b) e given-says, says-given r)
+
+  -- ---- what is given
+
+  -- Done comes with the part that stands in the block
+  pub done-part : readOf b .refusal ≡ Done → readOf b ≡ gives Done (partIn b)
+  unfolding readOf
+  done-part e =
+      let w = reads-exactly Done .0 e in
+      rw (eq-eqb (length b) 512 (w .0 .all-there), w .0 .checks, w .1, w .2)
+
+  -- and any other refusal with nothing of it
+  pub nothing-kept : readOf b .refusal ≢ Done → readOf b .part ≡ emptyPart
+  unfolding readOf
+  nothing-kept = go (eqb (length b) 512) (checkRight b) (layoutRight b) (soundPart (partIn b))
+    where
+      go : (l c u s : Bool) → read l c u s .refusal ≢ Done → read l c u s .part ≡ emptyPart
+      go true true true true h = absurd (h refl)
+      go true true true false h = refl
+      go true true false s h = refl
+      go true false u s h = refl
+      go false c u s h = refl
+
+-- what a block that is read as a part has
+pub record Accepted (b : List ℕ) (p : Part) : Type 0 where
+  pub sent : WellSent b
+  pub laid-out : layoutRight b ≡ true
+  pub same : partIn b ≡ p
+  pub sound : soundPart p ≡ true
+
+pub accepted : (b : List ℕ) (p : Part) → readOf b ≡ gives Done p → Accepted b p
+accepted b p e =
+    let done = ap (λ (s : Stepped). s .refusal) e in
+    let w = reads-exactly b Done .0 done in
+    let same : partIn b ≡ p = ap (λ (s : Stepped). s .part) (sym (done-part b done) ∙ e) in
+    record { sent = w .0; laid-out = w .1; same = same; sound = ap soundPart (sym same) ∙ w .2 }

@@ -1,0 +1,26 @@
+-- Blocks that differ: inside one word, and by two words that changed places. Definitions only (RULES.md, B10, B11).
+use Prim.Native.Nat.{ℕ, _*_, _/_}
+use mathlib.Core.List.{List, [], _∷_}
+use mathlib.Core.Logic.{_≢_}
+use mathlib.Core.Path.{_≡_}
+use lib.ListN.{getD, take, drop}
+use lib.Seq.{sets}
+use Rattle.floats.specs.F64.{nat}
+use Rattle.trio_parts.specs.declared.part.Part.{Part}
+use Rattle.trio_parts.specs.Part.{freshPart}
+
+-- B10: c is another list of bytes than b, and only inside the 16-bit word k, which has the bytes 2·k and 2·k + 1
+pub record ChangedInside (k : ℕ) (b c : List ℕ) : Type 0 where
+  pub elsewhere : (i : ℕ) → i / 2 ≢ k → getD c i 0 ≡ getD b i 0
+  pub changed : c ≢ b
+
+-- B11: b with its words j and k exchanged
+abbrev pub exchanged : ℕ → ℕ → List ℕ → List ℕ
+exchanged j k b = sets (sets b (2 * j) (take 2 (drop (2 * k) b))) (2 * k) (take 2 (drop (2 * j) b))
+
+-- B11: an opened trio of one cluster with a weight of 0, of which the calf alone has two reads; and one of which the sire alone has them
+unfoldable pub calfRead : Part
+calfRead = freshPart 1 (2 ∷ 0 ∷ 0 ∷ []) (nat 0 ∷ [])
+
+unfoldable pub sireRead : Part
+sireRead = freshPart 1 (0 ∷ 2 ∷ 0 ∷ []) (nat 0 ∷ [])
