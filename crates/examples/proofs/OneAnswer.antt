@@ -10,6 +10,10 @@ use Rattle.floats.proofs.key.below.Reads as below
 use Rattle.floats.proofs.bits.bits.Reads as bits
 use Rattle.floats.proofs.bits.of_bits.Reads as of-bits
 use Rattle.floats.proofs.bits.same_bits.Reads as same-bits
+use Rattle.blocks.proofs.bytes.put.Reads as block-put
+use Rattle.blocks.proofs.bytes.get.Reads as block-get
+use Rattle.blocks.proofs.bytes.zeros.Reads as block-zeros
+use Rattle.blocks.proofs.check.check_of.Reads as check-of
 use Rattle.floats_nearest.proofs.nearest.nearest_multiple.Reads as nearest-multiple
 use Rattle.kernels.proofs.ln.ln.Reads as ln
 use Rattle.kernels.proofs.exp.exp.Reads as exp
@@ -62,6 +66,8 @@ use Rattle.trio_numbers.proofs.numbers.part_at.Reads as part-at
 use Rattle.trio_numbers.proofs.numbers.line_part.Reads as line-part
 use Rattle.trio_numbers.proofs.scores.score_numbers.Reads as score-numbers
 use Rattle.trio_numbers.proofs.numbers.put_part.Reads as put-part
+use Rattle.trio_blocks.proofs.write.write_block.Reads as write-block
+use Rattle.trio_blocks.proofs.read.read_block.Reads as read-block
 use Rattle.trio_closings.proofs.animal.sample_score.Reads as sample-score
 use Rattle.trio_opening.proofs.opening.open_part.Reads as open-part
 use Rattle.trio.proofs.rows.row_count.Reads as row-count
@@ -109,6 +115,8 @@ use Rattle.trio_c.proofs.steps.admulfas_open.Reads as c-open
 use Rattle.trio_c.proofs.steps.admulfas_work_row.Reads as c-work-row
 use Rattle.trio_c.proofs.steps.admulfas_merge.Reads as c-merge
 use Rattle.trio_c.proofs.steps.admulfas_close.Reads as c-close
+use Rattle.trio_c.proofs.blocks.admulfas_write_block.Reads as c-write-block
+use Rattle.trio_c.proofs.blocks.admulfas_read_block.Reads as c-read-block
 use Rattle.mosaic_c.proofs.admulfas_mosaic.Reads as c-mosaic
 use Rattle.trio_triples.proofs.genotypes.triple_of.Reads as triple-of
 use Rattle.trio_triples.proofs.score.score_over.Reads as score-over
@@ -119,6 +127,7 @@ use Rattle.text_reading.proofs.names.packed.Reads as packed
 use Rattle.text_reading.proofs.wholes.read_whole.Reads as read-whole
 use Rattle.text_reading.proofs.wholes.read_up_to.Reads as read-up-to
 use Rattle.text_reading.proofs.decimals.read_decimal.Reads as read-decimal
+use Rattle.text_reading.proofs.hexadecimals.hex_digit.Reads as hex-digit
 use Rattle.text_reading.proofs.hexadecimals.read_hexadecimal.Reads as read-hexadecimal
 use Rattle.text_writing.proofs.figures.lay_figure.Reads as lay-figure
 use Rattle.text_writing.proofs.laying.first_bytes.Reads as first-bytes
@@ -399,6 +408,27 @@ score-numbers-once κ a v w e f = only
 pub put-part-ends : (κ : _) (a : _) (v w : _) (e f : _) → put-part.Post κ a v e → put-part.Post κ a w f → e .0 .now ≡ f .0 .now
 put-part-ends κ a v w e f = only
 
+-- ---- blocks
+
+-- the bytes, its first parameter
+pub block-put-ends : (κ : _) (a : _) (v w : _) (e f : _) → block-put.Post κ a v e → block-put.Post κ a w f → e .0 .now ≡ f .0 .now
+block-put-ends κ a v w e f = only
+
+pub block-get-once : OneAnswer block-get.Post
+block-get-once κ a v w e f = only
+
+pub block-zeros-once : OneAnswer block-zeros.Post
+block-zeros-once κ a v w e f = only
+
+pub check-of-once : OneAnswer check-of.Post
+check-of-once κ a v w e f = only
+
+pub write-block-once : OneAnswer write-block.Post
+write-block-once κ a v w e f = only
+
+pub read-block-once : OneAnswer read-block.Post
+read-block-once κ a v w e f = only
+
 -- ---- trio: the whole call
 
 pub call-once : OneAnswer call.Post
@@ -535,6 +565,21 @@ c-work-row-ends κ a v w e f p q = only (p .refusal-is) (q .refusal-is)
 pub c-merge-ends : (κ : _) (a : _) (v w : _) (e f : _) → c-merge.Post κ a v e → c-merge.Post κ a w f → e .1 .1 .0 .now ≡ f .1 .1 .0 .now
 c-merge-ends κ a v w e f p q = only (p .refusal-is) (q .refusal-is)
 
+pub c-read-block-once : OneAnswer c-read-block.Post
+c-read-block-once κ a v w e f p q = only (p .part-is) (q .part-is)
+
+pub c-read-block-ends : (κ : _) (a : _) (v w : _) (e f : _) → c-read-block.Post κ a v e → c-read-block.Post κ a w f
+    → e .1 .0 .now ≡ f .1 .0 .now
+c-read-block-ends κ a v w e f p q = only (p .refusal-is) (q .refusal-is)
+
+-- of a block the number is returned, and the bytes are left behind the last parameter
+pub c-write-block-once : OneAnswer c-write-block.Post
+c-write-block-once κ a v w e f p q = only (p .refusal-is) (q .refusal-is)
+
+pub c-write-block-ends : (κ : _) (a : _) (v w : _) (e f : _) → c-write-block.Post κ a v e → c-write-block.Post κ a w f
+    → e .1 .0 .now ≡ f .1 .0 .now
+c-write-block-ends κ a v w e f p q = only (p .bytes-are) (q .bytes-are)
+
 pub c-close-once : OneAnswer c-close.Post
 c-close-once κ a v w e f p q = only (p .refusal-is) (q .refusal-is)
 
@@ -613,6 +658,9 @@ read-up-to-once κ a v w e f = only
 
 pub read-decimal-once : OneAnswer read-decimal.Post
 read-decimal-once κ a v w e f = only
+
+pub hex-digit-once : OneAnswer hex-digit.Post
+hex-digit-once κ a v w e f = only
 
 pub read-hexadecimal-once : OneAnswer read-hexadecimal.Post
 read-hexadecimal-once κ a v w e f = only
