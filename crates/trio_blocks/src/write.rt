@@ -5,20 +5,15 @@ ghost use Prim.Native.Nat.{_+_, _*_, _≤_};
 ghost use lib.ListN.{length, replicate};
 ghost use lib.Seq.{sets};
 ghost use Rattle.blocks.specs.Bytes.{fieldsOf, asBytes};
-ghost use Rattle.trio_blocks.specs.Writing.{blockOf, writtenOf};
-ghost use Rattle.trio_blocks.specs.Inner.{headBy, layoutBy};
+ghost use Rattle.trio_blocks_form.specs.Writing.{blockOf, writtenOf};
+ghost use Rattle.trio_blocks_form.specs.Inner.{headBy, layoutBy};
 use blocks::bytes::put;
 use blocks::check::check_of;
 use refusals::Refusal;
+use trio_blocks_form::written::Written;
 use trio_numbers::numbers::numbers_of;
 use trio_parts::part::Part;
 use trio_parts::sound::sound_part;
-
-// What writing gives: the block, or a refusal and zeros.
-pub struct Written {
-    pub refusal: Refusal,
-    pub block: [u8; 512],
-}
 
 // A run of numbers, each in `width` bytes, from byte `start` on.
 fn put_run(b: &mut [u8; 512], start: u16, width: u8, run: &[u64])

@@ -5,7 +5,7 @@ use mathlib.Core.Path.{_≡_}
 use Rattle.refusals.specs.Refusals.{numberOf}
 use Rattle.trio_parts.specs.declared.part.Part.{Part}
 use Rattle.trio_parts.specs.declared.part.Stepped.{Stepped}
-use Rattle.trio_blocks.specs.declared.write.Written.{Written}
+use Rattle.trio_blocks_form.specs.declared.written.Written.{Written}
 
 -- O2, F7: what a step gives: the refusal's number, and the part
 pub record IsStep (s : Stepped) (refusal : ℕ) (part : Part) : Type 0 where

@@ -1,6 +1,6 @@
 // Blocks for callers in other languages: a part written as 512 bytes, and any bytes read as a part (docs/RULES.md, B).
-ghost use Rattle.trio_blocks.specs.Writing.{writtenOf};
-ghost use Rattle.trio_blocks.specs.Reading.{readOf};
+ghost use Rattle.trio_blocks_form.specs.Writing.{writtenOf};
+ghost use Rattle.trio_blocks_form.specs.Reading.{readOf};
 ghost use Rattle.trio_c.specs.Steps.{IsStep, IsBlock};
 use trio_parts::part::Part;
 

@@ -1,5 +1,5 @@
 -- `trio_blocks::read::fixed_right` meets its contract: each test is of bytes where they stand. Assumes nothing.
-use Rattle.trio_blocks.specs.Reading.{fixedRight}
+use Rattle.trio_blocks_form.specs.Reading.{fixedRight}
 use borrow.Author.Needs.{needs}
 use Rattle.trio_blocks.proofs.read.fixed_right.Statement.{statement}
 use Rattle.trio_blocks.proofs.read.fixed_right.Tie as tie

@@ -6,7 +6,7 @@ use lib.Dec.{eqb}
 use lib.ListN.{length, take}
 use Rattle.blocks.specs.Bytes.{at}
 use Rattle.blocks.specs.Check.{checkOf, checkRight}
-use Rattle.trio_blocks.specs.Reading.{fixedRight, unusedRight, readOf}
+use Rattle.trio_blocks_form.specs.Reading.{fixedRight, unusedRight, readOf}
 use borrow.Author.Needs.{needs}
 use Rattle.trio_blocks.proofs.read.read_block.Statement.{statement}
 use Rattle.trio_blocks.proofs.read.read_block.Tie as tie

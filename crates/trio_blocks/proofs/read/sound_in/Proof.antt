@@ -4,8 +4,8 @@ use Rattle.refusals.specs.declared.Refusal.the-variants.{Done}
 use Rattle.trio_parts.specs.Part.{gives}
 use Rattle.trio_parts.specs.Sound.{soundPart}
 use Rattle.trio_numbers.specs.Numbers.{linePart}
-use Rattle.trio_blocks.specs.Reading.{partIn}
-use Rattle.trio_blocks.proofs.NumbersLaws.{line-in}
+use Rattle.trio_blocks_form.specs.Reading.{partIn}
+use Rattle.trio_blocks_form.proofs.NumbersLaws.{line-in}
 use borrow.Author.Needs.{needs}
 use Rattle.trio_blocks.proofs.read.sound_in.Statement.{statement}
 use Rattle.trio_blocks.proofs.read.sound_in.Tie as tie

@@ -2,7 +2,7 @@
 use Prim.Native.Nat.{_<_}
 use native.Mathlib.Omega.{arith}
 use Rattle.blocks.proofs.GetLaws.{at-small}
-use Rattle.trio_blocks.specs.Reading.{unusedRight}
+use Rattle.trio_blocks_form.specs.Reading.{unusedRight}
 use borrow.Author.Needs.{needs}
 use Rattle.trio_blocks.proofs.read.unused_right.Statement.{statement}
 use Rattle.trio_blocks.proofs.read.unused_right.Tie as tie

@@ -1,6 +1,6 @@
 -- `trio_blocks::write::write_block` meets its contract, by whether the part is sound. Assumes nothing.
 use mathlib.Core.Path.{sym, _∙_}
-use Rattle.trio_blocks.specs.Writing.{writtenOf}
+use Rattle.trio_blocks_form.specs.Writing.{writtenOf}
 use borrow.Author.Needs.{needs}
 use Rattle.trio_blocks.proofs.write.write_block.Statement.{statement}
 use Rattle.trio_blocks.proofs.write.write_block.Tie as tie

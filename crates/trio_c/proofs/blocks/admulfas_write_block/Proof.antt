@@ -1,7 +1,7 @@
 -- `trio_c::blocks::admulfas_write_block` meets its contract: it hands back what writing gives. Assumes nothing.
 use mathlib.Core.Path.{ap, _∙_}
 use Rattle.refusals.specs.Refusals.{numberOf}
-use Rattle.trio_blocks.specs.declared.write.Written.{Written}
+use Rattle.trio_blocks_form.specs.declared.written.Written.{Written}
 use borrow.Author.Needs.{needs}
 use Rattle.trio_c.proofs.blocks.admulfas_write_block.Statement.{statement}
 use Rattle.trio_c.proofs.blocks.admulfas_write_block.Tie as tie

@@ -23,15 +23,15 @@ use Rattle.trio_parts.specs.Typed.{TypedPart}
 use Rattle.trio_parts.proofs.SoundLaws.{sound-right, sound-true}
 use Rattle.trio_numbers.specs.Numbers.{partNumbers, linePart}
 use Rattle.trio_numbers.proofs.NumbersBack.{line-back}
-use Rattle.trio_blocks.specs.Writing.{bitsOf, headOf, tailOf, layoutOf, bodyOf, blockOf, writtenOf}
-use Rattle.trio_blocks.specs.Reading.{partIn, fixedRight, readOf}
-use Rattle.trio_blocks.specs.Inner.{numbersIn}
-use Rattle.trio_blocks.specs.declared.write.Written.{Written}
-use Rattle.trio_blocks.proofs.NumbersLaws.{long-body, line-in}
-use Rattle.trio_blocks_laws.proofs.Shape.{RightShape, right-shape}
-use Rattle.trio_blocks_laws.proofs.Widths.{widths, layoutAt, fields-at, widths-are}
-use Rattle.trio_blocks_laws.proofs.Fitting.{layout-holds}
-use Rattle.trio_blocks_laws.proofs.Places.{last-zero, unused-zero}
+use Rattle.trio_blocks_form.specs.Writing.{bitsOf, headOf, tailOf, layoutOf, bodyOf, blockOf, writtenOf}
+use Rattle.trio_blocks_form.specs.Reading.{partIn, fixedRight, readOf}
+use Rattle.trio_blocks_form.specs.Inner.{numbersIn}
+use Rattle.trio_blocks_form.specs.declared.written.Written.{Written}
+use Rattle.trio_blocks_form.proofs.NumbersLaws.{long-body, line-in}
+use Rattle.trio_blocks_form.proofs.Shape.{RightShape, right-shape}
+use Rattle.trio_blocks_form.proofs.Widths.{widths, layoutAt, fields-at, widths-are}
+use Rattle.trio_blocks_form.proofs.Fitting.{layout-holds}
+use Rattle.trio_blocks_form.proofs.Places.{last-zero, unused-zero}
 
 -- ---- the block of a part
 

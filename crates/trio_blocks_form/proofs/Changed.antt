@@ -12,11 +12,11 @@ use Rattle.refusals.specs.declared.Refusal.the-variants.{Done, Check}
 use Rattle.trio_parts.specs.declared.part.Part.{Part}
 use Rattle.trio_parts.specs.Sound.{soundPart}
 use Rattle.trio_parts.specs.Typed.{TypedPart}
-use Rattle.trio_blocks.specs.Writing.{blockOf, writtenOf}
-use Rattle.trio_blocks.specs.Reading.{refuses, readOf}
-use Rattle.trio_blocks.specs.declared.write.Written.{Written}
-use Rattle.trio_blocks_laws.specs.Changes.{ChangedInside}
-use Rattle.trio_blocks_laws.proofs.RoundTrip.{block-bytes, block-checked}
+use Rattle.trio_blocks_form.specs.Writing.{blockOf, writtenOf}
+use Rattle.trio_blocks_form.specs.Reading.{refuses, readOf}
+use Rattle.trio_blocks_form.specs.declared.written.Written.{Written}
+use Rattle.trio_blocks_form.specs.Changed.{ChangedInside}
+use Rattle.trio_blocks_form.proofs.RoundTrip.{block-bytes, block-checked}
 
 right-checked : (b : List ℕ) → checkRight b ≡ true → Checked 255 b
 unfolding checkRight

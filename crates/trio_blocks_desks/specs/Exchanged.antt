@@ -1,18 +1,11 @@
--- Blocks that differ: inside one word, and by two words that changed places. Definitions only (RULES.md, B10, B11).
-use Prim.Native.Nat.{ℕ, _*_, _/_}
+-- For the laws: a block with two words exchanged, and two parts that it takes for each other. Definitions only (RULES.md, B11).
+use Prim.Native.Nat.{ℕ, _*_}
 use mathlib.Core.List.{List, [], _∷_}
-use mathlib.Core.Logic.{_≢_}
-use mathlib.Core.Path.{_≡_}
-use lib.ListN.{getD, take, drop}
+use lib.ListN.{take, drop}
 use lib.Seq.{sets}
 use Rattle.floats.specs.F64.{nat}
 use Rattle.trio_parts.specs.declared.part.Part.{Part}
 use Rattle.trio_parts.specs.Part.{freshPart}
-
--- B10: c is another list of bytes than b, and only inside the 16-bit word k, which has the bytes 2·k and 2·k + 1
-pub record ChangedInside (k : ℕ) (b c : List ℕ) : Type 0 where
-  pub elsewhere : (i : ℕ) → i / 2 ≢ k → getD c i 0 ≡ getD b i 0
-  pub changed : c ≢ b
 
 -- B11: b with its words j and k exchanged
 abbrev pub exchanged : ℕ → ℕ → List ℕ → List ℕ

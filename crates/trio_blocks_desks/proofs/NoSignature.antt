@@ -32,10 +32,10 @@ use Rattle.trio_closings.specs.Closing.{closeStep}
 use Rattle.trio_desks.specs.Call.{onePassCall}
 use Rattle.trio_desks.specs.Forged.{forged}
 use Rattle.trio_desks.proofs.Forged.{forged-typed, forged-sound, forged-calls-another}
-use Rattle.trio_blocks.specs.Writing.{layoutOf, bodyOf, blockOf, writtenOf}
-use Rattle.trio_blocks.specs.Reading.{readOf}
-use Rattle.trio_blocks_laws.specs.Changes.{exchanged, calfRead, sireRead}
-use Rattle.trio_blocks_laws.proofs.RoundTrip.{read-back, round-trip}
+use Rattle.trio_blocks_form.specs.Writing.{layoutOf, bodyOf, blockOf, writtenOf}
+use Rattle.trio_blocks_form.specs.Reading.{readOf}
+use Rattle.trio_blocks_desks.specs.Exchanged.{exchanged, calfRead, sireRead}
+use Rattle.trio_blocks_form.proofs.RoundTrip.{read-back, round-trip}
 
 -- ---- two words that changed places
 

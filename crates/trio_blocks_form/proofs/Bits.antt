@@ -16,7 +16,7 @@ use Rattle.trio_entries.specs.Held.{entriesUsed}
 use Rattle.trio_search.specs.Shape.{isNoEntry, unusedZero, inMarked, scoredInMarked, listRight}
 use Rattle.trio_parts.specs.Part.{weightAllowed}
 use Rattle.trio_parts.specs.Right.{noWeight, placesRight}
-use Rattle.trio_blocks.specs.Writing.{bitsOf}
+use Rattle.trio_blocks_form.specs.Writing.{bitsOf}
 
 -- ---- one float
 

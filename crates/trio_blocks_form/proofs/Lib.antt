@@ -1,4 +1,6 @@
--- What holds of every block.
+-- What holds of every block; and what writing and reading need.
+pub mod LayLaws
+pub mod NumbersLaws
 pub mod Shape
 pub mod Widths
 pub mod Fitting
@@ -8,4 +10,3 @@ pub mod Bits
 pub mod Accepted
 pub mod OneBlock
 pub mod Changed
-pub mod NoSignature

@@ -9,7 +9,7 @@ use Rattle.blocks.specs.Check.{checkOf}
 use Rattle.refusals.specs.declared.Refusal.the-variants.{Done, BadPart}
 use Rattle.trio_parts.specs.declared.part.Part.{Part}
 use Rattle.trio_parts.specs.Sound.{soundPart}
-use Rattle.trio_blocks.specs.declared.write.Written.{Written}
+use Rattle.trio_blocks_form.specs.declared.written.Written.{Written}
 
 -- B1: the bits of floats
 abbrev pub bitsOf : List Float → List ℕ

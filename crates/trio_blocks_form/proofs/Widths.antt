@@ -9,7 +9,7 @@ use Rattle.blocks.specs.Bytes.{Field, field, at, wholesAt, fieldsOf, fieldsIn, 
 use Rattle.blocks.proofs.FieldLaws.{in-append, same-widths, same-fields}
 use Rattle.trio_parts.specs.declared.part.Part.{Part}
 use Rattle.trio_parts.specs.Typed.{TypedPart}
-use Rattle.trio_blocks.specs.Writing.{bitsOf, headOf, tailOf, layoutOf}
+use Rattle.trio_blocks_form.specs.Writing.{bitsOf, headOf, tailOf, layoutOf}
 
 abbrev headWidths : List ℕ
 headWidths = 1 ∷ 1 ∷ 1 ∷ 5 ∷ 8 ∷ []

@@ -15,8 +15,8 @@ use Rattle.trio_parts.specs.declared.part.Part.{Part}
 use Rattle.trio_parts.specs.declared.part.Stepped.{Stepped}
 use Rattle.trio_parts.specs.Part.{emptyPart, gives}
 use Rattle.trio_parts.specs.Sound.{soundPart}
-use Rattle.trio_blocks.specs.Reading.{partIn, layoutRight, refuses, readOf}
-use Rattle.trio_blocks_laws.specs.ReadWhen.{WellSent, ReadWhen}
+use Rattle.trio_blocks_form.specs.Reading.{partIn, layoutRight, refuses, readOf}
+use Rattle.trio_blocks_form.specs.ReadWhen.{WellSent, ReadWhen}
 
 module _ (b : List ℕ) where
   abbrev read : (l c u s : Bool) → Stepped

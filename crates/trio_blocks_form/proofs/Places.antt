@@ -20,9 +20,9 @@ use Rattle.trio_parts.specs.declared.part.Part.{Part}
 use Rattle.trio_parts.specs.Part.{weightAllowed}
 use Rattle.trio_parts.specs.Right.{noCount, noWeight, placesRight}
 use Rattle.trio_parts.specs.Typed.{TypedPart}
-use Rattle.trio_blocks.specs.Writing.{bitsOf, headOf, tailOf, layoutOf, bodyOf, blockOf}
-use Rattle.trio_blocks.specs.Reading.{clustersIn, heldIn, unusedRight}
-use Rattle.trio_blocks_laws.proofs.Shape.{RightShape}
+use Rattle.trio_blocks_form.specs.Writing.{bitsOf, headOf, tailOf, layoutOf, bodyOf, blockOf}
+use Rattle.trio_blocks_form.specs.Reading.{clustersIn, heldIn, unusedRight}
+use Rattle.trio_blocks_form.proofs.Shape.{RightShape}
 
 -- ---- what stands in a block from a byte on
 

@@ -10,7 +10,7 @@ use Rattle.refusals.specs.declared.Refusal.{Refusal}
 use Rattle.refusals.specs.declared.Refusal.the-variants.{Done, NoCluster, TooMany, Shape, Count, Weight, Model, Table}
 use Rattle.refusals.specs.declared.Refusal.the-variants.{Row, OtherTrio, NotComplete, NoCall, BadPart, Block, Check, Layout}
 use Rattle.trio_parts.specs.Sound.{soundPart}
-use Rattle.trio_blocks.specs.Reading.{partIn, layoutRight}
+use Rattle.trio_blocks_form.specs.Reading.{partIn, layoutRight}
 
 -- B7: 512 bytes with the right check
 pub record WellSent (b : List ℕ) : Type 0 where

@@ -20,13 +20,13 @@ use Rattle.trio_parts.specs.declared.part.Part.{Part}
 use Rattle.trio_parts.specs.Part.{rowCount, gives}
 use Rattle.trio_parts.specs.Sound.{soundPart}
 use Rattle.trio_parts.proofs.SoundLaws.{sound-right}
-use Rattle.trio_blocks.specs.Writing.{bitsOf, layoutOf, bodyOf, blockOf, writtenOf}
-use Rattle.trio_blocks.specs.Reading.{partIn, fixedRight, unusedRight, readOf}
-use Rattle.trio_blocks.specs.declared.write.Written.{Written}
-use Rattle.trio_blocks_laws.proofs.Shape.{RightShape, right-shape}
-use Rattle.trio_blocks_laws.proofs.Widths.{widths, layoutAt, fields-at}
-use Rattle.trio_blocks_laws.proofs.Bits.{bits-back, weights-back, score-numbers}
-use Rattle.trio_blocks_laws.proofs.Accepted.{accepted}
+use Rattle.trio_blocks_form.specs.Writing.{bitsOf, layoutOf, bodyOf, blockOf, writtenOf}
+use Rattle.trio_blocks_form.specs.Reading.{partIn, fixedRight, unusedRight, readOf}
+use Rattle.trio_blocks_form.specs.declared.written.Written.{Written}
+use Rattle.trio_blocks_form.proofs.Shape.{RightShape, right-shape}
+use Rattle.trio_blocks_form.proofs.Widths.{widths, layoutAt, fields-at}
+use Rattle.trio_blocks_form.proofs.Bits.{bits-back, weights-back, score-numbers}
+use Rattle.trio_blocks_form.proofs.Accepted.{accepted}
 
 -- ---- the fields of what stands in a block are those that stand there
 

@@ -24,8 +24,8 @@ use Rattle.trio_search.proofs.MarksLaws.{unmarked-above}
 use Rattle.trio_parts.specs.declared.part.Part.{Part}
 use Rattle.trio_parts.specs.Part.{rowCount}
 use Rattle.trio_parts.specs.Typed.{TypedPart}
-use Rattle.trio_blocks.specs.Writing.{bitsOf, headOf, tailOf, layoutOf}
-use Rattle.trio_blocks_laws.proofs.Shape.{RightShape}
+use Rattle.trio_blocks_form.specs.Writing.{bitsOf, headOf, tailOf, layoutOf}
+use Rattle.trio_blocks_form.proofs.Shape.{RightShape}
 
 bits-small : (l : List Float) → T (allFit l) → (i : ℕ) → getD (bitsOf l) i 0 < 256 ^ 8
 bits-small [] h i = lit< tt

@@ -1,0 +1,2 @@
+-- The definitions that `trio_blocks_desks` speaks of.
+pub mod Exchanged

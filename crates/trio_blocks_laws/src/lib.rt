@@ -1,1 +1,0 @@
-// No code: what holds of every block.
