@@ -41,6 +41,17 @@ wholes-small o w n l h = from 0 n
     from k (suc n) zero = at-small (o + w * k) w l h
     from k (suc n) (suc i) = from (suc k) n i
 
+-- a number of one byte is that byte
+pub at-byte : (o : ℕ) (l : List ℕ) → at o 1 l ≡ getD l o 0
+at-byte o l = one (drop o l) ∙ getD-drop o l 0 0 ∙ ap (λ (k : ℕ). getD l k 0) (add-zero o)
+  where
+    one : (l : List ℕ) → wholeOf (take 1 l) ≡ getD l 0 0
+    one [] = refl
+    one (x ∷ l) = whole x
+      where
+        whole : (x : ℕ) → x + 256 * 0 ≡ x
+        whole x = omega arith
+
 -- ---- the loop
 
 -- the first byte, and the others

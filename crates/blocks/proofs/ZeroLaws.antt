@@ -1,14 +1,15 @@
--- Bytes that are zero: one by one, of numbers that are zero, and as a number. Assumes nothing.
-use Prim.Native.Nat.{ℕ, zero, suc, _+_, _*_, _<_, _≤_}
+-- Bytes that are zero: one after the other, what it means, of numbers that are zero, and as a number. Assumes nothing.
+use Prim.Native.Nat.{ℕ, zero, suc, _+_, _-_, _*_, _<_, _≤_}
 use mathlib.Core.Bool.{Bool, true, false, _&&_}
 use mathlib.Core.List.{List, [], _∷_, _++_}
+use mathlib.Core.Logic.{_↔_}
 use mathlib.Core.Path.{_≡_, refl, sym, ap, _∙_}
 use mathlib.Mathlib.Data.Bool.Basic.{and-elim-left, and-elim-right, and-intro}
 use native.Mathlib.Nat.{mul-zero, mul-suc, zero-add, add-zero, suc-add}
 use native.Mathlib.Omega.{arith}
-use borrow.Author.Tests.{eqb-true, eq-eqb, ne-eqb}
-use lib.Dec.{eqb}
-use lib.ListN.{length, getD, take, drop, length-take, drop-of-length-le}
+use borrow.Author.Tests.{eqb-true, eq-eqb, ne-eqb, ltb-true, ltb-false}
+use lib.Dec.{eqb, ltb}
+use lib.ListN.{length, getD, take, drop, length-take, drop-of-length-le, List·getD-eq-default}
 use lib.Seq.{take-at, drop-at, drop-drop, drop-nil, getD-take, getD-drop, take-nil}
 use Rattle.lists.specs.Every.{every}
 use Rattle.blocks.specs.Bytes.{bytesOf, wholeOf, fieldsOf, asBytes, zeroIn}
@@ -39,6 +40,36 @@ module _ (b : List ℕ) (i to : ℕ) where
 
   pub zero-end : to ≤ i → true ≡ zeroIn i to b
   zero-end h = rw (drop-of-length-le (take to b) {i = i} (omega (arith, length-take to b)))
+
+-- ---- what it means, byte by byte
+
+zero-there : (l : List ℕ) → every isZero l ≡ true → (k : ℕ) → getD l k 0 ≡ 0
+zero-there [] h k = refl
+zero-there (x ∷ l) h zero = eqb-true x 0 (and-elim-left (isZero x) _ h)
+zero-there (x ∷ l) h (suc k) = zero-there l (and-elim-right (isZero x) _ h) k
+
+there-zero : (l : List ℕ) → ((k : ℕ) → getD l k 0 ≡ 0) → every isZero l ≡ true
+there-zero [] h = refl
+there-zero (x ∷ l) h = and-intro (eq-eqb x 0 (h 0)) (there-zero l (λ k. h (suc k)))
+
+module _ (b : List ℕ) (from to : ℕ) where
+  within : (k : ℕ) → from + k < to → getD (drop from (take to b)) k 0 ≡ getD b (from + k) 0
+  within k h = getD-drop from (take to b) k 0 ∙ getD-take to b (from + k) 0 h
+
+  beyond : (k : ℕ) → to ≤ from + k → getD (drop from (take to b)) k 0 ≡ 0
+  beyond k h = getD-drop from (take to b) k 0 ∙ List·getD-eq-default (take to b) 0 (omega (arith, length-take to b))
+
+  pub zero-exactly : (zeroIn from to b ≡ true) ↔ ((i : ℕ) → from ≤ i → i < to → getD b i 0 ≡ 0)
+  zero-exactly = (λ z i l h. go z i (i - from) (omega arith) h, λ z. there-zero (drop from (take to b)) (λ k. at-each z k (ltb (from + k) to) refl))
+    where
+      go : zeroIn from to b ≡ true → (i k : ℕ) → i ≡ from + k → i < to → getD b i 0 ≡ 0
+      go z i k e h =
+          ap (λ (j : ℕ). getD b j 0) e ∙ sym (within k (omega arith)) ∙ zero-there (drop from (take to b)) z k
+
+      at-each : ((i : ℕ) → from ≤ i → i < to → getD b i 0 ≡ 0) → (k : ℕ) (t : Bool) → ltb (from + k) to ≡ t
+          → getD (drop from (take to b)) k 0 ≡ 0
+      at-each z k true e = let h = ltb-true (from + k) to e in within k h ∙ z (from + k) (omega arith) h
+      at-each z k false e = beyond k (ltb-false (from + k) to e)
 
 -- ---- of numbers that are zero
 

@@ -1,13 +1,17 @@
--- When each refusal of a reading is given, Done among them; what is read; and that a refused block leaves nothing. Assumes nothing.
-use Prim.Native.Nat.{ℕ}
-use mathlib.Core.Bool.{Bool, true, false, cond}
+-- When a layout is right, byte by byte; when each refusal of a reading is given, Done among them; what is read; and that a refused block leaves nothing. Assumes nothing.
+use Prim.Native.Nat.{ℕ, _+_, _*_}
+use mathlib.Core.Bool.{Bool, true, false, cond, _&&_}
 use mathlib.Core.List.{List}
 use mathlib.Core.Logic.{_≢_, _↔_}
 use mathlib.Core.Path.{_≡_, refl, sym, ap, _∙_, subst}
+use mathlib.Mathlib.Data.Bool.Basic.{and-elim-left, and-elim-right, and-intro}
 use borrow.Author.Tests.{eqb-true, eqb-false, eq-eqb, ne-eqb}
 use lib.Dec.{eqb}
 use lib.ListN.{length}
+use Rattle.blocks.specs.Bytes.{at, zeroIn}
 use Rattle.blocks.specs.Check.{checkRight}
+use Rattle.blocks.proofs.GetLaws.{at-byte}
+use Rattle.blocks.proofs.ZeroLaws.{zero-exactly}
 use Rattle.refusals.specs.declared.Refusal.{Refusal}
 use Rattle.refusals.specs.declared.Refusal.the-variants.{Done, NoCluster, TooMany, Shape, Count, Weight, Model, Table}
 use Rattle.refusals.specs.declared.Refusal.the-variants.{Row, OtherTrio, NotComplete, NoCall, BadPart, Block, Check, Layout}
@@ -15,8 +19,8 @@ use Rattle.trio_parts.specs.declared.part.Part.{Part}
 use Rattle.trio_parts.specs.declared.part.Stepped.{Stepped}
 use Rattle.trio_parts.specs.Part.{emptyPart, gives}
 use Rattle.trio_parts.specs.Sound.{soundPart}
-use Rattle.trio_blocks_form.specs.Reading.{partIn, layoutRight, refuses, readOf}
-use Rattle.trio_blocks_form.specs.ReadWhen.{WellSent, ReadWhen}
+use Rattle.trio_blocks_form.specs.Reading.{clustersIn, heldIn, partIn, fixedRight, unusedRight, layoutRight, refuses, readOf}
+use Rattle.trio_blocks_form.specs.ReadWhen.{clusters, held, RightLayout, WellSent, ReadWhen}
 
 module _ (b : List ℕ) where
   abbrev read : (l c u s : Bool) → Stepped
@@ -24,6 +28,51 @@ module _ (b : List ℕ) where
       cond l (cond c (cond u (cond s (gives Done (partIn b)) (refuses BadPart)) (refuses Layout)) (refuses Check)) (refuses Block)
 
   -- ---- exactly when
+
+  clusters-are : clustersIn b ≡ clusters b
+  clusters-are = at-byte 1 b
+
+  held-are : heldIn b ≡ held b
+  held-are = at-byte 2 b
+
+  layout-means : layoutRight b ≡ true → RightLayout b
+  unfolding fixedRight unusedRight
+  layout-means h =
+      let fixed = and-elim-left (fixedRight b) (unusedRight b) h in
+      let unused = rw (clusters-are, held-are) at (and-elim-right (fixedRight b) (unusedRight b) h) in
+      let zeros = and-elim-right (eqb (at 0 1 b) 1) (zeroIn 3 8 b && zeroIn 200 510 b) fixed in
+      let counts = zeroIn (16 + 12 * clusters b) 112 b in
+      let weights = zeroIn (112 + 8 * clusters b) 176 b in
+      let positions = zeroIn (176 + 4 * held b) 184 b in
+      let scores = zeroIn (184 + 8 * held b) 200 b in
+      let behind-counts = and-elim-right counts (weights && (positions && scores)) unused in
+      let entries = and-elim-right weights (positions && scores) behind-counts in
+      record {
+        form = sym (at-byte 0 b) ∙ eqb-true (at 0 1 b) 1 (and-elim-left _ _ fixed);
+        behind-held = zero-exactly b 3 8 .0 (and-elim-left (zeroIn 3 8 b) (zeroIn 200 510 b) zeros);
+        behind-scores = zero-exactly b 200 510 .0 (and-elim-right (zeroIn 3 8 b) (zeroIn 200 510 b) zeros);
+        counts-unused = zero-exactly b _ 112 .0 (and-elim-left counts (weights && (positions && scores)) unused);
+        weights-unused = zero-exactly b _ 176 .0 (and-elim-left weights (positions && scores) behind-counts);
+        positions-unused = zero-exactly b _ 184 .0 (and-elim-left positions scores entries);
+        scores-unused = zero-exactly b _ 200 .0 (and-elim-right positions scores entries);
+      }
+
+  means-layout : RightLayout b → layoutRight b ≡ true
+  unfolding fixedRight unusedRight
+  means-layout r =
+      let form = eq-eqb (at 0 1 b) 1 (at-byte 0 b ∙ r .form) in
+      let five = zero-exactly b 3 8 .1 (r .behind-held) in
+      let rest = zero-exactly b 200 510 .1 (r .behind-scores) in
+      let counts = zero-exactly b (16 + 12 * clusters b) 112 .1 (r .counts-unused) in
+      let weights = zero-exactly b (112 + 8 * clusters b) 176 .1 (r .weights-unused) in
+      let positions = zero-exactly b (176 + 4 * held b) 184 .1 (r .positions-unused) in
+      let scores = zero-exactly b (184 + 8 * held b) 200 .1 (r .scores-unused) in
+      rw (clusters-are, held-are)
+      (and-intro (and-intro form (and-intro five rest)) (and-intro counts (and-intro weights (and-intro positions scores))))
+
+  -- the layout is right exactly where every fixed byte and every byte of a place that is not in use is
+  pub layout-exactly : (layoutRight b ≡ true) ↔ RightLayout b
+  layout-exactly = (layout-means, means-layout)
 
   given-says : ReadWhen b (readOf b .refusal)
   unfolding readOf

@@ -1,16 +1,38 @@
--- When each refusal of a reading is given. Definitions only (RULES.md, R12 to R15, O1, B7).
-use Prim.Native.Nat.{ℕ}
+-- When the layout of a block is right, and when each refusal of a reading is given. Definitions only (RULES.md, R12 to R15, O1, B5, B7).
+use Prim.Native.Nat.{ℕ, _+_, _*_, _≤_, _<_}
 use mathlib.Core.Bool.{true, false}
 use mathlib.Core.List.{List}
 use mathlib.Core.Logic.{_≢_}
 use mathlib.Core.Path.{_≡_}
-use lib.ListN.{length}
+use lib.ListN.{length, getD}
 use Rattle.blocks.specs.Check.{checkRight}
 use Rattle.refusals.specs.declared.Refusal.{Refusal}
 use Rattle.refusals.specs.declared.Refusal.the-variants.{Done, NoCluster, TooMany, Shape, Count, Weight, Model, Table}
 use Rattle.refusals.specs.declared.Refusal.the-variants.{Row, OtherTrio, NotComplete, NoCall, BadPart, Block, Check, Layout}
 use Rattle.trio_parts.specs.Sound.{soundPart}
 use Rattle.trio_blocks_form.specs.Reading.{partIn, layoutRight}
+
+-- B5: what a right layout is, byte by byte. That `layoutRight` tells just that: `layout-exactly` (trio_blocks_form/proofs/Accepted.antt)
+module _ (b : List ℕ) where
+  -- B5: the bytes from `from` to before `to` are zero
+  abbrev pub Zeros : ℕ → ℕ → Type 0
+  Zeros from to = (i : ℕ) → from ≤ i → i < to → getD b i 0 ≡ 0
+
+  -- B1: the cluster number, and how many triples are held
+  abbrev pub clusters : ℕ
+  clusters = getD b 1 0
+
+  abbrev pub held : ℕ
+  held = getD b 2 0
+
+  pub record RightLayout : Type 0 where
+    pub form : getD b 0 0 ≡ 1
+    pub behind-held : Zeros 3 8
+    pub behind-scores : Zeros 200 510
+    pub counts-unused : Zeros (16 + 12 * clusters) 112
+    pub weights-unused : Zeros (112 + 8 * clusters) 176
+    pub positions-unused : Zeros (176 + 4 * held) 184
+    pub scores-unused : Zeros (184 + 8 * held) 200
 
 -- B7: 512 bytes with the right check
 pub record WellSent (b : List ℕ) : Type 0 where
