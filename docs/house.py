@@ -24,7 +24,7 @@ SUBJECTS = {
     "programs": ("#f0f0f0", "#c9c9c9"),
     "examples": ("#ffffff", "#ffffff"),
 }
-FLOOR = {"lists", "refusals", "floats", "floats_nearest", "limits"}
+FLOOR = {"lists", "refusals", "blocks", "floats", "floats_nearest", "limits"}
 PROGRAMS = {"calls", "vectors"}
 SAID = "An arrow leads from a crate to one that it stands on. Arrows that follow from others are left out; those of examples are dotted."
 
