@@ -79,7 +79,8 @@ module _ (w : ℕ) where
   pub same-length : (vs : List ℕ) → length (asBytes (fieldsOf w vs)) ≡ w * length vs
   same-length [] = sym (mul-zero w)
   same-length (v ∷ vs) =
-      length-append (bytesOf w v) (asBytes (fieldsOf w vs)) ∙ rw (length-bytes w v, same-length vs, mul-suc w (length vs)) (turned w (w * length vs))
+      length-append (bytesOf w v) (asBytes (fieldsOf w vs))
+      ∙ rw (length-bytes w v, same-length vs, mul-suc w (length vs)) (turned w (w * length vs))
     where
       turned : (a b : ℕ) → a + b ≡ b + a
       turned a b = omega arith

@@ -74,8 +74,12 @@ module _ (b : List ℕ) (start width left : ℕ) where
   pub get-step : left < width → behind b start width (left + 1) * 256 + getD b (start + left) 0 ≡ behind b start width left
   get-step h =
       let byte : getD (drop left here) 0 0 ≡ getD b (start + left) 0 =
-      getD-drop left here 0 0 ∙ ap (λ (k : ℕ). getD here k 0) (add-zero left) ∙ getD-take width (drop start b) left 0 h ∙ getD-drop start b left 0 in
-      sym (whole-next (drop left here) ∙ rw (byte, drop-drop 1 left here) (turned (behind b start width (left + 1)) (getD b (start + left) 0)))
+      getD-drop left here 0 0
+      ∙ ap (λ (k : ℕ). getD here k 0) (add-zero left)
+      ∙ getD-take width (drop start b) left 0 h
+      ∙ getD-drop start b left 0 in
+      let others = behind b start width (left + 1) in
+      sym (whole-next (drop left here) ∙ rw (byte, drop-drop 1 left here) (turned others (getD b (start + left) 0)))
     where
       turned : (v x : ℕ) → x + 256 * v ≡ v * 256 + x
       turned v x = omega arith

@@ -74,7 +74,9 @@ module _ (n k : ℕ) (b c : List ℕ) (lb : length b ≡ 2 * n + 2) (lc : length
       let same-length = length-words (inner b) ∙ rw (inner-length b lb, inner-length c lc) refl ∙ sym (length-words (inner c)) in
       let byte : (i : ℕ) → (i / 2 ≡ k → ⊥) → getD (inner b) i 0 ≡ getD (inner c) i 0 = λ i z. take-agree (2 * n) b c i (agree i z) in
       let words : (j : ℕ) → (j ≡ k → ⊥) → getD (wordsOf (inner b)) j 0 ≡ getD (wordsOf (inner c)) j 0 =
-      λ j z. word-at (inner b) j ∙ rw (byte (2 * j) (λ q. z (omega arith)), byte (2 * j + 1) (λ q. z (omega arith))) refl ∙ sym (word-at (inner c) j) in
+      λ j z. word-at (inner b) j
+      ∙ rw (byte (2 * j) (λ q. z (omega arith)), byte (2 * j + 1) (λ q. z (omega arith))) refl
+      ∙ sym (word-at (inner c) j) in
       rw (inner-word b e, inner-word c e) at (but-one k (wordsOf (inner b)) (wordsOf (inner c)) same-length words)
 
 module _ (n k : ℕ) (b c : List ℕ) (near : k ≤ n) (lb : length b ≡ 2 * n + 2) (lc : length c ≡ 2 * n + 2) (hb : Bytes b) (hc : Bytes c)

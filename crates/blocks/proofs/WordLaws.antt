@@ -1,4 +1,4 @@
--- The check tells two lists of bytes apart that differ in one word. Assumes nothing.
+-- Words and their sums: what stands at a place, and how much two sums differ by where one word does. Assumes nothing.
 use Prim.Native.Nat.{ℕ, zero, suc, _+_, _*_, _/_}
 use mathlib.Core.List.{List, [], _∷_}
 use mathlib.Core.Path.{_≡_, refl, sym, ap, _∙_}
@@ -43,9 +43,14 @@ word-at (a ∷ b ∷ l) zero = refl
 word-at (a ∷ b ∷ l) (suc j) = rw (twice j, odd j) (word-at l j)
 
 -- lists that agree at every place but k
-pub but-one : (k : ℕ) (l m : List ℕ) → length l ≡ length m → ((j : ℕ) → (j ≡ k → ⊥) → getD l j 0 ≡ getD m j 0) → totalOf l + getD m k 0 ≡ totalOf m + getD l k 0
+pub but-one : (k : ℕ) (l m : List ℕ) → length l ≡ length m → ((j : ℕ) → (j ≡ k → ⊥) → getD l j 0 ≡ getD m j 0)
+    → totalOf l + getD m k 0 ≡ totalOf m + getD l k 0
 but-one k [] [] n h = refl
 but-one k [] (y ∷ m) n h = absurd (unlike (length m) n)
 but-one k (x ∷ l) [] n h = absurd (unlike (length l) (sym n))
-but-one zero (x ∷ l) (y ∷ m) n h = swapped x y (totalOf l) (totalOf m) (ap totalOf (ext-getD 0 l m (omega arith) (λ i e. h (suc i) (λ z. omega arith))))
-but-one (suc k) (x ∷ l) (y ∷ m) n h = added x y (totalOf l) (totalOf m) (getD m k 0) (getD l k 0) (h 0 (λ z. omega arith)) (but-one k l m (omega arith) (λ j e. h (suc j) (λ z. e (omega arith))))
+but-one zero (x ∷ l) (y ∷ m) n h =
+    let same = ext-getD 0 l m (omega arith) (λ i e. h (suc i) (λ z. omega arith)) in
+    swapped x y (totalOf l) (totalOf m) (ap totalOf same)
+but-one (suc k) (x ∷ l) (y ∷ m) n h =
+    let rest = but-one k l m (omega arith) (λ j e. h (suc j) (λ z. e (omega arith))) in
+    added x y (totalOf l) (totalOf m) (getD m k 0) (getD l k 0) (h 0 (λ z. omega arith)) rest

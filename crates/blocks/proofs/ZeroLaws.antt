@@ -60,7 +60,10 @@ module _ (b : List ℕ) (from to : ℕ) where
   beyond k h = getD-drop from (take to b) k 0 ∙ List·getD-eq-default (take to b) 0 (omega (arith, length-take to b))
 
   pub zero-exactly : (zeroIn from to b ≡ true) ↔ ((i : ℕ) → from ≤ i → i < to → getD b i 0 ≡ 0)
-  zero-exactly = (λ z i l h. go z i (i - from) (omega arith) h, λ z. there-zero (drop from (take to b)) (λ k. at-each z k (ltb (from + k) to) refl))
+  zero-exactly = (
+    λ z i l h. go z i (i - from) (omega arith) h,
+    λ z. there-zero (drop from (take to b)) (λ k. at-each z k (ltb (from + k) to) refl),
+  )
     where
       go : zeroIn from to b ≡ true → (i k : ℕ) → i ≡ from + k → i < to → getD b i 0 ≡ 0
       go z i k e h =

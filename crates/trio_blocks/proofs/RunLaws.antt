@@ -8,7 +8,9 @@ use native.Mathlib.Omega.{arith}
 module _ (start width i : ℕ) where
   -- where the next number stands
   pub next-place : start + width * i + width ≡ start + width * (i + 1)
-  next-place = add-assoc start (width * i) width ∙ ap (λ (k : ℕ). start + k) (sym (mul-suc width i) ∙ ap (λ (k : ℕ). width * k) (sym (add-one i)))
+  next-place =
+      add-assoc start (width * i) width
+      ∙ ap (λ (k : ℕ). start + k) (sym (mul-suc width i) ∙ ap (λ (k : ℕ). width * k) (sym (add-one i)))
 
   -- and that it is inside what holds them all
   pub next-inside : (count most : ℕ) → i < count → start + width * count ≤ most → start + width * i + width ≤ most

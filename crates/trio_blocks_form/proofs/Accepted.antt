@@ -1,4 +1,5 @@
--- When a layout is right, byte by byte; when each refusal of a reading is given, Done among them; what is read; and that a refused block leaves nothing. Assumes nothing.
+-- When a layout is right, byte by byte; when each refusal of a reading is given, Done among them; what is read; and that a refused block
+-- leaves nothing. Assumes nothing.
 use Prim.Native.Nat.{ℕ, _+_, _*_}
 use mathlib.Core.Bool.{Bool, true, false, cond, _&&_}
 use mathlib.Core.List.{List}

@@ -68,5 +68,6 @@ module _ (rows marks : ℕ) where
       (no-entry-number f (and-elim-left (isNoEntry f) (isNoEntry s) u), no-entry-number s (and-elim-right (isNoEntry f) (isNoEntry s) u))
   score-numbers (suc zero) f s u l = (scored-number f l, no-entry-number s u)
   score-numbers (suc (suc n)) f s u l =
-      let rest = and-elim-right (scoredInMarked rows marks f) _ l in
-      (scored-number f (and-elim-left (scoredInMarked rows marks f) _ l), scored-number s (and-elim-left (scoredInMarked rows marks s) _ rest))
+      let first = and-elim-left (scoredInMarked rows marks f) _ l in
+      let second = and-elim-left (scoredInMarked rows marks s) _ (and-elim-right (scoredInMarked rows marks f) _ l) in
+      (scored-number f first, scored-number s second)

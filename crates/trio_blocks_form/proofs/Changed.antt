@@ -2,19 +2,18 @@
 use Prim.Native.Nat.{ℕ, _≤_}
 use mathlib.Core.Bool.{Bool, true, false}
 use mathlib.Core.List.{List}
-use mathlib.Core.Path.{_≡_, refl, sym, ap, _∙_}
+use mathlib.Core.Path.{_≡_, refl}
 use borrow.Author.Tests.{eqb-true, eq-eqb}
 use lib.ListN.{length, take}
 use Rattle.blocks.specs.Bytes.{at, BlockBytes}
 use Rattle.blocks.specs.Check.{checkOf, checkRight}
 use Rattle.blocks.proofs.OneWord.{Checked, one-word}
-use Rattle.refusals.specs.declared.Refusal.the-variants.{Done, Check}
+use Rattle.refusals.specs.declared.Refusal.the-variants.{Check}
 use Rattle.trio_parts.specs.declared.part.Part.{Part}
 use Rattle.trio_parts.specs.Sound.{soundPart}
 use Rattle.trio_parts.specs.Typed.{TypedPart}
 use Rattle.trio_blocks_form.specs.Writing.{blockOf, writtenOf}
 use Rattle.trio_blocks_form.specs.Reading.{refuses, readOf}
-use Rattle.trio_blocks_form.specs.declared.written.Written.{Written}
 use Rattle.trio_blocks_form.specs.Changed.{ChangedInside}
 use Rattle.trio_blocks_form.proofs.RoundTrip.{block-bytes, block-checked}
 
@@ -31,8 +30,8 @@ pub changed-word : (b c : List ℕ) (k : ℕ) → BlockBytes b → BlockBytes c 
     → readOf c ≡ refuses Check
 unfolding readOf
 changed-word b c k is-b is-c right near change =
-    let same : checkRight c ≡ true → c ≡ b = λ e.
-    one-word 255 k c b near (is-c .long) (is-b .long) (is-c .bytes) (is-b .bytes) (change .elsewhere) (right-checked c e) (right-checked b right) in
+    let once = one-word 255 k c b near (is-c .long) (is-b .long) (is-c .bytes) (is-b .bytes) (change .elsewhere) in
+    let same : checkRight c ≡ true → c ≡ b = λ e. once (right-checked c e) (right-checked b right) in
     let wrong = only-false (checkRight c) (λ e. change .changed (same e)) in
     rw (eq-eqb (length c) 512 (is-c .long), wrong)
 

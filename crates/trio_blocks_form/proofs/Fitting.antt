@@ -8,7 +8,7 @@ use native.Mathlib.Nat.{div-lt-iff-lt-mul, mul-le-mul, pow-le-pow-right, le-tran
 use native.Mathlib.Omega.{arith}
 use borrow.Author.Tests.{leb-false, eqb-true}
 use lib.Dec.{T, leb, lit<, lit≤}
-use lib.Ieee.{Float, binary64, fits, toBits, isNan}
+use lib.Ieee.{Float, binary64, fits, isNan}
 use lib.Ieee.Bits.{toBits-lt}
 use lib.Ieee.Fits.{and-l, and-r}
 use lib.ListN.{getD}
@@ -65,8 +65,9 @@ module _ (rows marks : ℕ) (few : rows ≤ 36) (below : marks < 2 ^ rows) where
       (no-entry-small f (and-elim-left (isNoEntry f) (isNoEntry s) u), no-entry-small s (and-elim-right (isNoEntry f) (isNoEntry s) u))
   position-small (suc zero) f s u l = (scored-small f l, no-entry-small s u)
   position-small (suc (suc n)) f s u l =
-      let rest = and-elim-right (scoredInMarked rows marks f) _ l in
-      (scored-small f (and-elim-left (scoredInMarked rows marks f) _ l), scored-small s (and-elim-left (scoredInMarked rows marks s) _ rest))
+      let first = and-elim-left (scoredInMarked rows marks f) _ l in
+      let second = and-elim-left (scoredInMarked rows marks s) _ (and-elim-right (scoredInMarked rows marks f) _ l) in
+      (scored-small f first, scored-small s second)
 
 -- ---- all of them
 

@@ -6,7 +6,7 @@ use native.Mathlib.Nat.{le-of-eq}
 use native.Mathlib.Omega.{arith}
 use lib.ListN.{length, take, drop, replicate, length-append, length-drop, length-replicate, drop-of-length-le}
 use lib.Seq.{sets, sets-eq, take-at, drop-at, drop-drop, length-take-le}
-use Rattle.blocks.specs.Bytes.{Field, field, bytesOf, fieldsOf, asBytes}
+use Rattle.blocks.specs.Bytes.{field, bytesOf, fieldsOf, asBytes}
 use Rattle.blocks.specs.Check.{checkOf}
 use Rattle.blocks.proofs.FieldLaws.{bytes-append, same-length}
 use Rattle.trio_blocks_form.specs.Inner.{run, headBy, layoutBy}

@@ -9,7 +9,7 @@ use lib.Seq.{take-at, drop-at, take-all}
 use Rattle.blocks.specs.Bytes.{Field, field, wholesAt, fieldsOf, asBytes, Bytes}
 use Rattle.blocks.proofs.GetLaws.{wholes-small}
 use Rattle.trio_parts.specs.declared.part.Part.{Part}
-use Rattle.trio_numbers.specs.Numbers.{firstNumbers, partNumbers, asCount, numbersCounts, numbersFloats, partWith, linePart}
+use Rattle.trio_numbers.specs.Numbers.{partNumbers, asCount, numbersCounts, numbersFloats, linePart}
 use Rattle.trio_numbers.proofs.NumbersLaws.{numbers-39}
 use Rattle.trio_numbers.proofs.NumbersBack.{counts-back}
 use Rattle.trio_blocks_form.specs.Writing.{bitsOf, headOf, layoutOf, bodyOf}

@@ -9,7 +9,7 @@ use borrow.Author.Tests.{eqb-true}
 use lib.Dec.{eqb}
 use lib.ListN.{length, take, drop, length-drop, take-append-drop}
 use lib.Seq.{take-all}
-use Rattle.blocks.specs.Bytes.{Field, field, bytesOf, wholeOf, at, wholesAt, zeroIn, fieldsOf, asBytes, BlockBytes, fieldsIn}
+use Rattle.blocks.specs.Bytes.{field, bytesOf, wholeOf, at, wholesAt, zeroIn, fieldsOf, asBytes, BlockBytes}
 use Rattle.blocks.specs.Check.{checkOf, checkRight}
 use Rattle.blocks.proofs.ByteLaws.{bytes-whole, bytes-drop}
 use Rattle.blocks.proofs.FieldLaws.{written-read}
@@ -20,7 +20,7 @@ use Rattle.trio_parts.specs.declared.part.Part.{Part}
 use Rattle.trio_parts.specs.Part.{rowCount, gives}
 use Rattle.trio_parts.specs.Sound.{soundPart}
 use Rattle.trio_parts.proofs.SoundLaws.{sound-right}
-use Rattle.trio_blocks_form.specs.Writing.{bitsOf, layoutOf, bodyOf, blockOf, writtenOf}
+use Rattle.trio_blocks_form.specs.Writing.{layoutOf, bodyOf, blockOf, writtenOf}
 use Rattle.trio_blocks_form.specs.Reading.{partIn, fixedRight, unusedRight, readOf}
 use Rattle.trio_blocks_form.specs.declared.written.Written.{Written}
 use Rattle.trio_blocks_form.proofs.Shape.{RightShape, right-shape}
@@ -62,7 +62,8 @@ module _ (b : List ℕ) (is : BlockBytes b) (fixed : fixedRight b ≡ true) (sha
   unfolding layoutOf partIn layoutAt
   layout-same =
       let held = partIn b .held in
-      let numbers = score-numbers (rowCount (partIn b)) (at 8 8 b) (at 2 1 b) (held .first) (held .second) (shape .unused) (shape .listed) in
+      let rows = rowCount (partIn b) in
+      let numbers = score-numbers rows (at 8 8 b) (at 2 1 b) (held .first) (held .second) (shape .unused) (shape .listed) in
       let weights = weights-back (at 1 1 b) (wholesAt 112 8 8 b) (wholes-small 112 8 8 b (is .bytes)) (shape .weights) in
       let first = bits-back (at 184 8 b) (at-small 184 8 b (is .bytes)) (numbers .0) in
       let second = bits-back (at 192 8 b) (at-small 192 8 b (is .bytes)) (numbers .1) in

@@ -10,7 +10,7 @@ use lib.Ieee.{Float, binary64, toBits}
 use lib.ListN.{length, drop, length-map}
 use lib.Seq.{drop-at, drop-drop, drop-nil}
 use Rattle.lists.specs.Every.{every}
-use Rattle.blocks.specs.Bytes.{Field, bytesOf, at, fieldsOf, asBytes, zeroIn}
+use Rattle.blocks.specs.Bytes.{bytesOf, fieldsOf, asBytes, zeroIn}
 use Rattle.blocks.specs.Check.{checkOf}
 use Rattle.blocks.proofs.FieldLaws.{bytes-append, same-length}
 use Rattle.blocks.proofs.ZeroLaws.{zero-part}

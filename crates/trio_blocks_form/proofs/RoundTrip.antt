@@ -29,7 +29,7 @@ use Rattle.trio_blocks_form.specs.Inner.{numbersIn}
 use Rattle.trio_blocks_form.specs.declared.written.Written.{Written}
 use Rattle.trio_blocks_form.proofs.NumbersLaws.{long-body, line-in}
 use Rattle.trio_blocks_form.proofs.Shape.{RightShape, right-shape}
-use Rattle.trio_blocks_form.proofs.Widths.{widths, layoutAt, fields-at, widths-are}
+use Rattle.trio_blocks_form.proofs.Widths.{layoutAt, fields-at, widths-are}
 use Rattle.trio_blocks_form.proofs.Fitting.{layout-holds}
 use Rattle.trio_blocks_form.proofs.Places.{last-zero, unused-zero}
 

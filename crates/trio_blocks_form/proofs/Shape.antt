@@ -3,7 +3,7 @@ use Prim.Native.Nat.{_*_, _^_, _≤_, _<_}
 use mathlib.Core.Bool.{true}
 use mathlib.Core.Path.{_≡_}
 use mathlib.Mathlib.Data.Bool.Basic.{and-elim-left, and-elim-right}
-use borrow.Author.Tests.{leb-true, ltb-true, eqb-true}
+use borrow.Author.Tests.{ltb-true, eqb-true}
 use lib.Dec.{eqb, leb, ltb}
 use Rattle.limits.specs.Limits.{countAllowed}
 use Rattle.trio_entries.specs.Held.{heldList}

@@ -1,7 +1,7 @@
 -- The widths of a block's fields, the same for every part that the types allow, and what stands in fields of these widths. Assumes nothing.
 use Prim.Native.Nat.{ℕ}
-use mathlib.Core.List.{List, [], _∷_, _++_, map, map-append}
-use mathlib.Core.Path.{_≡_, refl, ap, ap₂, _∙_}
+use mathlib.Core.List.{List, [], _∷_, _++_, map-append}
+use mathlib.Core.Path.{_≡_, ap, ap₂, _∙_}
 use lib.Ieee.{binary64, toBits}
 use lib.ListN.{length, drop, replicate, length-map}
 use lib.Seq.{drop-drop}

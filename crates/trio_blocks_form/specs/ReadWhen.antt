@@ -40,8 +40,8 @@ pub record WellSent (b : List ℕ) : Type 0 where
   pub checks : checkRight b ≡ true
 
 module _ (b : List ℕ) where
-  -- O1: reading gives a refusal where what its line says holds and nothing before it in the order 13, 14, 15, 12 does; Done where none does;
-  -- the others never
+  -- O1: reading gives a refusal where what its line says holds and nothing before it in the order 13, 14, 15, 12 does; Done where none of
+  -- them holds; the others never
   abbrev pub ReadWhen : Refusal → Type 0
   ReadWhen Block = length b ≢ 512
   ReadWhen Check = (length b ≡ 512) × (checkRight b ≡ false)

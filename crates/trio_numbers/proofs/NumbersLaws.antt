@@ -1,14 +1,12 @@
 -- The numbers of a part and of its scores as stores leave them, with room for them and without; and what is read of numbers. Assumes
 -- nothing.
-use Prim.Native.Nat.{ℕ, suc, _+_, _≤_, _<_}
-use mathlib.Core.List.{List, [], _∷_, _++_, map, append-nil}
+use Prim.Native.Nat.{ℕ, _+_, _≤_, _<_}
+use mathlib.Core.List.{List, _++_, map, append-nil}
 use mathlib.Core.Path.{_≡_, refl, sym, ap, _∙_, subst}
-use native.Mathlib.Nat.{zero-add, le-of-eq}
-use native.Mathlib.Omega.{arith}
 use borrow.Author.Tests.{le-leb, lt-leb}
 use lib.Dec.{lit≤}
 use lib.Ieee.{binary64, toBits, ofBits, nan}
-use lib.ListN.{length, getD, set, drop, replicate, length-append, length-map, drop-of-length-le, List·getD-eq-default}
+use lib.ListN.{length, getD, drop, replicate, length-append, length-map, List·getD-eq-default}
 use lib.Seq.{sets, sets-eq, getD-drop}
 use Rattle.lists.specs.Lists.{numbers}
 use Rattle.lists.proofs.PlaceLaws.{numbers-length, read-at}

@@ -95,8 +95,8 @@ fn read_list(line: &[u8], at: usize, digit: u64, words: &mut Words, list: usize)
     read_words(line, first, digit, words, list + 1, n)
 }
 
-// How many bytes a word of hexadecimal digits has, two digits each: none is `-`, which is 2d in ASCII; more than any line has where it is no
-// such word.
+// How many bytes a word of hexadecimal digits has, two digits each: none is `-`, which is 2d in ASCII; more than any line has where it is
+// no such word.
 fn how_many_bytes(word: &[u8]) -> usize
     ensures { λ r. ⌜ r ≤ 2049 ⌝ }
 {

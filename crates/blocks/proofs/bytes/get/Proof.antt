@@ -1,8 +1,8 @@
 -- `blocks::bytes::get` meets its contract. The loop's invariant: the number is that of the bytes from place `left` on. Assumes nothing.
-use Prim.Native.Nat.{ℕ, min, _+_, _-_, _*_, _≤_, _<_, _^_}
-use mathlib.Core.Path.{_≡_, refl, ap, _∙_}
+use Prim.Native.Nat.{min, _+_, _-_, _≤_, _<_, _^_}
+use mathlib.Core.Path.{_≡_, ap, _∙_}
 use native.Mathlib.Omega.{arith}
-use lib.ListN.{getD}
+use Rattle.blocks.specs.Bytes.{Bytes}
 use Rattle.blocks.proofs.GetLaws.{behind, get-none, get-step, get-small}
 use borrow.Author.Needs.{needs}
 use Rattle.blocks.proofs.bytes.get.Statement.{statement}
@@ -20,8 +20,8 @@ small c =
     let bytes = c .before .before .before in
     let a = bytes .before .args in
     let s = c .before .loop in
-    rw (s .inv .1)
-    (get-small (a .b .now) (a .start) (min (a .width) 8) (s .left) (λ i. bytes .shared-slice-known .given i .fits) (omega arith) (omega arith))
+    let known : Bytes (a .b .now) = λ i. bytes .shared-slice-known .given i .fits in
+    rw (s .inv .1) (get-small (a .b .now) (a .start) (min (a .width) 8) (s .left) known (omega arith) (omega arith))
 
 few-requires : tie.Need-few-requires Inv-loop μ-loop
 few-requires c κs = search needs

@@ -46,10 +46,11 @@ loop-again c =
     let byte = set .before in
     let s = byte .before .before .before .loop in
     let here = byte .low .ensures in
+    let step = put-step (s .b) (s .i) (s .left) (s .rest) (byte .low .result) (omega arith) here in
     record {
       place = omega arith;
       as-long = rw (set .set-byte .ensures) (length-set (s .b) (s .i) (byte .low .result) ∙ s .inv .as-long);
-      decides = rw (set .set-byte .ensures) (put-step (s .b) (s .i) (s .left) (s .rest) (byte .low .result) (omega arith) here ∙ s .inv .decides);
+      decides = rw (set .set-byte .ensures) (step ∙ s .inv .decides);
     }
 
 same-length : tie.Need-same-length Inv-loop μ-loop

@@ -1,6 +1,6 @@
 -- `blocks::check::check_of` meets its contract. The loop's invariant: the sum so far and the words that are left, with wrap, are the check.
 -- Assumes nothing.
-use Prim.Native.Nat.{ℕ, _+_, _*_, _%_, _≤_, _<_, _-_}
+use Prim.Native.Nat.{ℕ, _+_, _%_, _≤_, _<_, _-_}
 use mathlib.Core.List.{List}
 use mathlib.Core.Path.{_≡_, refl}
 use native.Mathlib.Omega.{arith}

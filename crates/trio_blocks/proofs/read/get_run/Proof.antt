@@ -1,7 +1,7 @@
 -- `trio_blocks::read::get_run` meets its contract. The loop's invariant: what is left to read decides. Assumes nothing.
 use Prim.Native.Nat.{ℕ, min, _+_, _*_, _-_, _≤_}
 use mathlib.Core.List.{List}
-use mathlib.Core.Path.{_≡_, refl, sym, ap, _∙_}
+use mathlib.Core.Path.{_≡_, sym, ap, _∙_}
 use native.Mathlib.Nat.{add-zero}
 use native.Mathlib.Omega.{arith}
 use lib.ListN.{getD, drop}

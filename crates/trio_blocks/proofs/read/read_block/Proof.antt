@@ -1,5 +1,5 @@
 -- `trio_blocks::read::read_block` meets its contract, by each test in turn. Assumes nothing.
-use mathlib.Core.Bool.{Bool, true, false, _&&_}
+use mathlib.Core.Bool.{true, false, _&&_}
 use mathlib.Core.Path.{_≡_, sym, _∙_}
 use borrow.Author.Tests.{eq-eqb, ne-eqb}
 use lib.Dec.{eqb}
@@ -32,8 +32,8 @@ wrong c =
     let b = stored .before .before .before .args .b .now in
     ne-eqb (at 510 2 b) (checkOf (take 510 b)) (λ e. c .if2 .taken (stored .get .ensures ∙ e ∙ sym (check .check-of .ensures)))
 
-laid-out : (c : tie.After-both)
-    → let b = c .before .before .before .before .before .before .before .before .args .b .now in c .both .result ≡ (fixedRight b && unusedRight b)
+laid-out : (c : tie.After-both) → let b = c .before .before .before .before .before .before .before .before .args .b .now in
+    c .both .result ≡ (fixedRight b && unusedRight b)
 laid-out c = rw (c .both .ensures, c .before .unused-right .ensures, c .before .before .fixed-right .ensures)
 
 -- ---- the needs

@@ -2,7 +2,6 @@
 use Prim.Native.Nat.{ℕ, _+_, _*_, _-_, _≤_}
 use mathlib.Core.List.{List}
 use mathlib.Core.Path.{_≡_, refl, ap, _∙_}
-use native.Mathlib.Nat.{add-zero, mul-zero}
 use native.Mathlib.Omega.{arith}
 use lib.ListN.{length, drop, drop-of-length-le}
 use lib.Seq.{sets}
@@ -40,9 +39,11 @@ put-requires c κs = search needs
 
 add-at : tie.Need-add-at Inv-loop μ-loop
 add-at c =
-    let s = c .before .before .before .before .loop in
-    let a = c .before .before .before .before .before .before .args in
-    let room = next-inside (a .start) (a .width) (s .i) (length (a .run .now)) 512 (omega arith) (c .before .before .before .before .before .before .pre) in
+    let turn = c .before .before .before .before in
+    let s = turn .loop in
+    let start = turn .before .before in
+    let a = start .args in
+    let room = next-inside (a .start) (a .width) (s .i) (length (a .run .now)) 512 (omega arith) (start .pre) in
     omega arith
 
 add-i : tie.Need-add-i Inv-loop μ-loop
