@@ -29,8 +29,9 @@ two-bytes (a ∷ b ∷ l) = whole a b
     whole : (a b : ℕ) → a + 256 * (b + 256 * 0) ≡ a + 256 * b
     whole a b = omega arith
 
-last-word : (n : ℕ) (l : List ℕ) → at (2 * n) 2 l ≡ word n l
-last-word n l =
+-- is the number of its two bytes
+pub word-is : (n : ℕ) (l : List ℕ) → at (2 * n) 2 l ≡ word n l
+word-is n l =
     two-bytes (drop (2 * n) l)
     ∙ ap (λ (x : ℕ). x + 256 * getD (drop (2 * n) l) 1 0) (getD-drop (2 * n) l 0 0 ∙ ap (λ (i : ℕ). getD l i 0) (plain (2 * n)))
     ∙ ap (λ (x : ℕ). getD l (2 * n) 0 + 256 * x) (getD-drop (2 * n) l 1 0)
@@ -90,7 +91,7 @@ module _ (n k : ℕ) (b c : List ℕ) (near : k ≤ n) (lb : length b ≡ 2 * n 
     where
       go : (t : Bool) → ltb k n ≡ t → word k b ≡ word k c
       go true e =
-          let last = sym rb ∙ last-word n b ∙ other-word n (λ z. let q = ltb-true k n e in omega arith) ∙ sym (last-word n c) ∙ rc in
+          let last = sym rb ∙ word-is n b ∙ other-word n (λ z. let q = ltb-true k n e in omega arith) ∙ sym (word-is n c) ∙ rc in
           wrapped (totalOf (wordsOf (take (2 * n) b))) (totalOf (wordsOf (take (2 * n) c))) (word k b) (word k c)
           (word-sums n k b c lb lc agree (ltb-true k n e)) last (small-word b k hb) (small-word c k hc)
       go false e =
@@ -100,7 +101,7 @@ module _ (n k : ℕ) (b c : List ℕ) (near : k ≤ n) (lb : length b ≡ 2 * n 
           let before : (i : ℕ) → i < length (take (2 * n) b) → i / 2 ≡ k → ⊥ = λ i q m. omega (arith, long b lb) in
           let same = ext-getD 0 (take (2 * n) b) (take (2 * n) c) (long b lb ∙ sym (long c lc))
           (λ i q. take-agree (2 * n) b c i (agree i (before i q))) in
-          subst (λ (j : ℕ). word j b ≡ word j c) (sym here) (sym (last-word n b) ∙ rb ∙ ap checkOf same ∙ sym rc ∙ last-word n c)
+          subst (λ (j : ℕ). word j b ≡ word j c) (sym here) (sym (word-is n b) ∙ rb ∙ ap checkOf same ∙ sym rc ∙ word-is n c)
 
   low : (x y u v : ℕ) → x + 256 * y ≡ u + 256 * v → x < 256 → u < 256 → x ≡ u
   low x y u v e hx hu = omega arith

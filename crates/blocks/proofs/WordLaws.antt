@@ -1,10 +1,14 @@
 -- Words and their sums: what stands at a place, and how much two sums differ by where one word does. Assumes nothing.
-use Prim.Native.Nat.{ℕ, zero, suc, _+_, _*_, _/_}
+use Prim.Native.Nat.{ℕ, zero, suc, _+_, _*_, _/_, _<_}
+use mathlib.Core.Bool.{Bool, true, false}
 use mathlib.Core.List.{List, [], _∷_}
+use mathlib.Core.Logic.{_≢_}
 use mathlib.Core.Path.{_≡_, refl, sym, ap, _∙_}
 use native.Mathlib.Omega.{arith}
-use lib.ListN.{length, getD}
-use lib.Seq.{ext-getD}
+use borrow.Author.Tests.{eqb-true, eqb-false}
+use lib.Dec.{eqb}
+use lib.ListN.{length, getD, set, length-set}
+use lib.Seq.{ext-getD, getD-set-same, getD-set-other}
 use Rattle.lists.specs.Lists.{totalOf}
 use Rattle.blocks.specs.Check.{wordsOf}
 
@@ -54,3 +58,28 @@ but-one zero (x ∷ l) (y ∷ m) n h =
 but-one (suc k) (x ∷ l) (y ∷ m) n h =
     let rest = but-one k l m (omega arith) (λ j e. h (suc j) (λ z. e (omega arith))) in
     added x y (totalOf l) (totalOf m) (getD m k 0) (getD l k 0) (h 0 (λ z. omega arith)) rest
+
+-- lists of which two members changed places
+module _ (j k : ℕ) (l m : List ℕ) (long : length l ≡ length m) (inside : j < length l) (apart : k ≢ j)
+    (first : getD m j 0 ≡ getD l k 0) (second : getD m k 0 ≡ getD l j 0)
+    (others : (i : ℕ) → i ≢ j → i ≢ k → getD m i 0 ≡ getD l i 0) where
+  -- on the way: the first of the two places has what the second has
+  abbrev half : List ℕ
+  half = set l j (getD l k 0)
+
+  half-others : (i : ℕ) → i ≢ k → getD half i 0 ≡ getD m i 0
+  half-others i z = go (eqb i j) refl
+    where
+      go : (t : Bool) → eqb i j ≡ t → getD half i 0 ≡ getD m i 0
+      go true e =
+          let is = eqb-true i j e in
+          ap (λ (n : ℕ). getD half n 0) is ∙ getD-set-same l j (getD l k 0) 0 inside ∙ sym first ∙ ap (λ (n : ℕ). getD m n 0) (sym is)
+      go false e = let is = eqb-false i j e in getD-set-other l j i (getD l k 0) 0 is ∙ sym (others i is z)
+
+  pub same-total : totalOf m ≡ totalOf l
+  same-total =
+      let to-half = but-one j l half (sym (length-set l j (getD l k 0))) (λ i z. sym (getD-set-other l j i (getD l k 0) 0 z)) in
+      let from-half = but-one k half m (length-set l j (getD l k 0) ∙ long) half-others in
+      let here = getD-set-same l j (getD l k 0) 0 inside in
+      let there = getD-set-other l j k (getD l k 0) 0 apart in
+      omega (arith, second)

@@ -10,3 +10,4 @@ pub mod Bits
 pub mod Accepted
 pub mod OneBlock
 pub mod Changed
+pub mod Exchanged
