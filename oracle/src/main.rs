@@ -37,15 +37,24 @@ mod diploid {
 }
 
 mod trio {
+    pub mod bad_blocks;
+    pub mod block;
+    pub mod block_cases;
+    pub mod block_damage;
+    pub mod block_numbers;
+    pub mod block_parts;
     pub mod cases;
+    pub mod codec;
     pub mod compare;
     pub mod desks;
     pub mod dialogue;
     pub mod distances;
+    pub mod draws;
     pub mod faults;
     pub mod flat;
     pub mod forged;
     pub mod forged_cases;
+    pub mod golden;
     pub mod grounds;
     pub mod halves;
     pub mod histories;
@@ -58,6 +67,7 @@ mod trio {
     pub mod part;
     pub mod pass;
     pub mod port;
+    pub mod port_blocks;
     pub mod port_steps;
     pub mod ported;
     pub mod quality;

@@ -4,8 +4,11 @@ use crate::diploid::types::STATES;
 use crate::floor::exchange::Exchange;
 use crate::{diploid, mosaic, trio};
 
-const REFUSALS: [&str; 13] =
-    ["done", "NoCluster", "TooMany", "Shape", "Count", "Weight", "Model", "Table", "Row", "OtherTrio", "NotComplete", "NoCall", "BadPart"];
+#[rustfmt::skip]
+const REFUSALS: [&str; 16] = [
+    "done", "NoCluster", "TooMany", "Shape", "Count", "Weight", "Model", "Table", "Row", "OtherTrio", "NotComplete", "NoCall", "BadPart",
+    "Block", "Check", "Layout",
+];
 const GROUNDS: [&str; 5] = ["-", "Won", "Tied", "Unread", "Inferred"];
 
 fn digits(text: &str) -> bool {

@@ -8,13 +8,14 @@ use crate::{diploid, kernels, mosaic, trio};
 use std::io;
 
 pub fn write() -> io::Result<()> {
+    let golden = trio::golden::stored()?;
     let cases = &mut Exchange::default();
     kernels::cases::write(cases);
     spellings::write(cases);
     diploid::cases::write(cases);
     trio::cases::write(cases);
     trio::quality_cases::write(cases);
-    trio::steps::write(cases);
+    trio::steps::write(cases, &golden);
     mosaic::cases::write(cases);
     cases.add("ln 3ff0000000000000", word(plain::ln(1.0)));
     cases.store("vectors", "cases")

@@ -1,7 +1,7 @@
 //! Holds the port's trio genotyper against kanpig's own text and the plain pass of pass.rs: called as C, and asked as text. The flat Rust
 //! of flat.rs, which the benchmark has beside the port, must give the same.
 use super::cases::{mendel_case, sample_case};
-use super::flat::Flat;
+use super::flat::Flats;
 use super::grounds::Grounds;
 use super::inputs::{allowed, any_pair, disturbed, few, many, small};
 use super::kanpig::OURS;
@@ -17,29 +17,21 @@ use crate::floor::threads::mapped;
 /// So many calls of six to eight clusters, each beside kanpig's own text.
 const LARGE: usize = 20_000;
 
-/// Flat Rust for every number of clusters. What it answers is no second opinion on the port, but what the benchmark times beside it.
-struct Flats(Vec<Flat>);
-
-impl Flats {
-    fn new() -> Flats {
-        Flats((1..=8).map(Flat::new).collect())
-    }
-
-    fn answer(&self, input: &Input) -> Answer {
-        match refusal(input) {
-            0 => {
-                let (best, runner) = self.0[input.n as usize - 1].search(input);
-                found(input.n, &input.counts, best, runner, &OURS)
-            }
-            number => Answer::refused(number),
+/// What flat Rust answers: no second opinion on the port, but what the benchmark times beside it.
+fn flat_answer(flats: &Flats, input: &Input) -> Answer {
+    match refusal(input) {
+        0 => {
+            let (best, runner) = flats.of(input.n).search(input);
+            found(input.n, &input.counts, best, runner, &OURS)
         }
+        number => Answer::refused(number),
     }
 }
 
 /// The whole call: the port and flat Rust beside kanpig's text, by all processors; the grounds are counted.
 fn calls(as_text: bool, inputs: impl Iterator<Item = Input>, grounds: &mut Grounds, flats: &Flats) -> Tally {
     let inputs: Vec<Input> = inputs.collect();
-    let answers = mapped(&inputs, |input| [port::call(input), flats.answer(input), expected(input)]);
+    let answers = mapped(&inputs, |input| [port::call(input), flat_answer(flats, input), expected(input)]);
     let (mut of_port, mut of_flat, mut exchange) = (Vec::new(), Vec::new(), Exchange::default());
     for (input, [port, flat, plain]) in inputs.iter().zip(answers) {
         grounds.add(&plain);

@@ -1,5 +1,8 @@
 //! A plain model of the registers and their steps. A part that began with an opening is kept as the set of rows that went into it, and
 //! nothing else (docs/RULES.md, D3): what it holds is looked up when asked. Other parts are kept as they were given.
+use super::block::{laid_out, SIZE};
+use super::block_numbers::BlockNumbers;
+use super::codec::{self, Kanpig};
 use super::faults::Faults;
 use super::grounds::Grounds;
 use super::kanpig::OURS;
@@ -39,11 +42,14 @@ pub struct Desks {
     /// The grounds of all closings.
     pub grounds: Grounds,
     pub faults: Faults,
+    /// Of all blocks that were written, and of all that were read.
+    pub written: BlockNumbers,
+    pub read: BlockNumbers,
     pub known: Known,
 }
 
 /// The first part's work with another's: all marks, and the best two by distinct position, where the first part's entry stays (T8).
-fn joined(first: &Part, marks: u64, given: &[Entry]) -> Part {
+pub fn joined(first: &Part, marks: u64, given: &[Entry]) -> Part {
     let mut entries = first.entries();
     let own: BTreeSet<u32> = entries.iter().map(|&(position, _)| position).collect();
     entries.extend(given.iter().filter(|(position, _)| !own.contains(position)));
@@ -64,6 +70,8 @@ impl Desks {
             registers: vec![Register::Given(Part::ZEROS); 10],
             grounds: Grounds::default(),
             faults: Faults::default(),
+            written: BlockNumbers::default(),
+            read: BlockNumbers::default(),
             known: Known::default(),
         }
     }
@@ -153,6 +161,24 @@ impl Desks {
         }
     }
 
+    /// The part stays in its register.
+    fn write(&mut self, r: usize) -> String {
+        let (number, block) = match self.sound(r) {
+            Some(part) => (0, laid_out(&part)),
+            None => (12, [0; SIZE]),
+        };
+        self.written.add(number);
+        words::block(number, &block)
+    }
+
+    /// A block does not say how its part came about.
+    fn read(&mut self, r: usize, bytes: &[u8]) -> u32 {
+        let (number, part) = codec::read(bytes, &Kanpig);
+        self.read.add(number);
+        self.registers[r] = Register::Given(part);
+        number
+    }
+
     /// Whether a register's lists are others than its counts and weights give.
     fn has_forged_lists(&mut self, r: usize) -> bool {
         match self.registers[r] {
@@ -180,6 +206,8 @@ impl Desks {
             }
             Step::Show(r) => return self.registers[*r].part().words(),
             Step::Scores(r) => return lists::as_words(&self.registers[*r].part().lists),
+            Step::Write(r) => return self.write(*r),
+            Step::Read(r, bytes) => return self.read(*r, bytes).to_string(),
             Step::Unreadable(_) => return "?".to_string(),
         }
         "ok".to_string()

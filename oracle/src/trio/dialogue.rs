@@ -1,9 +1,11 @@
 //! Stored cases on registers, whose answers are those of the plain model of desks.rs.
 use super::desks::Desks;
+use super::histories::{history, Taken};
 use super::part::Part;
 use super::step::Step;
 use super::types::Input;
 use crate::floor::exchange::{with_word, Exchange};
+use crate::floor::random::Random;
 
 pub struct Dialogue<'a> {
     pub cases: &'a mut Exchange,
@@ -31,6 +33,13 @@ impl Dialogue<'_> {
         let rows = input.n * (input.n + 1) / 2;
         self.take(Step::Open(r, input.clone()));
         self.all((0..rows).map(|row| Step::Row(r, row)));
+    }
+
+    /// A history of so many kinds of steps.
+    pub fn history(&mut self, random: &mut Random, kinds: u64) {
+        let mut taken = Taken::default();
+        history(random, &mut self.desks, &mut taken, kinds);
+        taken.lines(self.cases);
     }
 
     pub fn part(&self, r: usize) -> Part {

@@ -2,6 +2,7 @@
 //! beforehand, and one rising pass that keeps the best two (docs/RULES.md, T2 to T5). With the kernels of the rules, and answers to the bit
 //! the same.
 use super::kanpig::OURS;
+use super::lists::{Lists, PLACES};
 use super::part::Entry;
 use super::types::{genotypes, Input, Pair};
 use crate::kernels::plain::ln;
@@ -59,18 +60,22 @@ impl Flat {
         Flat { genotypes, terms }
     }
 
-    /// The scores of child, father and mother under each genotype. Logarithms are taken once: of each weight, and of the two shares of a
-    /// genotype.
-    fn lists(&self, input: &Input) -> [[f64; 36]; 3] {
-        let n = input.n as usize;
+    /// The Mendelian term of the triple at a position.
+    pub fn term(&self, position: u32) -> f64 {
+        self.terms[position as usize]
+    }
+
+    /// The scores of child, father and mother under each genotype; places past these have no meaning. Logarithms are taken once: of each
+    /// weight, and of the two shares of a genotype.
+    pub fn lists(&self, counts: &[u32], given: &[f64]) -> Lists {
+        let n = given.len();
         let mut weights = [0.0; 8];
-        for (log, weight) in weights.iter_mut().zip(&input.weights) {
+        for (log, weight) in weights.iter_mut().zip(given) {
             *log = ln(weight + 0.001);
         }
-        let counts: [[f64; 8]; 3] =
-            std::array::from_fn(|s| std::array::from_fn(|c| input.counts.get(3 * c + s).map_or(0.0, |&k| f64::from(k))));
+        let counts: [[f64; 8]; 3] = std::array::from_fn(|s| std::array::from_fn(|c| counts.get(3 * c + s).map_or(0.0, |&k| f64::from(k))));
         let totals = counts.map(|counts| counts.iter().sum::<f64>());
-        let mut lists = [[f64::NEG_INFINITY; 36]; 3];
+        let mut lists = [[f64::NEG_INFINITY; PLACES]; 3];
         for (g, &pair) in self.genotypes.iter().enumerate() {
             let whole = (0..n).fold(0.0, |sum, c| sum + expectation(pair, c));
             let [named, other] = [expectation(pair, pair.0), 0.001].map(|expected| Share::new(expected / whole));
@@ -87,7 +92,7 @@ impl Flat {
     /// The best triple and the runner-up of an accepted input. No score is a NaN, so that floats compare as their keys do.
     pub fn search(&self, input: &Input) -> (Entry, Option<Entry>) {
         let g = self.genotypes.len();
-        let [child, father, mother] = self.lists(input);
+        let [child, father, mother] = self.lists(&input.counts, &input.weights);
         let (mut best, mut second) = (NONE, NONE);
         let mut position = 0;
         for of_father in &father[..g] {
@@ -105,5 +110,19 @@ impl Flat {
             }
         }
         (best, (second.0 != NONE.0).then_some(second))
+    }
+}
+
+/// What trios of every number of clusters have in common.
+pub struct Flats(Vec<Flat>);
+
+impl Flats {
+    pub fn new() -> Flats {
+        Flats((1..=8).map(Flat::new).collect())
+    }
+
+    /// For 1 to 8 clusters.
+    pub fn of(&self, n: u32) -> &Flat {
+        &self.0[n as usize - 1]
     }
 }

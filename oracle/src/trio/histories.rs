@@ -1,18 +1,16 @@
 //! Random histories of parts, through the program `vectors`, through the port's C functions, and through the plain model of desks.rs, step
 //! by step.
+use super::block_numbers::BlockNumbers;
 use super::desks::{Desks, Register};
+use super::draws::{inputs, register, step, ALL};
 use super::faults::Faults;
-use super::forged::{forged, forged_score};
 use super::grounds::Grounds;
-use super::inputs::{allowed, disturbed};
-use super::part::Part;
 use super::ported::Ported;
 use super::step::Step;
-use super::types::Input;
 use super::words;
 use crate::floor::compared::asked;
 use crate::floor::exchange::Exchange;
-use crate::floor::random::{pick, Random};
+use crate::floor::random::Random;
 use crate::floor::tally::Tally;
 
 const HISTORIES: usize = 160_000;
@@ -21,82 +19,6 @@ const TOGETHER: usize = 500;
 
 /// So many steps are compared at least: openings, rows, merges, closings, and what puts parts in or changes them.
 const LEAST_STEPS: usize = 3_000_000;
-
-/// Lines that cannot be read, and would change registers if they were.
-#[rustfmt::skip]
-const UNREADABLE: [&str; 29] = [
-    "open 10 1 3 1 1 1 1 3ff0000000000000", "row 0", "row 0 ", "row 0 0 0", "row 10 0", "row 0 4294967296", "merge 0", "merge 0 10",
-    "copy 0 10", "copy 10 0", "copy 0", "close", "close 10", "close 0 0", "show 10", "part 0 1", "open 0 1 3 1 1 1 2 3ff0000000000000",
-    "forge 10 0 0 3ff0000000000000", "forge 0 3 0 3ff0000000000000", "forge 0 0 36 3ff0000000000000",
-    "forge 0 0 4294967295 3ff0000000000000", "forge 0 0 0", "forge 0 0 0 0", "forge 0 0 0 3FF0000000000000", "forge 0 0 0 3ff0000000000000 0",
-    "forge 0 0 -1 3ff0000000000000", "scores", "scores 10", "scores 0 0",
-];
-
-/// The inputs of one history: few, small but for one in two hundred, and some of them alike but for a bit.
-fn inputs(random: &mut Random) -> Vec<Input> {
-    let n = match random.below(200) {
-        0 => pick(random, &[5, 6, 7, 8, 8]),
-        _ => pick(random, &[1, 1, 2, 2, 2, 2, 2, 2, 3, 3, 3, 4]),
-    };
-    let first = allowed(random, n);
-    let mut all = vec![first.clone()];
-    if random.below(2) == 0 {
-        let mut like = first;
-        match random.below(3) {
-            0 => like.weights[0] = -like.weights[0] + 0.0,
-            1 => like.counts[0] = (like.counts[0] + 1) % 1_000_001,
-            _ => like.weights[0] = if like.weights[0].to_bits() == 0 { -0.0 } else { 0.0 },
-        }
-        all.push(like);
-    }
-    all
-}
-
-fn register(random: &mut Random) -> usize {
-    pick(random, &[0, 0, 0, 1, 1, 2, 2, 3, 4, 5, 6, 7, 8, 9])
-}
-
-/// A row of the register, rarely one that is not there.
-fn row(random: &mut Random, desks: &Desks, r: usize) -> u32 {
-    let n = desks.registers[r].part().n.clamp(1, 8);
-    let rows = n * (n + 1) / 2;
-    match random.below(12) {
-        0 => pick(random, &[rows, rows + 1, 36, 63, 64, 65, u32::MAX]),
-        _ => random.below(u64::from(rows)) as u32,
-    }
-}
-
-/// A register's part with something changed, or with other triples.
-fn forgery(random: &mut Random, desks: &mut Desks, r: usize) -> Part {
-    let part = desks.registers[r].part();
-    let trio = part.is_right().then(|| desks.known.trio_of(&part));
-    forged(random, &part, trio.as_deref())
-}
-
-/// Something put into a register's lists.
-fn forge(random: &mut Random, desks: &mut Desks, r: usize) -> Step {
-    let part = desks.registers[r].part();
-    let (s, k, x) = forged_score(random, &part, desks.known.lists(&part));
-    Step::Forge(r, s, k, x)
-}
-
-fn step(random: &mut Random, desks: &mut Desks, inputs: &[Input]) -> Step {
-    let (r, s) = (register(random), register(random));
-    match random.below(36) {
-        0..=2 => Step::Open(r, inputs[random.below(inputs.len() as u64) as usize].clone()),
-        3 => Step::Open(r, disturbed(random)),
-        4..=5 => Step::Part(r, forgery(random, desks, s)),
-        6..=7 => Step::Copy(r, s),
-        8..=17 => Step::Row(r, row(random, desks, r)),
-        18..=24 => Step::Merge(r, s),
-        25 => Step::Merge(r, r),
-        26..=27 => Step::Close(r),
-        28..=30 => Step::Show(r),
-        31..=33 => forge(random, desks, r),
-        34 => Step::Scores(r),
-        _ => Step::Unreadable(pick(random, &UNREADABLE).to_string()),
-    }
-}
 
 /// The rows that a register lacks, in no order; of one that is sound and did not come by opening alone, all its rows, since what it holds
 /// need not be the best.
@@ -148,7 +70,7 @@ impl Taken {
 
     /// How many of them are steps on parts, and no looks at a register or lines that cannot be read.
     fn steps(&self) -> usize {
-        let looks = |step: &Step| matches!(step, Step::Show(_) | Step::Scores(_) | Step::Unreadable(_));
+        let looks = |step: &Step| matches!(step, Step::Show(_) | Step::Scores(_) | Step::Write(_) | Step::Unreadable(_));
         self.0.iter().filter(|(step, _)| !looks(step)).count()
     }
 
@@ -170,45 +92,68 @@ impl Taken {
     }
 }
 
-/// One history: openings, a few dozen steps of any kind, and the rows that are left of one part, which is then closed and shown. The
+/// One history: openings, a few dozen steps of so many kinds, and the rows that are left of one part, which is then closed and shown. The
 /// answers are the model's.
-pub fn history(random: &mut Random, desks: &mut Desks, taken: &mut Taken) {
+pub fn history(random: &mut Random, desks: &mut Desks, taken: &mut Taken, kinds: u64) {
     let inputs = inputs(random);
     for r in 0..3 {
         let input = inputs[random.below(inputs.len() as u64) as usize].clone();
         taken.take(desks, Step::Open(r, input));
     }
     for _ in 0..10 + random.below(20) {
-        let step = step(random, desks, &inputs);
+        let step = step(random, desks, &inputs, kinds);
         taken.take(desks, step);
     }
     let r = register(random);
     finish(random, desks, r, taken);
 }
 
-/// The steps on registers, `open`, `part`, `forge`, `copy`, `row`, `merge`, `close`, `show` and `scores`: as text, and those that can be
-/// read by the C functions.
+/// What the model met in all histories.
+#[derive(Default)]
+struct Met {
+    steps: usize,
+    grounds: Grounds,
+    faults: Faults,
+    written: BlockNumbers,
+    read: BlockNumbers,
+}
+
+impl Met {
+    fn join(&mut self, desks: &Desks, taken: &Taken) {
+        self.steps += taken.steps();
+        self.grounds.join(&desks.grounds);
+        self.faults.join(&desks.faults);
+        self.written.join(&desks.written);
+        self.read.join(&desks.read);
+    }
+
+    /// Shows it; what is too rare counts as a difference.
+    fn tally(&self) -> Tally {
+        println!("    steps: {} on parts; the others are looks at a register, and lines that cannot be read", self.steps);
+        let few = self.steps < LEAST_STEPS;
+        if few {
+            println!("    steps: these are fewer than {LEAST_STEPS}");
+        }
+        let steps = Tally { cases: 0, differences: usize::from(few) } + self.grounds.tally("closings") + self.faults.tally();
+        steps + self.written.tally("blocks written", &[0, 12]) + self.read.tally("blocks read", &[0, 12, 13, 14, 15])
+    }
+}
+
+/// The steps on registers, `open`, `part`, `forge`, `copy`, `row`, `merge`, `close`, `show`, `scores`, `write` and `read`: as text, and
+/// those that can be read by the C functions.
 pub fn run() -> [Tally; 2] {
     let random = &mut Random::new(50);
-    let (mut all, mut grounds, mut faults) = (Tally::default(), Grounds::default(), Faults::default());
-    let (mut steps, mut in_c) = (0, Tally::default());
+    let (mut all, mut in_c, mut met) = (Tally::default(), Tally::default(), Met::default());
     for _ in 0..HISTORIES / TOGETHER {
         let (mut desks, mut taken, mut exchange) = (Desks::new(), Taken::default(), Exchange::default());
         for _ in 0..TOGETHER {
-            history(random, &mut desks, &mut taken);
+            history(random, &mut desks, &mut taken, ALL);
         }
         taken.lines(&mut exchange);
         all = all + asked("steps", &exchange);
-        steps += taken.steps();
         in_c = in_c + taken.ported();
-        grounds.join(&desks.grounds);
-        faults.join(&desks.faults);
+        met.join(&desks, &taken);
     }
-    println!("    steps: {steps} on parts; the others are looks at a register, and lines that cannot be read");
-    if steps < LEAST_STEPS {
-        println!("    steps: these are fewer than {LEAST_STEPS}");
-        all.differences += 1;
-    }
-    let all = all + grounds.tally("closings") + faults.tally();
+    let all = all + met.tally();
     [all.line(&format!("steps in {HISTORIES} histories of parts")), in_c.line("these steps in C")]
 }

@@ -86,10 +86,14 @@ impl Part {
 
     /// S1, in its own order.
     pub fn is_right(&self) -> bool {
-        if !self.input_is_right() || self.marks >> genotypes(self.n).len() != 0 {
+        if !self.input_is_right() {
             return false;
         }
-        let width = genotypes(self.n).len().pow(2) as u32;
+        let rows = genotypes(self.n).len();
+        if self.marks >> rows != 0 {
+            return false;
+        }
+        let width = rows.pow(2) as u32;
         let open = self.marks.count_ones() * width;
         let entries = self.entries();
         let unused_zero = (entries.len()..2).all(|i| self.positions[i] == 0 && self.scores[i].to_bits() == 0);
@@ -104,6 +108,11 @@ impl Part {
             return Some(Fault::Lists);
         }
         (!self.entries().iter().all(is_true)).then_some(Fault::Held)
+    }
+
+    /// Whether two parts are one, every bit of them; a NaN is one value.
+    pub fn same(&self, other: &Part) -> bool {
+        self.words() == other.words() && lists::equal(&self.lists, &other.lists)
     }
 
     /// Whether two parts have one input, weights by their bits.

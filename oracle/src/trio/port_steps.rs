@@ -54,6 +54,27 @@ impl Part {
         }
     }
 
+    /// Every bit of it, field by field.
+    pub fn bits(&self) -> Vec<u64> {
+        let mut bits = vec![self.clusters, self.marks, self.held];
+        bits.extend(self.counts.map(u64::from));
+        bits.extend(self.weights.iter().chain(self.scores.as_flattened()).map(|x| x.to_bits()));
+        bits.extend(self.entries.iter().flat_map(|entry| [entry.position, entry.score.to_bits()]));
+        bits
+    }
+
+    /// The same part with this added to one of the numbers that are wider here than in text and in blocks: the clusters, the held triples,
+    /// a position.
+    pub fn widened(&self, which: usize, by: u64) -> Part {
+        let mut part = *self;
+        match which {
+            0 => part.clusters += by,
+            1 => part.held += by,
+            _ => part.entries[which % 2].position += by,
+        }
+        part
+    }
+
     /// Puts x at a place of an animal's list.
     pub fn forge(&mut self, s: usize, k: usize, x: f64) {
         self.scores[s][k] = x;

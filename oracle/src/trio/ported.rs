@@ -2,6 +2,7 @@
 //! the parts the model's, every bit.
 use super::lists;
 use super::part;
+use super::port_blocks;
 use super::port_steps::{close, merge, open, work_row, Part};
 use super::step::Step;
 use super::words;
@@ -44,6 +45,15 @@ impl Ported {
             Step::Copy(r, s) => {
                 registers[*r] = registers[*s];
                 return Some("ok".to_string());
+            }
+            Step::Write(r) => {
+                let (number, block) = port_blocks::write(&registers[*r]);
+                return Some(words::block(number, &block));
+            }
+            Step::Read(r, bytes) => {
+                let (number, part) = port_blocks::read(bytes);
+                registers[*r] = part;
+                number
             }
             Step::Unreadable(_) => return None,
         };

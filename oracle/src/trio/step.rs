@@ -18,6 +18,10 @@ pub enum Step {
     Close(usize),
     Show(usize),
     Scores(usize),
+    /// The register's part as a block.
+    Write(usize),
+    /// A register, and the bytes that are read into it.
+    Read(usize, Vec<u8>),
     Unreadable(String),
 }
 
@@ -33,6 +37,8 @@ impl Step {
             Step::Close(r) => format!("close {r}"),
             Step::Show(r) => format!("show {r}"),
             Step::Scores(r) => format!("scores {r}"),
+            Step::Write(r) => format!("write {r}"),
+            Step::Read(r, bytes) => format!("read {r} {}", words::bytes(bytes)),
             Step::Unreadable(line) => line.clone(),
         }
     }
@@ -40,10 +46,10 @@ impl Step {
     /// The registers that the step reads.
     pub fn reads(&self) -> Vec<usize> {
         match *self {
-            Step::Open(..) | Step::Part(..) | Step::Unreadable(_) => vec![],
+            Step::Open(..) | Step::Part(..) | Step::Read(..) | Step::Unreadable(_) => vec![],
             Step::Copy(_, s) => vec![s],
             Step::Merge(r, s) => vec![r, s],
-            Step::Forge(r, ..) | Step::Row(r, _) | Step::Close(r) | Step::Show(r) | Step::Scores(r) => vec![r],
+            Step::Forge(r, ..) | Step::Row(r, _) | Step::Close(r) | Step::Show(r) | Step::Scores(r) | Step::Write(r) => vec![r],
         }
     }
 }

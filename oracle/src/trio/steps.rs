@@ -1,11 +1,13 @@
 //! The cases that work with registers (docs/VECTORS.md): opening, rows, merging, closing, showing, lines that cannot be read, and some
-//! histories. Parts and lists that are put in are in forged_cases.rs and list_cases.rs. Answers by the plain model of desks.rs.
+//! histories. Parts and lists that are put in are in forged_cases.rs and list_cases.rs, blocks in block_cases.rs. Answers by the plain
+//! model of desks.rs.
 use super::cases::{input, plain};
 use super::desks::Desks;
 use super::dialogue::Dialogue;
-use super::histories::{history, Taken};
+use super::draws::BEFORE_BLOCKS;
+use super::golden::Golden;
 use super::step::Step;
-use super::{forged_cases, list_cases};
+use super::{block_cases, forged_cases, list_cases};
 use crate::floor::exchange::{with_word, Exchange};
 use crate::floor::floats::moved;
 use crate::floor::random::Random;
@@ -91,7 +93,8 @@ fn unreadable(dialogue: &mut Dialogue) {
     dialogue.all([Step::Show(0), Step::Scores(0), Step::Close(0)]);
 }
 
-pub fn write(cases: &mut Exchange) {
+/// The stored blocks are read among them.
+pub fn write(cases: &mut Exchange, golden: &[Golden]) {
     let mut dialogue = Dialogue { cases, desks: Desks::new() };
     at_the_start(&mut dialogue);
     rows_of_eight(&mut dialogue);
@@ -103,8 +106,7 @@ pub fn write(cases: &mut Exchange) {
     unreadable(&mut dialogue);
     let random = &mut Random::new(63);
     for _ in 0..6 {
-        let mut taken = Taken::default();
-        history(random, &mut dialogue.desks, &mut taken);
-        taken.lines(dialogue.cases);
+        dialogue.history(random, BEFORE_BLOCKS);
     }
+    block_cases::write(&mut dialogue, golden);
 }

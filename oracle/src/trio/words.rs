@@ -1,9 +1,23 @@
 //! The cases of the trio as text (docs/VECTORS.md): questions, and answers in the words that `vectors` writes.
+use super::block::Block;
 use super::types::{Answer, Input, Pair};
 use crate::floor::floats::{word, words};
 
 pub fn numbers(xs: &[u32]) -> String {
     xs.iter().map(u32::to_string).collect::<Vec<_>>().join(" ")
+}
+
+/// Bytes as lowercase hexadecimal digits; none at all as `-`.
+pub fn bytes(all: &[u8]) -> String {
+    match all.is_empty() {
+        true => "-".to_string(),
+        false => all.iter().map(|byte| format!("{byte:02x}")).collect(),
+    }
+}
+
+/// What `write` answers.
+pub fn block(number: u32, block: &Block) -> String {
+    format!("{number} {}", bytes(block))
 }
 
 /// Cluster number, counts and weights.
