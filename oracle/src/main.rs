@@ -40,6 +40,7 @@ mod trio {
     pub mod bad_blocks;
     pub mod block;
     pub mod block_cases;
+    pub mod block_compare;
     pub mod block_damage;
     pub mod block_numbers;
     pub mod block_parts;

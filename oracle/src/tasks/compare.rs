@@ -1,6 +1,7 @@
 //! Runs the port and the plain Rust on the same inputs and compares every bit; any NaN equals any NaN. A line for each kind of
-//! docs/VECTORS.md, two for the exponential's tail, two for the histories of parts, forged ones among them, as text and in C, and one for the
-//! sites of docs/CALLS.md. Calls go through the C functions, and some of each kind through the program `vectors` as text too.
+//! docs/VECTORS.md, two for the exponential's tail, two for the histories of parts, forged ones among them, as text and in C, five for
+//! blocks, and one for the sites of docs/CALLS.md. Calls go through the C functions, and some of each kind through the program `vectors` as
+//! text too.
 use crate::floor::source;
 use crate::floor::tally::Tally;
 use crate::programs::calls;
@@ -15,6 +16,7 @@ fn genotypers(xs: &[f64]) -> Vec<Tally> {
     let mut all = vec![mosaic::compare::short_log_gamma(xs), diploid::compare::run()];
     all.extend(trio::compare::run());
     all.extend(trio::histories::run());
+    all.extend(trio::block_compare::run());
     all.extend([mosaic::compare::run(), calls::compare()]);
     all
 }
