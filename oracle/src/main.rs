@@ -93,6 +93,7 @@ mod mosaic {
 
 /// What is for `vectors` and `calls` alone.
 mod programs {
+    pub mod block_fuzz;
     pub mod calls;
     pub mod fuzz;
     pub mod sites;

@@ -1,5 +1,6 @@
 //! Random bytes and damaged lines for the programs `vectors` and `calls`, in pieces of random sizes: no crash, no hang, and as many answer lines as lines.
-//! The lines to damage are those that the gate replays.
+//! The lines to damage are those that the gate replays. Damaged blocks are in block_fuzz.rs.
+use super::block_fuzz;
 use crate::floor::random::Random;
 use std::fs;
 use std::io::{Read, Write};
@@ -134,8 +135,11 @@ fn fuzz(name: &str, seconds: u64) -> bool {
     failed == 0
 }
 
-/// Both programs at once, for the seconds that the command names, or ten minutes.
+/// Both programs at once, and the reader of blocks, for the seconds that the command names, or ten minutes.
 pub fn run(seconds: Option<u64>) -> bool {
-    let programs = ["vectors", "calls"].map(|name| thread::spawn(move || fuzz(name, seconds.unwrap_or(600))));
-    programs.map(|program| program.join().unwrap_or(false)) == [true, true]
+    let seconds = seconds.unwrap_or(600);
+    let programs = ["vectors", "calls"].map(|name| thread::spawn(move || fuzz(name, seconds)));
+    let blocks = thread::spawn(move || block_fuzz::run(seconds));
+    let [vectors, calls] = programs.map(|program| program.join().unwrap_or(false));
+    vectors && calls && blocks.join().unwrap_or(false)
 }
