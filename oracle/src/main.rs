@@ -104,6 +104,7 @@ mod programs {
 /// What takes several genotypers together.
 mod tasks {
     pub mod bench;
+    pub mod block_times;
     pub mod changes;
     pub mod compare;
     pub mod limits;

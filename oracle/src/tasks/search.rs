@@ -1,5 +1,5 @@
 //! Times a trio's search: the whole call of the port, of flat Rust (trio/flat.rs), and of kanpig's own text over the kernels of the rules
-//! and over the standard library's, as a Markdown table and as a plot; and the port's public steps, one by one.
+//! and over the standard library's, as a Markdown table and as a plot; and the port's public steps, one by one, those of blocks among them.
 use super::plot;
 use super::timing::{quickest, timing};
 use crate::floor::random::Random;
@@ -70,5 +70,7 @@ pub fn run() {
     let usual = calls();
     println!();
     super::public_steps::run();
+    println!();
+    super::block_times::run();
     plot::write(&usual).expect("the plot can be written");
 }
