@@ -16,47 +16,61 @@ impl Ported {
         Ported { registers: [Part::of(&part::Part::ZEROS); 10] }
     }
 
-    /// The answer to a step, as `vectors` has it. A line that cannot be read is none.
-    pub fn answer(&mut self, step: &Step) -> Option<String> {
+    /// The refusal's number of a step that has one alone.
+    fn number(&mut self, step: &Step) -> Option<u32> {
         let registers = &mut self.registers;
-        let number = match step {
+        match step {
             Step::Open(r, input) => {
                 let (number, part) = open(input);
                 registers[*r] = part;
-                number
+                Some(number)
             }
-            Step::Row(r, f) => work_row(&mut registers[*r], u64::from(*f)),
+            Step::Row(r, f) => Some(work_row(&mut registers[*r], u64::from(*f))),
             Step::Merge(r, s) => {
                 let second = registers[*s];
-                merge(&mut registers[*r], &second)
-            }
-            Step::Close(r) => return Some(words::answer(&close(&registers[*r]))),
-            Step::Show(r) => return Some(registers[*r].model().words()),
-            Step::Scores(r) => return Some(lists::as_words(&registers[*r].model().lists)),
-            Step::Part(r, part) => {
-                let lists = lists::worked_out(part.n, &part.counts, &part.weights);
-                registers[*r] = Part::of(&part::Part { lists, ..*part });
-                return Some("ok".to_string());
-            }
-            Step::Forge(r, s, k, x) => {
-                registers[*r].forge(*s, *k, *x);
-                return Some("ok".to_string());
-            }
-            Step::Copy(r, s) => {
-                registers[*r] = registers[*s];
-                return Some("ok".to_string());
-            }
-            Step::Write(r) => {
-                let (number, block) = port_blocks::write(&registers[*r]);
-                return Some(words::block(number, &block));
+                Some(merge(&mut registers[*r], &second))
             }
             Step::Read(r, bytes) => {
                 let (number, part) = port_blocks::read(bytes);
                 registers[*r] = part;
-                number
+                Some(number)
             }
-            Step::Unreadable(_) => return None,
-        };
-        Some(number.to_string())
+            _ => None,
+        }
+    }
+
+    /// What is put into a register.
+    fn put(&mut self, step: &Step) {
+        let registers = &mut self.registers;
+        match step {
+            Step::Part(r, part) => {
+                let lists = lists::worked_out(part.n, &part.counts, &part.weights);
+                registers[*r] = Part::of(&part::Part { lists, ..*part });
+            }
+            Step::Forge(r, s, k, x) => registers[*r].forge(*s, *k, *x),
+            Step::Copy(r, s) => registers[*r] = registers[*s],
+            _ => unreachable!("no step that puts something into a register"),
+        }
+    }
+
+    /// The answer to a step, as `vectors` has it. A line that cannot be read is none.
+    pub fn answer(&mut self, step: &Step) -> Option<String> {
+        if let Some(number) = self.number(step) {
+            return Some(number.to_string());
+        }
+        match step {
+            Step::Close(r) => Some(words::answer(&close(&self.registers[*r]))),
+            Step::Show(r) => Some(self.registers[*r].model().words()),
+            Step::Scores(r) => Some(lists::as_words(&self.registers[*r].model().lists)),
+            Step::Write(r) => {
+                let (number, block) = port_blocks::write(&self.registers[*r]);
+                Some(words::block(number, &block))
+            }
+            Step::Unreadable(_) => None,
+            _ => {
+                self.put(step);
+                Some("ok".to_string())
+            }
+        }
     }
 }
