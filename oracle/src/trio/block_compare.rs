@@ -25,11 +25,13 @@ const OF_TEXT: u64 = 150;
 /// So many damaged blocks are made of each part.
 const DAMAGES: usize = 12;
 
+/// Blocks that were written and read by the port and by the codec.
 #[derive(Default)]
 pub struct Compared {
-    pub cases: usize,
-    pub written: BlockNumbers,
+    cases: usize,
+    written: BlockNumbers,
     pub read: BlockNumbers,
+    /// What was asked, with the port's answer and the other.
     pub differences: Vec<(String, String, String)>,
 }
 
