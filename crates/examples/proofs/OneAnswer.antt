@@ -60,6 +60,7 @@ use Rattle.trio_stored.proofs.rows.best_of_all.Reads as best-of-all
 use Rattle.trio_parts.proofs.part.Part.empty.Reads as part-empty
 use Rattle.trio_parts.proofs.shape.right_part.Reads as right-part
 use Rattle.trio_parts.proofs.sound.sound_part.Reads as sound-part
+use Rattle.trio_parts.proofs.sound.sound_over.Reads as sound-over
 use Rattle.trio_parts.proofs.input.same_input.Reads as same-input
 use Rattle.trio_numbers.proofs.numbers.numbers_of.Reads as numbers-of
 use Rattle.trio_numbers.proofs.numbers.part_at.Reads as part-at
@@ -340,6 +341,9 @@ right-part-once κ a v w e f = only
 
 pub sound-part-once : OneAnswer sound-part.Post
 sound-part-once κ a v w e f p q = only (p .0) (q .0)
+
+pub sound-over-once : OneAnswer sound-over.Post
+sound-over-once κ a v w e f = only
 
 pub same-input-once : OneAnswer same-input.Post
 same-input-once κ a v w e f = only

@@ -16,7 +16,7 @@ use refusals::Refusal;
 use trio_numbers::numbers::line_part;
 use trio_parts::part::Part;
 use trio_parts::part::Stepped;
-use trio_parts::sound::sound_part;
+use trio_parts::sound::sound_over;
 
 // `count` numbers of `width` bytes each, from byte `start` on, as those from number `from` on.
 fn get_run(b: &[u8], start: u16, width: u8, numbers: &mut [u64; 39], from: usize, count: usize)
@@ -81,14 +81,14 @@ fn refuse(refusal: Refusal) -> Stepped
     Stepped { refusal, part }
 }
 
-// The part, if it is sound.
+// The part, if it is sound; its lists were just worked out, and are not worked out again.
 fn sound_in(b: &[u8]) -> Stepped
     requires { ⌜ length (now b) ≡ 512 ⌝ }
     ensures { λ r. ⌜ r ≡ cond (soundPart (partIn (now (b .entry)))) (gives Done (partIn (now (b .entry)))) (refuses BadPart) ⌝ }
 {
     let numbers = numbers_in(b);
     let part = line_part(&numbers, 0);
-    if sound_part(part) {
+    if sound_over(part) {
         return Stepped {
             refusal: Refusal::Done,
             part,

@@ -35,11 +35,50 @@ use Rattle.trio_parts.specs.declared.part.Part.{Part}
 use Rattle.trio_parts.specs.Part.{listsIn, scoreIn, rowCount}
 use Rattle.trio_parts.specs.Right.{rightPart}
 use Rattle.trio_parts.specs.Same.{sameInput}
-use Rattle.trio_parts.specs.Sound.{storedRight, scoredTrue, heldTrue, soundPart}
+use Rattle.trio_parts.specs.Sound.{storedRight, scoredTrue, heldTrue, soundPart, heldOver, soundOver}
 use Rattle.trio_parts.specs.Typed.{TypedPart, TruePart}
 use Rattle.trio_parts.proofs.RightLaws.{right-input, right-work, some-clusters, few-clusters}
 
--- ---- by the number of triples held, as the code tests them: over the lists, which are those of the input
+-- ---- by the number of triples held, as the code tests them over the part's lists
+
+module _ (p : Part) where
+  abbrev over : Entry → Bool
+  over = scoredTrue (scoreOver (p .clusters) (p .scores))
+
+  -- the entries of a count n, tested over the lists
+  abbrev used : ℕ → List Entry
+  used n = entriesUsed n (p .held .first) (p .held .second)
+
+  by-count : (n : ℕ) → p .held .count ≡ n → every over (used n) ≡ heldOver p
+  unfolding heldOver
+  by-count n e = ap (λ (k : ℕ). every over (used k)) (sym e)
+
+  pub none-held : p .held .count ≡ 0 → true ≡ heldOver p
+  none-held e = by-count 0 e
+
+  pub first-false : p .held .count ≢ 0 → {b : Bool} → b ≡ over (p .held .first) → b ≡ false → false ≡ heldOver p
+  first-false h {b} e f = go (p .held .count) refl h
+    where
+      go : (n : ℕ) → p .held .count ≡ n → n ≢ 0 → false ≡ heldOver p
+      go zero c k = absurd (k refl)
+      go (suc zero) c k = (rw (sym e ∙ f)) ∙ by-count 1 c
+      go (suc (suc n)) c k = (rw (sym e ∙ f)) ∙ by-count (suc (suc n)) c
+
+  pub first-alone : p .held .count ≡ 1 → {b : Bool} → b ≡ over (p .held .first) → b ≡ true → true ≡ heldOver p
+  first-alone h {b} e f = sym (ap (λ (t : Bool). t && true) (sym e ∙ f)) ∙ by-count 1 h
+
+  pub both-held : p .held .count ≢ 0 → p .held .count ≢ 1 → {b d : Bool} → b ≡ over (p .held .first) → b ≡ true
+      → d ≡ over (p .held .second) → d ≡ heldOver p
+  both-held h k {b} {d} e f g = go (p .held .count) refl h k
+    where
+      go : (n : ℕ) → p .held .count ≡ n → n ≢ 0 → n ≢ 1 → d ≡ heldOver p
+      go zero c i j = absurd (i refl)
+      go (suc zero) c i j = absurd (j refl)
+      go (suc (suc n)) c i j =
+          g ∙ sym (ap (λ (t : Bool). t && (over (p .held .second) && true)) (sym e ∙ f) ∙ and-true (over (p .held .second)))
+          ∙ by-count (suc (suc n)) c
+
+-- ---- where the lists are those of the input, what they say is what soundness asks
 
 module _ (p : Part) (right : rightPart p ≡ true) (lists : p .scores ≡ listsIn p) where
   shaped : Shaped (rowCount p) (p .marks) (p .held)
@@ -57,46 +96,25 @@ module _ (p : Part) (right : rightPart p ≡ true) (lists : p .scores ≡ listsI
       (ap (λ (l : Scores). scoreOver (p .clusters) l (e .position)) lists
       ∙ over-is (p .clusters) (p .counts) (p .weights) (some-clusters p input) (few-clusters p input) (e .position) inside)
 
-  abbrev over : Entry → Bool
-  over = scoredTrue (scoreOver (p .clusters) (p .scores))
-
-  -- the entries of a count n, tested over the lists
-  abbrev used : ℕ → List Entry
-  used n = entriesUsed n (p .held .first) (p .held .second)
-
-  over-all : (l : List Entry) → ((e : Entry) → In l e → In (heldList (p .held)) e) → every over l ≡ every (scoredTrue (scoreIn p)) l
+  over-all : (l : List Entry) → ((e : Entry) → In l e → In (heldList (p .held)) e) → every (over p) l ≡ every (scoredTrue (scoreIn p)) l
   over-all [] h = refl
   over-all (x ∷ l) h = ap₂ _&&_ (held-over x (h x (inl refl))) (over-all l (λ e i. h e (inr i)))
 
-  -- whatever number n stands there, what the lists say of its entries is what soundness asks
-  by-count : (n : ℕ) → p .held .count ≡ n → every over (used n) ≡ heldTrue p
-  unfolding heldTrue
-  by-count n e = ap (λ (k : ℕ). every over (used k)) (sym e) ∙ over-all (heldList (p .held)) (λ x i. i)
+  pub over-held : heldOver p ≡ heldTrue p
+  unfolding heldOver heldTrue
+  over-held = over-all (heldList (p .held)) (λ x i. i)
 
-  pub none-held : p .held .count ≡ 0 → true ≡ heldTrue p
-  none-held e = by-count 0 e
+-- so a part with the lists of its input is sound where its shape is right and its triples have the scores that the lists give
+pub over-sound : (p : Part) → p .scores ≡ listsIn p → soundOver p ≡ soundPart p
+unfolding soundOver soundPart storedRight
+over-sound p lists = go (rightPart p) refl
+  where
+    same : sameScores (p .scores) (listsIn p) ≡ true
+    same = ap (λ (l : Scores). sameScores l (listsIn p)) lists ∙ scores-self (listsIn p)
 
-  pub first-false : p .held .count ≢ 0 → {b : Bool} → b ≡ over (p .held .first) → b ≡ false → false ≡ heldTrue p
-  first-false h {b} e f = go (p .held .count) refl h
-    where
-      go : (n : ℕ) → p .held .count ≡ n → n ≢ 0 → false ≡ heldTrue p
-      go zero c k = absurd (k refl)
-      go (suc zero) c k = (rw (sym e ∙ f)) ∙ by-count 1 c
-      go (suc (suc n)) c k = (rw (sym e ∙ f)) ∙ by-count (suc (suc n)) c
-
-  pub first-alone : p .held .count ≡ 1 → {b : Bool} → b ≡ over (p .held .first) → b ≡ true → true ≡ heldTrue p
-  first-alone h {b} e f = sym (ap (λ (t : Bool). t && true) (sym e ∙ f)) ∙ by-count 1 h
-
-  pub both-held : p .held .count ≢ 0 → p .held .count ≢ 1 → {b d : Bool} → b ≡ over (p .held .first) → b ≡ true
-      → d ≡ over (p .held .second) → d ≡ heldTrue p
-  both-held h k {b} {d} e f g = go (p .held .count) refl h k
-    where
-      go : (n : ℕ) → p .held .count ≡ n → n ≢ 0 → n ≢ 1 → d ≡ heldTrue p
-      go zero c i j = absurd (i refl)
-      go (suc zero) c i j = absurd (j refl)
-      go (suc (suc n)) c i j =
-          g ∙ sym (ap (λ (t : Bool). t && (over (p .held .second) && true)) (sym e ∙ f) ∙ and-true (over (p .held .second)))
-          ∙ by-count (suc (suc n)) c
+    go : (t : Bool) → rightPart p ≡ t → (t && heldOver p) ≡ (t && (sameScores (p .scores) (listsIn p) && heldTrue p))
+    go true e = over-held p e lists ∙ sym (ap (λ (t : Bool). t && heldTrue p) same)
+    go false e = refl
 
 -- ---- what a sound part is
 

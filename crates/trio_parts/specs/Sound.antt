@@ -7,6 +7,7 @@ use Rattle.lists.specs.Every.{every}
 use Rattle.trio_entries.specs.declared.entry.Entry.{Entry}
 use Rattle.trio_entries.specs.Held.{heldList}
 use Rattle.trio_samples.specs.Scores.{sameScores}
+use Rattle.trio_triples.specs.Stored.{scoreOver}
 use Rattle.trio_parts.specs.declared.part.Part.{Part}
 use Rattle.trio_parts.specs.Part.{listsIn, scoreIn}
 use Rattle.trio_parts.specs.Right.{rightPart}
@@ -26,3 +27,13 @@ heldTrue p = every (scoredTrue (scoreIn p)) (heldList (p .held))
 -- S4: the shape is right (S1), and every score that is stored is the one worked out
 unfoldable pub soundPart : Part → Bool
 soundPart p = rightPart p && (storedRight p && heldTrue p)
+
+-- ---- for the code
+
+-- S4: the same with the part's own lists taken for those of its input; where they are, it is `soundPart`: `over-sound`
+-- (trio_parts/proofs/SoundLaws.antt)
+unfoldable pub heldOver : Part → Bool
+heldOver p = every (scoredTrue (scoreOver (p .clusters) (p .scores))) (heldList (p .held))
+
+unfoldable pub soundOver : Part → Bool
+soundOver p = rightPart p && heldOver p

@@ -3,8 +3,7 @@ ghost use mathlib.Core.Bool.{true};
 ghost use mathlib.Core.Path.{_≡_};
 ghost use Rattle.trio_triples.specs.Stored.{scoreOver};
 ghost use Rattle.trio_parts.specs.Part.{listsIn};
-ghost use Rattle.trio_parts.specs.Right.{rightPart};
-ghost use Rattle.trio_parts.specs.Sound.{storedRight, scoredTrue, heldTrue, soundPart};
+ghost use Rattle.trio_parts.specs.Sound.{storedRight, scoredTrue, soundPart, heldOver, soundOver};
 use crate::part::Part;
 use crate::shape::right_part;
 use floats::bits::bits;
@@ -32,10 +31,9 @@ fn scored_true(n: u64, scores: Scores, e: Entry) -> bool
     bits(e.score) == bits(score_over(n, scores, e.position))
 }
 
-// Has every triple held? The lists are those of the input.
-fn held_true(p: Part) -> bool
-    requires { ⌜ (rightPart p ≡ true) × (p .scores ≡ listsIn p) ⌝ }
-    ensures { λ b. ⌜ b ≡ heldTrue p ⌝ }
+// Has every triple held?
+fn held_over(p: Part) -> bool
+    ensures { λ b. ⌜ b ≡ heldOver p ⌝ }
 {
     let n = p.clusters;
     let scores = p.scores;
@@ -61,8 +59,18 @@ pub fn sound_part(p: Part) -> bool
 {
     if right_part(p) {
         if stored_right(p) {
-            return held_true(p);
+            return held_over(p);
         }
+    }
+    false
+}
+
+// Is a part sound whose lists were just worked out from its input? Of any other it tells less: they are taken as they are.
+pub fn sound_over(p: Part) -> bool
+    ensures { λ b. ⌜ b ≡ soundOver p ⌝ }
+{
+    if right_part(p) {
+        return held_over(p);
     }
     false
 }

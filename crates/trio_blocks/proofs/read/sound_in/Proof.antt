@@ -1,8 +1,11 @@
 -- `trio_blocks::read::sound_in` meets its contract, by whether the part is sound. Assumes nothing.
-use mathlib.Core.Path.{_≡_, sym, ap, _∙_}
+use Prim.Native.Nat.{ℕ}
+use mathlib.Core.List.{List}
+use mathlib.Core.Path.{_≡_, refl, sym, ap, _∙_}
 use Rattle.refusals.specs.declared.Refusal.the-variants.{Done}
-use Rattle.trio_parts.specs.Part.{gives}
-use Rattle.trio_parts.specs.Sound.{soundPart}
+use Rattle.trio_parts.specs.Part.{listsIn, gives}
+use Rattle.trio_parts.specs.Sound.{soundPart, soundOver}
+use Rattle.trio_parts.proofs.SoundLaws.{over-sound}
 use Rattle.trio_numbers.specs.Numbers.{linePart}
 use Rattle.trio_blocks_form.specs.Reading.{partIn}
 use Rattle.trio_blocks_form.proofs.NumbersLaws.{line-in}
@@ -18,8 +21,14 @@ is-part c =
     let b = slice .before .args .b .now in
     c .line-part .ensures ∙ ap linePart (numbers .numbers-in .ensures) ∙ line-in b (λ i. slice .shared-slice-known .given i .fits)
 
-told : (c : tie.After-sound-part) → c .sound-part .result ≡ soundPart (partIn (c .before .before .before .before .before .args .b .now))
-told c = c .sound-part .ensures .0 ∙ ap soundPart (is-part (c .before))
+lists-in : (b : List ℕ) → partIn b .scores ≡ listsIn (partIn b)
+unfolding partIn
+lists-in b = refl
+
+told : (c : tie.After-sound-over) → c .sound-over .result ≡ soundPart (partIn (c .before .before .before .before .before .args .b .now))
+told c =
+    let b = c .before .before .before .before .before .args .b .now in
+    c .sound-over .ensures ∙ ap soundOver (is-part (c .before)) ∙ over-sound (partIn b) (lists-in b)
 
 numbers-in-requires : tie.Need-numbers-in-requires
 numbers-in-requires c κs = search needs
@@ -30,8 +39,8 @@ slice-aggregate-line-part c = search needs
 line-part-requires : tie.Need-line-part-requires
 line-part-requires c κs = search needs
 
-sound-part-requires : tie.Need-sound-part-requires
-sound-part-requires c κs = search needs
+sound-over-requires : tie.Need-sound-over-requires
+sound-over-requires c κs = search needs
 
 returns : tie.Need-returns
 returns c =
@@ -53,7 +62,7 @@ sound-in-spec =
     numbers-in-requires
     slice-aggregate-line-part
     line-part-requires
-    sound-part-requires
+    sound-over-requires
     returns
     refuse-requires
     returns-2)
