@@ -16,11 +16,11 @@ total-next (a ∷ []) = omega arith
 total-next (a ∷ b ∷ l) = refl
 
 -- the sum of the words from byte i on, of n bytes
-abbrev pub restFrom : ℕ → ℕ → List ℕ → ℕ
-restFrom n i b = totalOf (wordsOf (drop i (take n b)))
+abbrev pub sumFrom : ℕ → ℕ → List ℕ → ℕ
+sumFrom n i b = totalOf (wordsOf (drop i (take n b)))
 
 module _ (n : ℕ) (b : List ℕ) (i : ℕ) where
-  pub rest-step : i + 1 < n → restFrom n i b ≡ getD b i 0 + 256 * getD b (i + 1) 0 + restFrom n (i + 2) b
+  pub rest-step : i + 1 < n → sumFrom n i b ≡ getD b i 0 + 256 * getD b (i + 1) 0 + sumFrom n (i + 2) b
   rest-step h =
       let t = take n b in
       let low : getD (drop i t) 0 0 ≡ getD b i 0 =
@@ -28,5 +28,5 @@ module _ (n : ℕ) (b : List ℕ) (i : ℕ) where
       let high : getD (drop i t) 1 0 ≡ getD b (i + 1) 0 = getD-drop i t 1 0 ∙ getD-take n b (i + 1) 0 h in
       total-next (drop i t) ∙ rw (low, high, drop-drop 2 i t)
 
-  pub rest-end : n ≤ i → restFrom n i b ≡ 0
+  pub rest-end : n ≤ i → sumFrom n i b ≡ 0
   rest-end h = rw (drop-of-length-le (take n b) {i = i} (omega (arith, length-take n b)))

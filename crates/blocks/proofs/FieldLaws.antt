@@ -9,7 +9,7 @@ use lib.Seq.{take-at, drop-at, take-add, drop-drop, length-take-le}
 use Rattle.lists.specs.Lists.{numbers, totalOf}
 use Rattle.lists.specs.Every.{Each}
 use Rattle.lists.proofs.PlaceLaws.{numbers-length, read-at}
-use Rattle.blocks.specs.Bytes.{Field, field, bytesOf, wholeOf, at, wholesAt, fieldsOf, asBytes, Bytes, fieldsIn, widthsOf, Holds}
+use Rattle.blocks.specs.Bytes.{Field, field, bytesOf, wholeOf, wholeAt, wholesAt, fieldsOf, asBytes, Bytes, fieldsIn, widthsOf, Holds}
 use Rattle.blocks.proofs.ByteLaws.{length-bytes, whole-bytes, bytes-whole, bytes-drop, bytes-take}
 
 -- what was written is read, whatever stands behind it
@@ -44,16 +44,11 @@ written-read (w ∷ ws) l h e =
 
 -- ---- fields behind fields
 
-pub bytes-append : (fs gs : List Field) → asBytes (fs ++ gs) ≡ asBytes fs ++ asBytes gs
-bytes-append [] gs = refl
-bytes-append (f ∷ fs) gs =
-    ap (λ (l : List ℕ). bytesOf (f .width) (f .value) ++ l) (bytes-append fs gs)
+pub fields-append : (fs gs : List Field) → asBytes (fs ++ gs) ≡ asBytes fs ++ asBytes gs
+fields-append [] gs = refl
+fields-append (f ∷ fs) gs =
+    ap (λ (l : List ℕ). bytesOf (f .width) (f .value) ++ l) (fields-append fs gs)
     ∙ sym (append-assoc (bytesOf (f .width) (f .value)) (asBytes fs) (asBytes gs))
-
-pub bytes-length : (fs : List Field) → length (asBytes fs) ≡ totalOf (widthsOf fs)
-bytes-length [] = refl
-bytes-length (f ∷ fs) =
-    length-append (bytesOf (f .width) (f .value)) (asBytes fs) ∙ rw (length-bytes (f .width) (f .value), bytes-length fs)
 
 pub in-append : (ws xs l : List ℕ) → fieldsIn (ws ++ xs) l ≡ fieldsIn ws l ++ fieldsIn xs (drop (totalOf ws) l)
 in-append [] xs l = refl
@@ -88,20 +83,20 @@ module _ (w : ℕ) where
 module _ (o w n : ℕ) (l : List ℕ) where
   pub wholes-length : length (wholesAt o w n l) ≡ n
   unfolding wholesAt
-  wholes-length = length-map (numbers 0 n) (λ i. at (o + w * i) w l) ∙ numbers-length 0 n
+  wholes-length = length-map (numbers 0 n) (λ i. wholeAt (o + w * i) w l) ∙ numbers-length 0 n
 
-  pub whole-at : (i : ℕ) → i < n → getD (wholesAt o w n l) i 0 ≡ at (o + w * i) w l
+  pub whole-at : (i : ℕ) → i < n → getD (wholesAt o w n l) i 0 ≡ wholeAt (o + w * i) w l
   unfolding wholesAt
-  whole-at i h = read-at (λ k. at (o + w * k) w l) 0 n 0 i h ∙ ap (λ (k : ℕ). at (o + w * k) w l) (zero-add i)
+  whole-at i h = read-at (λ k. wholeAt (o + w * k) w l) 0 n 0 i h ∙ ap (λ (k : ℕ). wholeAt (o + w * k) w l) (zero-add i)
 
   -- n of them are the fields that stand from byte o on
   pub same-fields : fieldsIn (replicate n w) (drop o l) ≡ fieldsOf w (wholesAt o w n l)
   unfolding wholesAt
   same-fields = ap (λ (k : ℕ). fieldsIn (replicate n w) (drop k l)) (sym (ap (λ (k : ℕ). o + k) (mul-zero w) ∙ add-zero o)) ∙ from 0 n
     where
-      from : (k n : ℕ) → fieldsIn (replicate n w) (drop (o + w * k) l) ≡ fieldsOf w (map (λ i. at (o + w * i) w l) (numbers k n))
+      from : (k n : ℕ) → fieldsIn (replicate n w) (drop (o + w * k) l) ≡ fieldsOf w (map (λ i. wholeAt (o + w * i) w l) (numbers k n))
       from k zero = refl
       from k (suc n) =
           let next : o + w * k + w ≡ o + w * suc k = add-assoc o (w * k) w ∙ ap (λ (m : ℕ). o + m) (sym (mul-suc w k)) in
-          ap (λ (t : List Field). field w (at (o + w * k) w l) ∷ t)
+          ap (λ (t : List Field). field w (wholeAt (o + w * k) w l) ∷ t)
           (ap (fieldsIn (replicate n w)) (drop-drop w (o + w * k) l ∙ ap (λ (m : ℕ). drop m l) next) ∙ from (suc k) n)

@@ -8,7 +8,7 @@ use lib.Dec.{lit<}
 use lib.ListN.{length, getD, take, drop, length-take, length-drop, drop-of-length-le}
 use lib.Seq.{getD-drop, getD-take, drop-drop}
 use Rattle.lists.specs.Lists.{numbers}
-use Rattle.blocks.specs.Bytes.{wholeOf, at, wholesAt, Bytes}
+use Rattle.blocks.specs.Bytes.{wholeOf, wholeAt, wholesAt, Bytes}
 use Rattle.blocks.proofs.ByteLaws.{bytes-drop, bytes-take}
 
 whole-small : (l : List ℕ) → Bytes l → wholeOf l < 256 ^ length l
@@ -26,7 +26,7 @@ within l n h few = less (wholeOf l) (256 ^ length l) (256 ^ n) (whole-small l h)
     less : (v p q : ℕ) → v < p → p ≤ q → v < q
     less v p q h e = omega arith
 
-pub at-small : (o w : ℕ) (l : List ℕ) → Bytes l → at o w l < 256 ^ w
+pub at-small : (o w : ℕ) (l : List ℕ) → Bytes l → wholeAt o w l < 256 ^ w
 at-small o w l h = within (take w (drop o l)) w (bytes-take w (drop o l) (bytes-drop o l h)) (few w (drop o l))
   where
     few : (w : ℕ) (l : List ℕ) → length (take w l) ≤ w
@@ -36,13 +36,13 @@ pub wholes-small : (o w n : ℕ) (l : List ℕ) → Bytes l → (i : ℕ) → ge
 unfolding wholesAt
 wholes-small o w n l h = from 0 n
   where
-    from : (k n i : ℕ) → getD (map (λ j. at (o + w * j) w l) (numbers k n)) i 0 < 256 ^ w
+    from : (k n i : ℕ) → getD (map (λ j. wholeAt (o + w * j) w l) (numbers k n)) i 0 < 256 ^ w
     from k zero i = pow-le-pow-right (lit< tt) {i = 0} {j = w} zero-le
     from k (suc n) zero = at-small (o + w * k) w l h
     from k (suc n) (suc i) = from (suc k) n i
 
 -- a number of one byte is that byte
-pub at-byte : (o : ℕ) (l : List ℕ) → at o 1 l ≡ getD l o 0
+pub at-byte : (o : ℕ) (l : List ℕ) → wholeAt o 1 l ≡ getD l o 0
 at-byte o l = one (drop o l) ∙ getD-drop o l 0 0 ∙ ap (λ (k : ℕ). getD l k 0) (add-zero o)
   where
     one : (l : List ℕ) → wholeOf (take 1 l) ≡ getD l 0 0
@@ -60,32 +60,32 @@ whole-next [] = refl
 whole-next (b ∷ l) = refl
 
 -- the number of the bytes from place `left` on, of `width` bytes from `start` on
-abbrev pub behind : List ℕ → ℕ → ℕ → ℕ → ℕ
-behind b start width left = wholeOf (drop left (take width (drop start b)))
+abbrev pub numberFrom : List ℕ → ℕ → ℕ → ℕ → ℕ
+numberFrom b start width left = wholeOf (drop left (take width (drop start b)))
 
 module _ (b : List ℕ) (start width left : ℕ) where
   abbrev here : List ℕ
   here = take width (drop start b)
 
-  pub get-none : width ≤ left → 0 ≡ behind b start width left
+  pub get-none : width ≤ left → 0 ≡ numberFrom b start width left
   get-none h = rw (drop-of-length-le here {i = left} (omega (arith, length-take width (drop start b))))
 
   -- one byte more
-  pub get-step : left < width → behind b start width (left + 1) * 256 + getD b (start + left) 0 ≡ behind b start width left
+  pub get-step : left < width → numberFrom b start width (left + 1) * 256 + getD b (start + left) 0 ≡ numberFrom b start width left
   get-step h =
       let byte : getD (drop left here) 0 0 ≡ getD b (start + left) 0 =
       getD-drop left here 0 0
       ∙ ap (λ (k : ℕ). getD here k 0) (add-zero left)
       ∙ getD-take width (drop start b) left 0 h
       ∙ getD-drop start b left 0 in
-      let others = behind b start width (left + 1) in
+      let others = numberFrom b start width (left + 1) in
       sym (whole-next (drop left here) ∙ rw (byte, drop-drop 1 left here) (turned others (getD b (start + left) 0)))
     where
       turned : (v x : ℕ) → x + 256 * v ≡ v * 256 + x
       turned v x = omega arith
 
   -- of at most eight bytes, all but the first
-  pub get-small : Bytes b → width ≤ 8 → 0 < left → behind b start width left < 256 ^ 7
+  pub get-small : Bytes b → width ≤ 8 → 0 < left → numberFrom b start width left < 256 ^ 7
   get-small h few some =
       within (drop left here) 7 (bytes-drop left here (bytes-take width (drop start b) (bytes-drop start b h)))
       (omega (arith, length-drop left here, length-take width (drop start b)))

@@ -9,16 +9,16 @@ use lib.Dec.{ltb, eqb}
 use lib.ListN.{length, getD, take, drop, length-take, List·getD-eq-default}
 use lib.Seq.{ext-getD, getD-take, getD-drop}
 use Rattle.lists.specs.Lists.{totalOf}
-use Rattle.blocks.specs.Bytes.{wholeOf, at, Bytes}
+use Rattle.blocks.specs.Bytes.{wholeOf, wholeAt, Bytes}
 use Rattle.blocks.specs.Check.{wordsOf, checkOf}
 use Rattle.blocks.proofs.WordLaws.{length-words, word-at, but-one}
 
 -- behind n words stands their check
 abbrev pub Checked : ℕ → List ℕ → Type 0
-Checked n l = at (2 * n) 2 l ≡ checkOf (take (2 * n) l)
+Checked n l = wholeAt (2 * n) 2 l ≡ checkOf (take (2 * n) l)
 
 -- the word at place j
-abbrev pub word : ℕ → List ℕ → ℕ
+abbrev word : ℕ → List ℕ → ℕ
 word j l = getD l (2 * j) 0 + 256 * getD l (2 * j + 1) 0
 
 two-bytes : (l : List ℕ) → wholeOf (take 2 l) ≡ getD l 0 0 + 256 * getD l 1 0
@@ -30,7 +30,7 @@ two-bytes (a ∷ b ∷ l) = whole a b
     whole a b = omega arith
 
 -- is the number of its two bytes
-pub word-is : (n : ℕ) (l : List ℕ) → at (2 * n) 2 l ≡ word n l
+pub word-is : (n : ℕ) (l : List ℕ) → wholeAt (2 * n) 2 l ≡ word n l
 word-is n l =
     two-bytes (drop (2 * n) l)
     ∙ ap (λ (x : ℕ). x + 256 * getD (drop (2 * n) l) 1 0) (getD-drop (2 * n) l 0 0 ∙ ap (λ (i : ℕ). getD l i 0) (plain (2 * n)))
@@ -39,7 +39,7 @@ word-is n l =
     plain : (i : ℕ) → i + 0 ≡ i
     plain i = omega arith
 
-pub take-agree : (n : ℕ) (b c : List ℕ) (i : ℕ) → getD b i 0 ≡ getD c i 0 → getD (take n b) i 0 ≡ getD (take n c) i 0
+take-agree : (n : ℕ) (b c : List ℕ) (i : ℕ) → getD b i 0 ≡ getD c i 0 → getD (take n b) i 0 ≡ getD (take n c) i 0
 take-agree n b c i h = go (ltb i n) refl
   where
     beyond : (l : List ℕ) → n ≤ i → getD (take n l) i 0 ≡ 0
@@ -70,7 +70,7 @@ module _ (n k : ℕ) (b c : List ℕ) (lb : length b ≡ 2 * n + 2) (lc : length
   inner-word : (l : List ℕ) → k < n → getD (wordsOf (inner l)) k 0 ≡ word k l
   inner-word l e = word-at (inner l) k ∙ rw (getD-take (2 * n) l (2 * k) 0 (omega arith), getD-take (2 * n) l (2 * k + 1) 0 (omega arith))
 
-  pub word-sums : k < n → totalOf (wordsOf (inner b)) + word k c ≡ totalOf (wordsOf (inner c)) + word k b
+  word-sums : k < n → totalOf (wordsOf (inner b)) + word k c ≡ totalOf (wordsOf (inner c)) + word k b
   word-sums e =
       let same-length = length-words (inner b) ∙ rw (inner-length b lb, inner-length c lc) refl ∙ sym (length-words (inner c)) in
       let byte : (i : ℕ) → (i / 2 ≡ k → ⊥) → getD (inner b) i 0 ≡ getD (inner c) i 0 = λ i z. take-agree (2 * n) b c i (agree i z) in

@@ -76,7 +76,7 @@ module _ (b : List ℕ) (from to : ℕ) where
 
 -- ---- of numbers that are zero
 
-pub bytes-of-zero : (w : ℕ) → every isZero (bytesOf w 0) ≡ true
+bytes-of-zero : (w : ℕ) → every isZero (bytesOf w 0) ≡ true
 bytes-of-zero zero = refl
 bytes-of-zero (suc w) = bytes-of-zero w
 

@@ -21,12 +21,12 @@ wholeOf [] = 0
 wholeOf (b ∷ l) = b + 256 * wholeOf l
 
 -- B2: the number in the w bytes from byte o on; a byte that is not there counts as 0
-abbrev pub at : ℕ → ℕ → List ℕ → ℕ
-at o w l = wholeOf (take w (drop o l))
+abbrev pub wholeAt : ℕ → ℕ → List ℕ → ℕ
+wholeAt o w l = wholeOf (take w (drop o l))
 
 -- B2: n numbers of w bytes each, from byte o on
 unfoldable pub wholesAt : ℕ → ℕ → ℕ → List ℕ → List ℕ
-wholesAt o w n l = map (λ i. at (o + w * i) w l) (numbers 0 n)
+wholesAt o w n l = map (λ i. wholeAt (o + w * i) w l) (numbers 0 n)
 
 -- B5: the bytes from `from` to before `to` are zero
 abbrev pub zeroIn : ℕ → ℕ → List ℕ → Bool

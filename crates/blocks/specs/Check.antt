@@ -5,7 +5,7 @@ use mathlib.Core.List.{List, [], _∷_}
 use lib.Dec.{eqb}
 use lib.ListN.{take}
 use Rattle.lists.specs.Lists.{totalOf}
-use Rattle.blocks.specs.Bytes.{at}
+use Rattle.blocks.specs.Bytes.{wholeAt}
 
 -- B3: the 16-bit words of bytes, the lower byte first; a last byte that stands alone is one
 abbrev pub wordsOf : List ℕ → List ℕ
@@ -19,4 +19,4 @@ checkOf l = (65535 + totalOf (wordsOf l)) % 65536
 
 -- B3: the last two bytes of a block are the check of the 255 words before them
 unfoldable pub checkRight : List ℕ → Bool
-checkRight b = eqb (at 510 2 b) (checkOf (take 510 b))
+checkRight b = eqb (wholeAt 510 2 b) (checkOf (take 510 b))

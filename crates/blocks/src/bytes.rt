@@ -3,14 +3,16 @@ ghost use mathlib.Core.Path.{_≡_};
 ghost use Prim.Native.Nat.{_%_, min};
 ghost use lib.ListN.{getD, set};
 ghost use lib.Seq.{sets};
-ghost use Rattle.blocks.specs.Bytes.{bytesOf, at, zeroIn};
+ghost use Rattle.blocks.specs.Bytes.{bytesOf, wholeAt, zeroIn};
 
+// The lowest byte of a number.
 fn low(v: u64) -> u8
     ensures { λ r. ⌜ r ≡ v % 256 ⌝ }
 {
     (v % 256) as u8
 }
 
+// Sets a byte, if there is such a place.
 fn set_byte(b: &mut [u8], i: usize, x: u8)
     ensures { λ _. ⌜ now (b .exit) ≡ set (now (b .entry)) i x ⌝ }
 {
@@ -44,6 +46,7 @@ pub(crate) fn byte_at(b: &[u8], i: usize) -> u8
     0
 }
 
+// A u64 has room for eight bytes.
 fn few(width: u8) -> usize
     ensures { λ r. ⌜ r ≡ min width 8 ⌝ }
 {
@@ -55,7 +58,7 @@ fn few(width: u8) -> usize
 
 // The number in `width` bytes from a place on, of more than eight in the first eight; a byte that is not there counts as 0.
 pub fn get(b: &[u8], start: u16, width: u8) -> u64
-    ensures { λ r. ⌜ r ≡ at start (min width 8) (now (b .entry)) ⌝ }
+    ensures { λ r. ⌜ r ≡ wholeAt start (min width 8) (now (b .entry)) ⌝ }
 {
     let from = start as usize;
     let mut left = few(width);

@@ -1,7 +1,7 @@
 -- The counts of alleles, their total, and which alleles are somatic. Definitions only (RULES.md, L1, L2, M1).
 use Prim.Native.Nat.{ℕ, _+_}
 use mathlib.Core.Bool.{Bool, not, _&&_, _||_, cond}
-use mathlib.Core.List.{List, [], _∷_}
+use mathlib.Core.List.{List}
 use lib.Dec.{leb, ltb, eqb}
 use lib.ListN.{length, getD}
 use Rattle.limits.specs.Limits.{countsAllowed}

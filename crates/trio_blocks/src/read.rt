@@ -47,6 +47,7 @@ fn numbers_in(b: &[u8]) -> [u64; 39]
     numbers
 }
 
+// Both tests, each worked out: a function of several has one return then.
 fn both(x: bool, y: bool) -> bool
     ensures { λ r. ⌜ r ≡ («x» && «y») ⌝ }
 {

@@ -9,7 +9,7 @@ use mathlib.Mathlib.Data.Bool.Basic.{and-elim-left, and-elim-right, and-intro}
 use borrow.Author.Tests.{eqb-true, eqb-false, eq-eqb, ne-eqb}
 use lib.Dec.{eqb}
 use lib.ListN.{length}
-use Rattle.blocks.specs.Bytes.{at, zeroIn}
+use Rattle.blocks.specs.Bytes.{wholeAt, zeroIn}
 use Rattle.blocks.specs.Check.{checkRight}
 use Rattle.blocks.proofs.GetLaws.{at-byte}
 use Rattle.blocks.proofs.ZeroLaws.{zero-exactly}
@@ -21,19 +21,20 @@ use Rattle.trio_parts.specs.declared.part.Stepped.{Stepped}
 use Rattle.trio_parts.specs.Part.{emptyPart, gives}
 use Rattle.trio_parts.specs.Sound.{soundPart}
 use Rattle.trio_blocks_form.specs.Reading.{clustersIn, heldIn, partIn, fixedRight, unusedRight, layoutRight, refuses, readOf}
-use Rattle.trio_blocks_form.specs.ReadWhen.{clusters, held, RightLayout, WellSent, ReadWhen}
+use Rattle.trio_blocks_form.specs.ReadWhen.{clusterByte, heldByte, RightLayout, WellSent, ReadWhen}
 
 module _ (b : List ℕ) where
+  -- what `readOf` gives, of its four tests
   abbrev read : (l c u s : Bool) → Stepped
   read l c u s =
       cond l (cond c (cond u (cond s (gives Done (partIn b)) (refuses BadPart)) (refuses Layout)) (refuses Check)) (refuses Block)
 
   -- ---- exactly when
 
-  clusters-are : clustersIn b ≡ clusters b
+  clusters-are : clustersIn b ≡ clusterByte b
   clusters-are = at-byte 1 b
 
-  held-are : heldIn b ≡ held b
+  held-are : heldIn b ≡ heldByte b
   held-are = at-byte 2 b
 
   layout-means : layoutRight b ≡ true → RightLayout b
@@ -41,15 +42,15 @@ module _ (b : List ℕ) where
   layout-means h =
       let fixed = and-elim-left (fixedRight b) (unusedRight b) h in
       let unused = rw (clusters-are, held-are) at (and-elim-right (fixedRight b) (unusedRight b) h) in
-      let zeros = and-elim-right (eqb (at 0 1 b) 1) (zeroIn 3 8 b && zeroIn 200 510 b) fixed in
-      let counts = zeroIn (16 + 12 * clusters b) 112 b in
-      let weights = zeroIn (112 + 8 * clusters b) 176 b in
-      let positions = zeroIn (176 + 4 * held b) 184 b in
-      let scores = zeroIn (184 + 8 * held b) 200 b in
+      let zeros = and-elim-right (eqb (wholeAt 0 1 b) 1) (zeroIn 3 8 b && zeroIn 200 510 b) fixed in
+      let counts = zeroIn (16 + 12 * clusterByte b) 112 b in
+      let weights = zeroIn (112 + 8 * clusterByte b) 176 b in
+      let positions = zeroIn (176 + 4 * heldByte b) 184 b in
+      let scores = zeroIn (184 + 8 * heldByte b) 200 b in
       let behind-counts = and-elim-right counts (weights && (positions && scores)) unused in
       let entries = and-elim-right weights (positions && scores) behind-counts in
       record {
-        form = sym (at-byte 0 b) ∙ eqb-true (at 0 1 b) 1 (and-elim-left _ _ fixed);
+        form = sym (at-byte 0 b) ∙ eqb-true (wholeAt 0 1 b) 1 (and-elim-left _ _ fixed);
         behind-held = zero-exactly b 3 8 .0 (and-elim-left (zeroIn 3 8 b) (zeroIn 200 510 b) zeros);
         behind-scores = zero-exactly b 200 510 .0 (and-elim-right (zeroIn 3 8 b) (zeroIn 200 510 b) zeros);
         counts-unused = zero-exactly b _ 112 .0 (and-elim-left counts (weights && (positions && scores)) unused);
@@ -61,13 +62,13 @@ module _ (b : List ℕ) where
   means-layout : RightLayout b → layoutRight b ≡ true
   unfolding fixedRight unusedRight
   means-layout r =
-      let form = eq-eqb (at 0 1 b) 1 (at-byte 0 b ∙ r .form) in
+      let form = eq-eqb (wholeAt 0 1 b) 1 (at-byte 0 b ∙ r .form) in
       let five = zero-exactly b 3 8 .1 (r .behind-held) in
       let rest = zero-exactly b 200 510 .1 (r .behind-scores) in
-      let counts = zero-exactly b (16 + 12 * clusters b) 112 .1 (r .counts-unused) in
-      let weights = zero-exactly b (112 + 8 * clusters b) 176 .1 (r .weights-unused) in
-      let positions = zero-exactly b (176 + 4 * held b) 184 .1 (r .positions-unused) in
-      let scores = zero-exactly b (184 + 8 * held b) 200 .1 (r .scores-unused) in
+      let counts = zero-exactly b (16 + 12 * clusterByte b) 112 .1 (r .counts-unused) in
+      let weights = zero-exactly b (112 + 8 * clusterByte b) 176 .1 (r .weights-unused) in
+      let positions = zero-exactly b (176 + 4 * heldByte b) 184 .1 (r .positions-unused) in
+      let scores = zero-exactly b (184 + 8 * heldByte b) 200 .1 (r .scores-unused) in
       rw (clusters-are, held-are)
       (and-intro (and-intro form (and-intro five rest)) (and-intro counts (and-intro weights (and-intro positions scores))))
 

@@ -5,7 +5,7 @@ use mathlib.Core.List.{List}
 use mathlib.Core.Path.{_≡_, refl}
 use borrow.Author.Tests.{eqb-true, eq-eqb}
 use lib.ListN.{length, take}
-use Rattle.blocks.specs.Bytes.{at, BlockBytes}
+use Rattle.blocks.specs.Bytes.{wholeAt, BlockBytes}
 use Rattle.blocks.specs.Check.{checkOf, checkRight}
 use Rattle.blocks.proofs.OneWord.{Checked, one-word}
 use Rattle.refusals.specs.declared.Refusal.the-variants.{Check}
@@ -19,9 +19,9 @@ use Rattle.trio_blocks_form.proofs.RoundTrip.{block-bytes, block-checke
 
 right-checked : (b : List ℕ) → checkRight b ≡ true → Checked 255 b
 unfolding checkRight
-right-checked b e = eqb-true (at 510 2 b) (checkOf (take 510 b)) e
+right-checked b e = eqb-true (wholeAt 510 2 b) (checkOf (take 510 b)) e
 
-only-false : (t : Bool) → (t ≡ true → ⊥) → t ≡ false
+pub only-false : (t : Bool) → (t ≡ true → ⊥) → t ≡ false
 only-false true h = absurd (h refl)
 only-false false h = refl
 

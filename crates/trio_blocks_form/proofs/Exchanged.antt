@@ -3,14 +3,13 @@ use Prim.Native.Nat.{ℕ, _+_, _*_, _≤_, _<_}
 use mathlib.Core.Bool.{Bool, true, false}
 use mathlib.Core.List.{List}
 use mathlib.Core.Logic.{_≢_}
-use mathlib.Core.Path.{_≡_, refl, sym, ap, _∙_}
+use mathlib.Core.Path.{_≡_, refl, sym, _∙_}
 use native.Mathlib.Omega.{arith}
 use borrow.Author.Tests.{ltb-true, ltb-false, eqb-true, eq-eqb}
 use lib.Dec.{ltb}
 use lib.ListN.{length, getD, take, length-take, List·getD-eq-default}
 use lib.Seq.{getD-take}
-use Rattle.lists.specs.Lists.{totalOf}
-use Rattle.blocks.specs.Bytes.{at}
+use Rattle.blocks.specs.Bytes.{wholeAt}
 use Rattle.blocks.specs.Check.{wordsOf, checkOf, checkRight}
 use Rattle.blocks.proofs.WordLaws.{length-words, word-at, same-total}
 use Rattle.blocks.proofs.OneWord.{word-is}
@@ -43,8 +42,8 @@ exchanged-checked b c j k lb lc hj hk apart change right =
     let inside : j < length (words b) = omega (arith, many b lb) in
     let sums = same-total j k (words b) (words c) long inside apart first second (λ i zj zk. others i zj zk (ltb i 255) refl) in
     let last = change .others 255 (λ z. omega arith) (λ z. omega arith) in
-    let stands = eqb-true (at 510 2 b) (checkOf (take 510 b)) right in
-    eq-eqb (at 510 2 c) (checkOf (take 510 c)) (last ∙ stands ∙ rw sums)
+    let stands = eqb-true (wholeAt 510 2 b) (checkOf (take 510 b)) right in
+    eq-eqb (wholeAt 510 2 c) (checkOf (take 510 c)) (last ∙ stands ∙ rw sums)
   where
     others : (i : ℕ) → i ≢ j → i ≢ k → (t : Bool) → ltb i 255 ≡ t → getD (words c) i 0 ≡ getD (words b) i 0
     others i zj zk true e =

@@ -1,13 +1,13 @@
 -- Each number of a sound part fits its field. Assumes nothing.
 use Prim.Native.Nat.{ℕ, zero, suc, _*_, _/_, _^_, _≤_, _<_, suc-le-suc, zero-le}
-use mathlib.Core.Bool.{Bool, true, false, not, cond}
+use mathlib.Core.Bool.{true, not}
 use mathlib.Core.List.{List, [], _∷_, _++_}
-use mathlib.Core.Path.{_≡_, refl, sym, subst}
+use mathlib.Core.Path.{_≡_}
 use mathlib.Mathlib.Data.Bool.Basic.{and-elim-left, and-elim-right}
 use native.Mathlib.Nat.{div-lt-iff-lt-mul, mul-le-mul, pow-le-pow-right, le-trans, lt-of-lt-of-le, not-suc-le-zero}
 use native.Mathlib.Omega.{arith}
-use borrow.Author.Tests.{leb-false, eqb-true}
-use lib.Dec.{T, leb, lit<, lit≤}
+use borrow.Author.Tests.{eqb-true}
+use lib.Dec.{T, lit<, lit≤}
 use lib.Ieee.{Float, binary64, fits, isNan}
 use lib.Ieee.Bits.{toBits-lt}
 use lib.Ieee.Fits.{and-l, and-r}
@@ -19,25 +19,18 @@ use Rattle.limits.specs.Limits.{allFit}
 use Rattle.trio_entries.specs.declared.entry.Entry.{Entry}
 use Rattle.trio_entries.specs.Held.{entriesUsed}
 use Rattle.trio_family.proofs.GenotypesLaws.{genotypes-few}
-use Rattle.trio_search.specs.Shape.{isNoEntry, unusedZero, scoredInMarked, listRight, markedPositions}
+use Rattle.trio_search.specs.Shape.{isNoEntry, unusedZero, scoredInMarked, listRight}
 use Rattle.trio_search.proofs.MarksLaws.{unmarked-above}
 use Rattle.trio_parts.specs.declared.part.Part.{Part}
 use Rattle.trio_parts.specs.Part.{rowCount}
 use Rattle.trio_parts.specs.Typed.{TypedPart}
 use Rattle.trio_blocks_form.specs.Writing.{bitsOf, headOf, tailOf, layoutOf}
-use Rattle.trio_blocks_form.proofs.Shape.{RightShape}
+use Rattle.trio_blocks_form.proofs.Shape.{RightShape, held-at-most}
 
 bits-small : (l : List Float) → T (allFit l) → (i : ℕ) → getD (bitsOf l) i 0 < 256 ^ 8
 bits-small [] h i = lit< tt
 bits-small (x ∷ l) h zero = toBits-lt binary64 x (and-l (fits binary64 x) (allFit l) h)
 bits-small (x ∷ l) h (suc i) = bits-small l (and-r (fits binary64 x) (allFit l) h) i
-
-held-few : (b : Bool) (n : ℕ) → leb 2 n ≡ b → cond b 2 n < 256
-held-few true n e = lit< tt
-held-few false n e = few n (leb-false 2 n e)
-  where
-    few : (n : ℕ) → n < 2 → n < 256
-    few n h = omega arith
 
 -- ---- positions
 
@@ -76,8 +69,7 @@ unfolding layoutOf
 layout-holds p is right =
     let rows = genotypes-few (p .clusters) (right .few) in
     let clusters : p .clusters < 256 = omega (arith, right .few) in
-    let held : p .held .count < 256 =
-    subst (λ (n : ℕ). n < 256) (sym (right .held)) (held-few (leb 2 (markedPositions (rowCount p) (p .marks))) _ refl) in
+    let held : p .held .count < 256 = omega (arith, right .held, held-at-most (rowCount p) (p .marks)) in
     let marks = lt-of-lt-of-le (right .marks) (pow-le-pow-right (lit< tt) {j = 64} (le-trans rows (lit≤ tt))) in
     let positions = position-small (rowCount p) (p .marks) rows (right .marks) (p .held .count) (p .held .first) (p .held .second)
     (right .unused) (right .listed) in

@@ -8,34 +8,34 @@ use lib.ListN.{length, take, drop, replicate, length-append, length-drop, length
 use lib.Seq.{sets, sets-eq, take-at, drop-at, drop-drop, length-take-le}
 use Rattle.blocks.specs.Bytes.{field, bytesOf, fieldsOf, asBytes}
 use Rattle.blocks.specs.Check.{checkOf}
-use Rattle.blocks.proofs.FieldLaws.{bytes-append, same-length}
+use Rattle.blocks.proofs.FieldLaws.{fields-append, same-length}
 use Rattle.trio_blocks_form.specs.Inner.{run, headBy, layoutBy}
 
-abbrev pub zeros : ℕ → List ℕ
-zeros n = replicate n 0
+abbrev pub zeroBytes : ℕ → List ℕ
+zeroBytes n = replicate n 0
 
-drop-zeros : (m n : ℕ) → drop m (zeros n) ≡ zeros (n - m)
-drop-zeros zero n = ap zeros (all n)
+drop-zeros : (m n : ℕ) → drop m (zeroBytes n) ≡ zeroBytes (n - m)
+drop-zeros zero n = ap zeroBytes (all n)
   where
     all : (n : ℕ) → n ≡ n - 0
     all n = omega arith
-drop-zeros (suc m) zero = ap zeros (none m)
+drop-zeros (suc m) zero = ap zeroBytes (none m)
   where
     none : (m : ℕ) → 0 ≡ 0 - suc m
     none m = omega arith
-drop-zeros (suc m) (suc n) = drop-zeros m n ∙ ap zeros (less n m)
+drop-zeros (suc m) (suc n) = drop-zeros m n ∙ ap zeroBytes (less n m)
   where
     less : (n m : ℕ) → n - m ≡ suc n - suc m
     less n m = omega arith
 
 -- a run of k bytes, stored where the zeros begin
 run-behind : (front l : List ℕ) (o k n : ℕ) → length front ≡ o → length l ≡ k → k ≤ n
-    → sets (front ++ zeros n) o l ≡ (front ++ l) ++ zeros (n - k)
+    → sets (front ++ zeroBytes n) o l ≡ (front ++ l) ++ zeroBytes (n - k)
 run-behind front l o k n ef el h =
-    let all = front ++ zeros n in
-    let long : length all ≡ o + n = length-append front (zeros n) ∙ rw (ef, length-replicate {A = ℕ} n 0) in
-    let rest : drop (o + k) all ≡ zeros (n - k) = sym (drop-drop k o all) ∙ ap (drop k) (drop-at front (zeros n) o ef) ∙ drop-zeros k n in
-    sets-eq l all o (omega arith) ∙ rw (take-at front (zeros n) o ef, el, rest)
+    let all = front ++ zeroBytes n in
+    let long : length all ≡ o + n = length-append front (zeroBytes n) ∙ rw (ef, length-replicate {A = ℕ} n 0) in
+    let rest : drop (o + k) all ≡ zeroBytes (n - k) = sym (drop-drop k o all) ∙ ap (drop k) (drop-at front (zeroBytes n) o ef) ∙ drop-zeros k n in
+    sets-eq l all o (omega arith) ∙ rw (take-at front (zeroBytes n) o ef, el, rest)
 
 module _ (n : List ℕ) (long : length n ≡ 39) where
   abbrev head : List ℕ
@@ -87,15 +87,15 @@ module _ (n : List ℕ) (long : length n ≡ 39) where
       let c = fieldsOf 4 (run 3 2 n) in
       let b = fieldsOf 8 (run 31 8 n) in
       let a = fieldsOf 4 (run 7 24 n) in
-      bytes-append (headBy n) (a ++ (b ++ (c ++ (d ++ e))))
-      ∙ ap (λ (l : List ℕ). head ++ l) (bytes-append a (b ++ (c ++ (d ++ e)))
-      ∙ ap (λ (l : List ℕ). counts ++ l) (bytes-append b (c ++ (d ++ e))
-      ∙ ap (λ (l : List ℕ). weights ++ l) (bytes-append c (d ++ e)
-      ∙ ap (λ (l : List ℕ). positions ++ l) (bytes-append d e ∙ ap (λ (l : List ℕ). scores ++ l) (append-nil (bytesOf 310 0))))))
+      fields-append (headBy n) (a ++ (b ++ (c ++ (d ++ e))))
+      ∙ ap (λ (l : List ℕ). head ++ l) (fields-append a (b ++ (c ++ (d ++ e)))
+      ∙ ap (λ (l : List ℕ). counts ++ l) (fields-append b (c ++ (d ++ e))
+      ∙ ap (λ (l : List ℕ). weights ++ l) (fields-append c (d ++ e)
+      ∙ ap (λ (l : List ℕ). positions ++ l) (fields-append d e ∙ ap (λ (l : List ℕ). scores ++ l) (append-nil (bytesOf 310 0))))))
 
-  pub laid : sets (sets (sets (sets (head ++ zeros 496) 16 counts) 112 weights) 176 positions) 184 scores
+  pub stored-behind-head : sets (sets (sets (sets (head ++ zeroBytes 496) 16 counts) 112 weights) 176 positions) 184 scores
       ≡ asBytes (layoutBy n) ++ (0 ∷ 0 ∷ [])
-  laid =
+  stored-behind-head =
       rw (
         run-behind head counts 16 96 496 refl many-counts (omega arith),
         run-behind (head ++ counts) weights 112 64 400 to-counts many-weights (omega arith),
@@ -121,13 +121,13 @@ module _ (n : List ℕ) (long : length n ≡ 39) where
 
 -- the check in its place
 pub checked : (body : List ℕ) → length body ≡ 510
-    → sets (body ++ zeros 2) 510 (bytesOf 2 (checkOf (take 510 (body ++ zeros 2)))) ≡ body ++ bytesOf 2 (checkOf body)
+    → sets (body ++ zeroBytes 2) 510 (bytesOf 2 (checkOf (take 510 (body ++ zeroBytes 2)))) ≡ body ++ bytesOf 2 (checkOf body)
 checked body n =
     let check = bytesOf 2 (checkOf body) in
-    let long : length (body ++ zeros 2) ≡ 512 = length-append body (zeros 2) ∙ rw n in
-    let before : take 510 (body ++ zeros 2) ≡ body = take-at body (zeros 2) 510 n in
-    ap (λ (l : List ℕ). sets (body ++ zeros 2) 510 (bytesOf 2 (checkOf l))) before
-    ∙ sets-eq check (body ++ zeros 2) 510 (le-of-eq (sym long))
-    ∙ ap (λ (l : List ℕ). l ++ check ++ drop 512 (body ++ zeros 2)) before
-    ∙ ap (λ (l : List ℕ). body ++ check ++ l) (drop-of-length-le (body ++ zeros 2) (le-of-eq long))
+    let long : length (body ++ zeroBytes 2) ≡ 512 = length-append body (zeroBytes 2) ∙ rw n in
+    let before : take 510 (body ++ zeroBytes 2) ≡ body = take-at body (zeroBytes 2) 510 n in
+    ap (λ (l : List ℕ). sets (body ++ zeroBytes 2) 510 (bytesOf 2 (checkOf l))) before
+    ∙ sets-eq check (body ++ zeroBytes 2) 510 (le-of-eq (sym long))
+    ∙ ap (λ (l : List ℕ). l ++ check ++ drop 512 (body ++ zeroBytes 2)) before
+    ∙ ap (λ (l : List ℕ). body ++ check ++ l) (drop-of-length-le (body ++ zeroBytes 2) (le-of-eq long))
     ∙ append-nil (body ++ check)

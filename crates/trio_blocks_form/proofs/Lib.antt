@@ -11,3 +11,4 @@ pub mod Accepted
 pub mod OneBlock
 pub mod Changed
 pub mod Exchanged
+pub mod Refused

@@ -9,7 +9,7 @@ use borrow.Author.Tests.{eqb-true}
 use lib.Dec.{eqb}
 use lib.ListN.{length, take, drop, length-drop, take-append-drop}
 use lib.Seq.{take-all}
-use Rattle.blocks.specs.Bytes.{field, bytesOf, wholeOf, at, wholesAt, zeroIn, fieldsOf, asBytes, BlockBytes}
+use Rattle.blocks.specs.Bytes.{field, bytesOf, wholeOf, wholeAt, wholesAt, zeroIn, fieldsOf, asBytes, BlockBytes}
 use Rattle.blocks.specs.Check.{checkOf, checkRight}
 use Rattle.blocks.proofs.ByteLaws.{bytes-whole, bytes-drop}
 use Rattle.blocks.proofs.FieldLaws.{written-read}
@@ -30,7 +30,7 @@ use Rattle.trio_blocks_form.proofs.Accepted.{accepted}
 
 -- ---- the fields of what stands in a block are those that stand there
 
-zero-at : (o w : ℕ) (b : List ℕ) → zeroIn o (o + w) b ≡ true → at o w b ≡ 0
+zero-at : (o w : ℕ) (b : List ℕ) → zeroIn o (o + w) b ≡ true → wholeAt o w b ≡ 0
 zero-at o w b h = zeros-whole (take w (drop o b)) (rw (drop-take o w b) at h)
 
 joined : {f f′ z z′ e e′ : ℕ} {w w′ : List ℕ} {s s′ t t′ : ℕ} (n h m : ℕ) (c : List ℕ) (q r : ℕ)
@@ -42,20 +42,20 @@ joined : {f f′ z z′ e e′ : ℕ} {w w′ : List ℕ} {s s′ t t′ : ℕ} 
 joined n h m c q r ef ez ew es et ee = rw (ef, ez, ew, es, et, ee)
 
 module _ (b : List ℕ) (is : BlockBytes b) (fixed : fixedRight b ≡ true) (shape : RightShape (partIn b)) where
-  form : at 0 1 b ≡ 1
+  form : wholeAt 0 1 b ≡ 1
   unfolding fixedRight
-  form = eqb-true (at 0 1 b) 1 (and-elim-left _ _ fixed)
+  form = eqb-true (wholeAt 0 1 b) 1 (and-elim-left _ _ fixed)
 
-  first-zeros : at 3 5 b ≡ 0
+  first-zeros : wholeAt 3 5 b ≡ 0
   unfolding fixedRight
   first-zeros =
-      let zeros = and-elim-left (zeroIn 3 8 b) (zeroIn 200 510 b) (and-elim-right (eqb (at 0 1 b) 1) _ fixed) in
+      let zeros = and-elim-left (zeroIn 3 8 b) (zeroIn 200 510 b) (and-elim-right (eqb (wholeAt 0 1 b) 1) _ fixed) in
       zero-at 3 5 b zeros
 
-  last-zeros : at 200 310 b ≡ 0
+  last-zeros : wholeAt 200 310 b ≡ 0
   unfolding fixedRight
   last-zeros =
-      let zeros = and-elim-right (zeroIn 3 8 b) (zeroIn 200 510 b) (and-elim-right (eqb (at 0 1 b) 1) _ fixed) in
+      let zeros = and-elim-right (zeroIn 3 8 b) (zeroIn 200 510 b) (and-elim-right (eqb (wholeAt 0 1 b) 1) _ fixed) in
       zero-at 200 310 b zeros
 
   layout-same : layoutOf (partIn b) ≡ layoutAt b
@@ -63,11 +63,11 @@ module _ (b : List ℕ) (is : BlockBytes b) (fixed : fixedRight b ≡ true) (sha
   layout-same =
       let held = partIn b .held in
       let rows = rowCount (partIn b) in
-      let numbers = score-numbers rows (at 8 8 b) (at 2 1 b) (held .first) (held .second) (shape .unused) (shape .listed) in
-      let weights = weights-back (at 1 1 b) (wholesAt 112 8 8 b) (wholes-small 112 8 8 b (is .bytes)) (shape .weights) in
-      let first = bits-back (at 184 8 b) (at-small 184 8 b (is .bytes)) (numbers .0) in
-      let second = bits-back (at 192 8 b) (at-small 192 8 b (is .bytes)) (numbers .1) in
-      joined (at 1 1 b) (at 2 1 b) (at 8 8 b) (wholesAt 16 4 24 b) (at 176 4 b) (at 180 4 b)
+      let numbers = score-numbers rows (wholeAt 8 8 b) (wholeAt 2 1 b) (held .first) (held .second) (shape .unused) (shape .listed) in
+      let weights = weights-back (wholeAt 1 1 b) (wholesAt 112 8 8 b) (wholes-small 112 8 8 b (is .bytes)) (shape .weights) in
+      let first = bits-back (wholeAt 184 8 b) (at-small 184 8 b (is .bytes)) (numbers .0) in
+      let second = bits-back (wholeAt 192 8 b) (at-small 192 8 b (is .bytes)) (numbers .1) in
+      joined (wholeAt 1 1 b) (wholeAt 2 1 b) (wholeAt 8 8 b) (wholesAt 16 4 24 b) (wholeAt 176 4 b) (wholeAt 180 4 b)
       (sym form) (sym first-zeros) weights first second (sym last-zeros)
 
   -- ---- and so are the bytes
@@ -84,7 +84,7 @@ module _ (b : List ℕ) (is : BlockBytes b) (fixed : fixedRight b ≡ true) (sha
       let last = drop 510 b in
       let two : length last ≡ 2 = length-drop 510 b ∙ omega (arith, is .long) in
       let all : take 2 last ≡ last = take-all 2 last (omega arith) in
-      let check : checkOf (take 510 b) ≡ wholeOf last = sym (eqb-true (at 510 2 b) (checkOf (take 510 b)) right) ∙ ap wholeOf all in
+      let check : checkOf (take 510 b) ≡ wholeOf last = sym (eqb-true (wholeAt 510 2 b) (checkOf (take 510 b)) right) ∙ ap wholeOf all in
       let back : bytesOf 2 (wholeOf last) ≡ last =
       ap (λ (k : ℕ). bytesOf k (wholeOf last)) (sym two) ∙ bytes-whole last (bytes-drop 510 b (is .bytes)) in
       ap (λ (l : List ℕ). l ++ bytesOf 2 (checkOf l)) body-same

@@ -12,7 +12,7 @@ use lib.Seq.{drop-at, drop-drop, drop-nil}
 use Rattle.lists.specs.Every.{every}
 use Rattle.blocks.specs.Bytes.{bytesOf, fieldsOf, asBytes, zeroIn}
 use Rattle.blocks.specs.Check.{checkOf}
-use Rattle.blocks.proofs.FieldLaws.{bytes-append, same-length}
+use Rattle.blocks.proofs.FieldLaws.{fields-append, same-length}
 use Rattle.blocks.proofs.ZeroLaws.{zero-part}
 use Rattle.trio_entries.specs.declared.entry.Entry.{Entry}
 use Rattle.trio_search.specs.Shape.{isNoEntry, unusedZero}
@@ -39,10 +39,10 @@ module _ (p : Part) (is : TypedPart p) where
   abbrev tail : List ℕ
   tail = asBytes (tailOf p)
 
-  pub many-counts : length counts ≡ 96
+  many-counts : length counts ≡ 96
   many-counts = same-length 4 (p .counts) ∙ ap (λ (n : ℕ). 4 * n) (is .counts-24)
 
-  pub many-weights : length weights ≡ 64
+  many-weights : length weights ≡ 64
   many-weights =
       same-length 8 (bitsOf (p .weights)) ∙ ap (λ (n : ℕ). 8 * n) (length-map (p .weights) (toBits binary64) ∙ is .weights .places)
 
@@ -51,22 +51,22 @@ module _ (p : Part) (is : TypedPart p) where
   parts =
       let b = fieldsOf 8 (bitsOf (p .weights)) in
       let a = fieldsOf 4 (p .counts) in
-      bytes-append (headOf p) (a ++ (b ++ tailOf p))
+      fields-append (headOf p) (a ++ (b ++ tailOf p))
       ∙ ap (λ (l : List ℕ). asBytes (headOf p) ++ l)
-      (bytes-append a (b ++ tailOf p) ∙ ap (λ (l : List ℕ). counts ++ l) (bytes-append b (tailOf p)))
+      (fields-append a (b ++ tailOf p) ∙ ap (λ (l : List ℕ). counts ++ l) (fields-append b (tailOf p)))
 
-  pub from-16 : drop 16 (blockOf p) ≡ counts ++ (weights ++ (tail ++ check))
+  from-16 : drop 16 (blockOf p) ≡ counts ++ (weights ++ (tail ++ check))
   unfolding blockOf
   from-16 =
       ap (λ (l : List ℕ). drop 16 (l ++ check)) parts
       ∙ append-assoc counts (weights ++ tail) check
       ∙ ap (λ (l : List ℕ). counts ++ l) (append-assoc weights tail check)
 
-  pub from-112 : drop 112 (blockOf p) ≡ weights ++ (tail ++ check)
+  from-112 : drop 112 (blockOf p) ≡ weights ++ (tail ++ check)
   from-112 =
       sym (drop-drop 96 16 (blockOf p)) ∙ ap (drop 96) from-16 ∙ drop-at counts (weights ++ (tail ++ check)) 96 many-counts
 
-  pub from-176 : drop 176 (blockOf p) ≡ tail ++ check
+  from-176 : drop 176 (blockOf p) ≡ tail ++ check
   from-176 = sym (drop-drop 64 112 (blockOf p)) ∙ ap (drop 64) from-112 ∙ drop-at weights (tail ++ check) 64 many-weights
 
   abbrev positions : List ℕ

@@ -11,7 +11,7 @@ use lib.Ieee.{binary64, toBits}
 use lib.ListN.{length, getD, take, drop, length-append, length-map}
 use lib.Seq.{take-at, drop-at}
 use Rattle.lists.specs.Lists.{totalOf}
-use Rattle.blocks.specs.Bytes.{Field, bytesOf, wholeOf, at, wholesAt, fieldsOf, zeroIn, BlockBytes, fieldsIn}
+use Rattle.blocks.specs.Bytes.{Field, bytesOf, wholeOf, wholeAt, wholesAt, fieldsOf, zeroIn, BlockBytes, fieldsIn}
 use Rattle.blocks.specs.Check.{wordsOf, checkOf, checkRight}
 use Rattle.blocks.proofs.ByteLaws.{whole-bytes, bytes-append, bytes-of, bytes-fields}
 use Rattle.blocks.proofs.FieldLaws.{read-written}
@@ -60,7 +60,7 @@ module _ (p : Part) (is : TypedPart p) where
       let behind : drop 510 (blockOf p) ≡ bytesOf 2 check = drop-at (bodyOf p) (bytesOf 2 check) 510 body-510 in
       let before : take 510 (blockOf p) ≡ bodyOf p = take-at (bodyOf p) (bytesOf 2 check) 510 body-510 in
       let small = mod-lt (65535 + totalOf (wordsOf (bodyOf p))) (lit< tt) in
-      eq-eqb (at 510 2 (blockOf p)) (checkOf (take 510 (blockOf p)))
+      eq-eqb (wholeAt 510 2 (blockOf p)) (checkOf (take 510 (blockOf p)))
       (ap (λ (l : List ℕ). wholeOf (take 2 l)) behind ∙ whole-bytes 2 check small ∙ ap checkOf (sym before))
 
 -- ---- its numbers are those of the part
@@ -106,19 +106,19 @@ module _ (p : Part) (is : TypedPart p) (right : RightShape p) where
   head-back : (k : ℕ) → getD (valuesOf (layoutAt b)) k 0 ≡ getD (valuesOf (headOf p) ++ (p .counts ++ (bits ++ valuesOf (tailOf p)))) k 0
   head-back k = ap (λ (l : List ℕ). getD l k 0) values-back
 
-  form-back : at 0 1 b ≡ 1
+  form-back : wholeAt 0 1 b ≡ 1
   unfolding layoutAt
   form-back = head-back 0
 
-  clusters-back : at 1 1 b ≡ p .clusters
+  clusters-back : wholeAt 1 1 b ≡ p .clusters
   unfolding layoutAt
   clusters-back = head-back 1
 
-  held-back : at 2 1 b ≡ p .held .count
+  held-back : wholeAt 2 1 b ≡ p .held .count
   unfolding layoutAt
   held-back = head-back 2
 
-  marks-back : at 8 8 b ≡ p .marks
+  marks-back : wholeAt 8 8 b ≡ p .marks
   unfolding layoutAt
   marks-back = head-back 4
 
@@ -157,16 +157,16 @@ module _ (p : Part) (is : TypedPart p) (right : RightShape p) where
 
   fixed-back : fixedRight b ≡ true
   unfolding fixedRight
-  fixed-back = and-intro (eq-eqb (at 0 1 b) 1 form-back) (and-intro five-zero (last-zero p is))
+  fixed-back = and-intro (eq-eqb (wholeAt 0 1 b) 1 form-back) (and-intro five-zero (last-zero p is))
 
   part-back : soundPart p ≡ true → partIn b ≡ p
   part-back sound =
       sym (line-in b (block-bytes p is .bytes)) ∙ ap linePart numbers-back ∙ line-back p is (sound-true p is sound .lists)
 
 -- a sound part that the types allow comes back from its block
-pub read-back : (p : Part) → TypedPart p → soundPart p ≡ true → readOf (blockOf p) ≡ gives Done p
+pub block-read-back : (p : Part) → TypedPart p → soundPart p ≡ true → readOf (blockOf p) ≡ gives Done p
 unfolding readOf
-read-back p is sound =
+block-read-back p is sound =
     let right = right-shape p (sound-right p sound) in
     let unused = unused-zero p is right (clusters-back p is right) (held-back p is right) in
     rw (
@@ -184,4 +184,4 @@ pub round-trip : (p : Part) → TypedPart p → soundPart p ≡ true
 unfolding writtenOf
 round-trip p is sound =
     let written : writtenOf p ≡ record { refusal = Done; block = blockOf p } = rw sound in
-    (ap (λ (w : Written). w .refusal) written, ap (λ (w : Written). readOf (w .block)) written ∙ read-back p is sound)
+    (ap (λ (w : Written). w .refusal) written, ap (λ (w : Written). readOf (w .block)) written ∙ block-read-back p is sound)

@@ -1,13 +1,14 @@
 -- What the right shape of a part gives, for its block. Assumes nothing.
-use Prim.Native.Nat.{_*_, _^_, _≤_, _<_}
-use mathlib.Core.Bool.{true}
-use mathlib.Core.Path.{_≡_}
+use Prim.Native.Nat.{ℕ, _*_, _^_, _≤_, _<_}
+use mathlib.Core.Bool.{Bool, true, false, cond}
+use mathlib.Core.Path.{_≡_, refl}
 use mathlib.Mathlib.Data.Bool.Basic.{and-elim-left, and-elim-right}
-use borrow.Author.Tests.{ltb-true, eqb-true}
-use lib.Dec.{eqb, leb, ltb}
+use native.Mathlib.Omega.{arith}
+use borrow.Author.Tests.{leb-false, ltb-true, eqb-true}
+use lib.Dec.{eqb, leb, ltb, lit≤}
 use Rattle.limits.specs.Limits.{countAllowed}
 use Rattle.trio_entries.specs.Held.{heldList}
-use Rattle.trio_search.specs.Shape.{workRight, heldCount, unusedZero, listRight}
+use Rattle.trio_search.specs.Shape.{workRight, markedPositions, heldCount, unusedZero, listRight}
 use Rattle.trio_parts.specs.declared.part.Part.{Part}
 use Rattle.trio_parts.specs.Part.{rowCount, weightAllowed}
 use Rattle.trio_parts.specs.Right.{noCount, noWeight, placesRight, inputRight, rightPart}
@@ -39,3 +40,11 @@ right-shape p h =
       unused = and-elim-left (unusedZero (p .held .count) (p .held .first) (p .held .second)) _ rest;
       listed = and-elim-right (unusedZero (p .held .count) (p .held .first) (p .held .second)) _ rest;
     }
+
+-- never more than two triples
+pub held-at-most : (rows marks : ℕ) → heldCount rows marks ≤ 2
+held-at-most rows marks = go (leb 2 (markedPositions rows marks)) (markedPositions rows marks) refl
+  where
+    go : (t : Bool) (n : ℕ) → leb 2 n ≡ t → cond t 2 n ≤ 2
+    go true n e = lit≤ tt
+    go false n e = let few = leb-false 2 n e in omega arith

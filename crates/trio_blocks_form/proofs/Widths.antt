@@ -5,7 +5,7 @@ use mathlib.Core.Path.{_≡_, ap, ap₂, _∙_}
 use lib.Ieee.{binary64, toBits}
 use lib.ListN.{length, drop, replicate, length-map}
 use lib.Seq.{drop-drop}
-use Rattle.blocks.specs.Bytes.{Field, field, at, wholesAt, fieldsOf, fieldsIn, widthsOf}
+use Rattle.blocks.specs.Bytes.{Field, field, wholeAt, wholesAt, fieldsOf, fieldsIn, widthsOf}
 use Rattle.blocks.proofs.FieldLaws.{in-append, same-widths, same-fields}
 use Rattle.trio_parts.specs.declared.part.Part.{Part}
 use Rattle.trio_parts.specs.Typed.{TypedPart}
@@ -23,11 +23,11 @@ widths = headWidths ++ (replicate 24 4 ++ (replicate 8 8 ++ tailWidths))
 -- ---- the fields of these widths, where they stand
 
 abbrev headAt : List ℕ → List Field
-headAt b = field 1 (at 0 1 b) ∷ field 1 (at 1 1 b) ∷ field 1 (at 2 1 b) ∷ field 5 (at 3 5 b) ∷ field 8 (at 8 8 b) ∷ []
+headAt b = field 1 (wholeAt 0 1 b) ∷ field 1 (wholeAt 1 1 b) ∷ field 1 (wholeAt 2 1 b) ∷ field 5 (wholeAt 3 5 b) ∷ field 8 (wholeAt 8 8 b) ∷ []
 
 abbrev tailAt : List ℕ → List Field
 tailAt b =
-    field 4 (at 176 4 b) ∷ field 4 (at 180 4 b) ∷ field 8 (at 184 8 b) ∷ field 8 (at 192 8 b) ∷ field 310 (at 200 310 b) ∷ []
+    field 4 (wholeAt 176 4 b) ∷ field 4 (wholeAt 180 4 b) ∷ field 8 (wholeAt 184 8 b) ∷ field 8 (wholeAt 192 8 b) ∷ field 310 (wholeAt 200 310 b) ∷ []
 
 unfoldable pub layoutAt : List ℕ → List Field
 layoutAt b = headAt b ++ (fieldsOf 4 (wholesAt 16 4 24 b) ++ (fieldsOf 8 (wholesAt 112 8 8 b) ++ tailAt b))

@@ -4,7 +4,7 @@ use mathlib.Core.List.{List}
 use mathlib.Core.Logic.{_≢_}
 use mathlib.Core.Path.{_≡_}
 use lib.ListN.{getD}
-use Rattle.blocks.specs.Bytes.{at}
+use Rattle.blocks.specs.Bytes.{wholeAt}
 
 -- B10: c is another list of bytes than b, and only inside the 16-bit word k, which has the bytes 2·k and 2·k + 1
 pub record ChangedInside (k : ℕ) (b c : List ℕ) : Type 0 where
@@ -13,7 +13,7 @@ pub record ChangedInside (k : ℕ) (b c : List ℕ) : Type 0 where
 
 -- B3: word k
 abbrev pub wordIn : ℕ → List ℕ → ℕ
-wordIn k b = at (2 * k) 2 b
+wordIn k b = wholeAt (2 * k) 2 b
 
 -- B11: c is b with its words j and k exchanged
 pub record Exchanged (j k : ℕ) (b c : List ℕ) : Type 0 where

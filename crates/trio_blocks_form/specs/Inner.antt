@@ -3,7 +3,7 @@
 use Prim.Native.Nat.{ℕ, _+_, _*_, _≤_}
 use mathlib.Core.List.{List, [], _∷_, _++_}
 use lib.ListN.{getD, take, drop}
-use Rattle.blocks.specs.Bytes.{Field, field, at, wholesAt, fieldsOf}
+use Rattle.blocks.specs.Bytes.{Field, field, wholeAt, wholesAt, fieldsOf}
 
 -- k of the numbers, from number f on
 abbrev pub run : ℕ → ℕ → List ℕ → List ℕ
@@ -23,7 +23,7 @@ layoutBy n =
 -- the numbers of a block
 unfoldable pub numbersIn : List ℕ → List ℕ
 numbersIn b =
-    at 1 1 b ∷ at 8 8 b ∷ at 2 1 b
+    wholeAt 1 1 b ∷ wholeAt 8 8 b ∷ wholeAt 2 1 b
     ∷ (wholesAt 176 4 2 b ++ (wholesAt 184 8 2 b ++ (wholesAt 16 4 24 b ++ wholesAt 112 8 8 b)))
 
 -- a run of them: so many bytes each that a word holds it, inside the block and among the numbers

@@ -19,20 +19,20 @@ module _ (b : List ℕ) where
   Zeros from to = (i : ℕ) → from ≤ i → i < to → getD b i 0 ≡ 0
 
   -- B1: the cluster number, and how many triples are held
-  abbrev pub clusters : ℕ
-  clusters = getD b 1 0
+  abbrev pub clusterByte : ℕ
+  clusterByte = getD b 1 0
 
-  abbrev pub held : ℕ
-  held = getD b 2 0
+  abbrev pub heldByte : ℕ
+  heldByte = getD b 2 0
 
   pub record RightLayout : Type 0 where
     pub form : getD b 0 0 ≡ 1
     pub behind-held : Zeros 3 8
     pub behind-scores : Zeros 200 510
-    pub counts-unused : Zeros (16 + 12 * clusters) 112
-    pub weights-unused : Zeros (112 + 8 * clusters) 176
-    pub positions-unused : Zeros (176 + 4 * held) 184
-    pub scores-unused : Zeros (184 + 8 * held) 200
+    pub counts-unused : Zeros (16 + 12 * clusterByte) 112
+    pub weights-unused : Zeros (112 + 8 * clusterByte) 176
+    pub positions-unused : Zeros (176 + 4 * heldByte) 184
+    pub scores-unused : Zeros (184 + 8 * heldByte) 200
 
 -- B7: 512 bytes with the right check
 pub record WellSent (b : List ℕ) : Type 0 where

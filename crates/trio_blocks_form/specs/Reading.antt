@@ -5,7 +5,7 @@ use mathlib.Core.List.{List, map}
 use lib.Dec.{eqb}
 use lib.Ieee.{Float, binary64, ofBits}
 use lib.ListN.{length}
-use Rattle.blocks.specs.Bytes.{at, wholesAt, zeroIn}
+use Rattle.blocks.specs.Bytes.{wholeAt, wholesAt, zeroIn}
 use Rattle.blocks.specs.Check.{checkRight}
 use Rattle.refusals.specs.declared.Refusal.{Refusal}
 use Rattle.refusals.specs.declared.Refusal.the-variants.{Done, BadPart, Block, Check, Layout}
@@ -20,10 +20,10 @@ use Rattle.trio_parts.specs.Sound.{soundPart}
 
 -- B1: the cluster number, and how many triples are held
 abbrev pub clustersIn : List ℕ → ℕ
-clustersIn b = at 1 1 b
+clustersIn b = wholeAt 1 1 b
 
 abbrev pub heldIn : List ℕ → ℕ
-heldIn b = at 2 1 b
+heldIn b = wholeAt 2 1 b
 
 -- B1: the 24 counts
 abbrev pub countsIn : List ℕ → List ℕ
@@ -35,7 +35,7 @@ weightsIn b = map (ofBits binary64) (wholesAt 112 8 8 b)
 
 -- B1: a held triple, whose position and whose score's bits stand from these bytes on
 abbrev pub entryIn : ℕ → ℕ → List ℕ → Entry
-entryIn position score b = record { position = at position 4 b; score = ofBits binary64 (at score 8 b) }
+entryIn position score b = record { position = wholeAt position 4 b; score = ofBits binary64 (wholeAt score 8 b) }
 
 -- B1, B6: what stands in the block; and the lists of scores, which do not, worked out
 unfoldable pub partIn : List ℕ → Part
@@ -45,7 +45,7 @@ partIn b =
       counts = countsIn b;
       weights = weightsIn b;
       scores = listsOf (clustersIn b) (countsIn b) (weightsIn b);
-      marks = at 8 8 b;
+      marks = wholeAt 8 8 b;
       held = record { count = heldIn b; first = entryIn 176 184 b; second = entryIn 180 192 b };
     }
 
@@ -53,7 +53,7 @@ partIn b =
 
 -- B5: byte 0 is 1, bytes 3 to 7 are zero, and so are bytes 200 to 509
 unfoldable pub fixedRight : List ℕ → Bool
-fixedRight b = eqb (at 0 1 b) 1 && (zeroIn 3 8 b && zeroIn 200 510 b)
+fixedRight b = eqb (wholeAt 0 1 b) 1 && (zeroIn 3 8 b && zeroIn 200 510 b)
 
 -- B5: of n clusters 3·n counts and n weights are in use, of h held triples h positions and h scores; the places behind these are zero, up
 -- to the end of the counts, of the weights, of the positions and of the scores. More than 8 clusters leave none of the first two, more

@@ -29,7 +29,7 @@ counts-back (c ∷ l) h = ap₂ _∷_ (same c (h 0)) (counts-back l (λ i. h (su
     same : (c : ℕ) → c < 4294967296 → min c 4294967295 ≡ c
     same c h = omega arith
 
-pub floats-back : (l : List Float) → T (allFit l) → map (ofBits binary64) (map (toBits binary64) l) ≡ l
+floats-back : (l : List Float) → T (allFit l) → map (ofBits binary64) (map (toBits binary64) l) ≡ l
 floats-back [] h = refl
 floats-back (x ∷ l) h =
     ap₂ _∷_ (ofBits-toBits binary64 x (and-l (fits binary64 x) (allFit l) h)) (floats-back l (and-r (fits binary64 x) (allFit l) h))

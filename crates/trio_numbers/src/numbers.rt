@@ -1,4 +1,5 @@
-// A part as a row of numbers, and back (docs/VECTORS.md, `part`): 39, as a line has them, and behind these the 108 of its lists of scores.
+// A part as a row of numbers, and back: 39, as a line (docs/VECTORS.md, `part`) and a block have them, and behind these the 108 of its
+// lists of scores.
 ghost use mathlib.Core.Path.{_≡_};
 ghost use mathlib.Core.List.{_++_, map};
 ghost use lib.Ieee.{binary64, toBits};

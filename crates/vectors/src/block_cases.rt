@@ -10,6 +10,7 @@ use text_writing::laying::lay;
 use trio_blocks::read::read_block;
 use trio_blocks::write::write_block;
 
+// A byte that is widened where it is read out of an array would have to be shown to fit.
 fn wide(b: u8) -> u64 {
     b as u64
 }

@@ -120,7 +120,7 @@ fn digit_value(word: &[u8], i: usize) -> u64 {
     16
 }
 
-// The byte of two digits, 256 where one is none.
+// The byte of two digits, 256 where one is none. What is left below the tests is below 16; `% 16` says so once more, for the sum.
 fn byte_value(word: &[u8], i: usize) -> u64
     requires { ⌜ i ≤ 2048 ⌝ }
 {

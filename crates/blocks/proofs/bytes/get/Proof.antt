@@ -3,13 +3,13 @@ use Prim.Native.Nat.{min, _+_, _-_, _≤_, _<_, _^_}
 use mathlib.Core.Path.{_≡_, ap, _∙_}
 use native.Mathlib.Omega.{arith}
 use Rattle.blocks.specs.Bytes.{Bytes}
-use Rattle.blocks.proofs.GetLaws.{behind, get-none, get-step, get-small}
+use Rattle.blocks.proofs.GetLaws.{numberFrom, get-none, get-step, get-small}
 use borrow.Author.Needs.{needs}
 use Rattle.blocks.proofs.bytes.get.Statement.{statement}
 use Rattle.blocks.proofs.bytes.get.Tie as tie
 
 abbrev Inv-loop : tie.InvT-loop
-Inv-loop b start width from left₀ v₀ left v = (left ≤ min width 8) × (v ≡ behind b start (min width 8) left)
+Inv-loop b start width from left₀ v₀ left v = (left ≤ min width 8) × (v ≡ numberFrom b start (min width 8) left)
 
 abbrev μ-loop : tie.MeasureT-loop
 μ-loop b start width from left₀ v₀ left v = left
@@ -60,7 +60,7 @@ loop-again c =
     let s = turn .loop in
     let width = min (a .width) 8 in
     let next : s .left ≡ s .left - 1 + 1 = omega arith in
-    let rest = s .inv .1 ∙ ap (behind (a .b .now) (a .start) width) next in
+    let rest = s .inv .1 ∙ ap (numberFrom (a .b .now) (a .start) width) next in
     (omega arith, rw (rest, c .byte-at .ensures) (get-step (a .b .now) (a .start) width (s .left - 1) (omega arith)))
 
 returns : tie.Need-returns Inv-loop μ-loop
@@ -68,7 +68,7 @@ returns c =
     let a = c .before .before .before .before .args in
     let s = c .before .loop in
     let none : s .left ≡ 0 = omega arith in
-    s .inv .1 ∙ ap (behind (a .b .now) (a .start) (min (a .width) 8)) none
+    s .inv .1 ∙ ap (numberFrom (a .b .now) (a .start) (min (a .width) 8)) none
 
 pub get-spec : {M : Type 1} → statement M
 get-spec =

@@ -5,7 +5,7 @@ use mathlib.Core.List.{List}
 use mathlib.Core.Path.{_≡_, refl}
 use native.Mathlib.Omega.{arith}
 use lib.Dec.{lit<, lit≤}
-use Rattle.blocks.proofs.CheckLaws.{restFrom, rest-step, rest-end}
+use Rattle.blocks.proofs.CheckLaws.{sumFrom, rest-step, rest-end}
 use borrow.Author.Needs.{needs}
 use Rattle.blocks.proofs.check.check_of.Statement.{statement}
 use Rattle.blocks.proofs.check.check_of.Tie as tie
@@ -14,7 +14,7 @@ record Summed (b : List ℕ) (sum i : ℕ) : Type 0 where
   pub within : i ≤ 510
   pub even : i % 2 ≡ 0
   pub small : sum < 65536
-  pub so-far : (sum + restFrom 510 i b) % 65536 ≡ (65535 + restFrom 510 0 b) % 65536
+  pub so-far : (sum + sumFrom 510 i b) % 65536 ≡ (65535 + sumFrom 510 0 b) % 65536
 
 abbrev Inv-loop : tie.InvT-loop
 Inv-loop b sum₀ i₀ sum i = Summed b sum i

@@ -1,40 +1,53 @@
 -- `trio_blocks::read::read_block` meets its contract, by each test in turn. Assumes nothing.
+use Prim.Native.Nat.{ℕ}
 use mathlib.Core.Bool.{true, false, _&&_}
-use mathlib.Core.Path.{_≡_, sym, _∙_}
+use mathlib.Core.List.{List}
+use mathlib.Core.Path.{_≡_, sym, ap₂, _∙_}
 use borrow.Author.Tests.{eq-eqb, ne-eqb}
 use lib.Dec.{eqb}
 use lib.ListN.{length, take}
-use Rattle.blocks.specs.Bytes.{at}
+use Rattle.blocks.specs.Bytes.{wholeAt}
 use Rattle.blocks.specs.Check.{checkOf, checkRight}
-use Rattle.trio_blocks_form.specs.Reading.{fixedRight, unusedRight, readOf}
+use Rattle.trio_blocks_form.specs.Reading.{layoutRight, readOf}
 use borrow.Author.Needs.{needs}
 use Rattle.trio_blocks.proofs.read.read_block.Statement.{statement}
 use Rattle.trio_blocks.proofs.read.read_block.Tie as tie
 
 -- ---- what is known past each test
 
-long : (c : tie.Else1) → eqb (length (c .before .before .args .b .now)) 512 ≡ true
-long c = eq-eqb (length (c .before .before .args .b .now)) 512 (c .if1 .left)
+-- the bytes, past the first test
+abbrev bytes : tie.Else1 → List ℕ
+bytes c = c .before .before .args .b .now
 
-right : (c : tie.Else2) → checkRight (c .before .before .before .before .before .args .b .now) ≡ true
+abbrev first-test : tie.After-check-of → tie.Else1
+first-test c = c .before .before
+
+abbrev second-test : tie.After-both → tie.Else2
+second-test c = c .before .before .before
+
+long : (c : tie.Else1) → eqb (length (bytes c)) 512 ≡ true
+long c = eq-eqb (length (bytes c)) 512 (c .if1 .left)
+
+right : (c : tie.Else2) → checkRight (bytes (first-test (c .before))) ≡ true
 unfolding checkRight
 right c =
     let check = c .before in
-    let stored = check .before in
-    let b = stored .before .before .before .args .b .now in
-    eq-eqb (at 510 2 b) (checkOf (take 510 b)) (sym (stored .get .ensures) ∙ c .if2 .left ∙ check .check-of .ensures)
+    let b = bytes (first-test check) in
+    let stored = check .before .get .ensures in
+    eq-eqb (wholeAt 510 2 b) (checkOf (take 510 b)) (sym stored ∙ c .if2 .left ∙ check .check-of .ensures)
 
-wrong : (c : tie.Then2) → checkRight (c .before .before .before .before .before .args .b .now) ≡ false
+wrong : (c : tie.Then2) → checkRight (bytes (first-test (c .before))) ≡ false
 unfolding checkRight
 wrong c =
     let check = c .before in
-    let stored = check .before in
-    let b = stored .before .before .before .args .b .now in
-    ne-eqb (at 510 2 b) (checkOf (take 510 b)) (λ e. c .if2 .taken (stored .get .ensures ∙ e ∙ sym (check .check-of .ensures)))
+    let b = bytes (first-test check) in
+    let stored = check .before .get .ensures in
+    ne-eqb (wholeAt 510 2 b) (checkOf (take 510 b)) (λ e. c .if2 .taken (stored ∙ e ∙ sym (check .check-of .ensures)))
 
-laid-out : (c : tie.After-both) → let b = c .before .before .before .before .before .before .before .before .args .b .now in
-    c .both .result ≡ (fixedRight b && unusedRight b)
-laid-out c = rw (c .both .ensures, c .before .unused-right .ensures, c .before .before .fixed-right .ensures)
+laid-out : (c : tie.After-both) → c .both .result ≡ layoutRight (bytes (first-test (second-test c .before)))
+laid-out c =
+    let unused = c .before in
+    c .both .ensures ∙ ap₂ _&&_ (unused .before .fixed-right .ensures) (unused .unused-right .ensures)
 
 -- ---- the needs
 
@@ -61,7 +74,7 @@ returns-2 : tie.Need-returns-2
 unfolding readOf
 returns-2 c =
     let tested = c .before in
-    rw (long (tested .before .before .before), wrong tested) (c .refuse2 .ensures)
+    rw (long (first-test (tested .before)), wrong tested) (c .refuse2 .ensures)
 
 fixed-right-requires : tie.Need-fixed-right-requires
 fixed-right-requires c κs = search needs
@@ -80,8 +93,8 @@ unfolding readOf
 returns-3 c =
     let tested = c .before in
     let both = tested .before in
-    let checked = both .before .before .before in
-    rw (long (checked .before .before .before), right checked, sym (laid-out both) ∙ tested .if3 .taken) (c .sound-in .ensures)
+    let checked = second-test both in
+    rw (long (first-test (checked .before)), right checked, sym (laid-out both) ∙ tested .if3 .taken) (c .sound-in .ensures)
 
 refuse-requires-3 : tie.Need-refuse-requires-3
 refuse-requires-3 c κs = search needs
@@ -91,8 +104,8 @@ unfolding readOf
 returns-4 c =
     let tested = c .before in
     let both = tested .before in
-    let checked = both .before .before .before in
-    rw (long (checked .before .before .before), right checked, sym (laid-out both) ∙ tested .if3 .left) (c .refuse3 .ensures)
+    let checked = second-test both in
+    rw (long (first-test (checked .before)), right checked, sym (laid-out both) ∙ tested .if3 .left) (c .refuse3 .ensures)
 
 pub read-block-spec : {M : Type 1} → statement M
 read-block-spec =

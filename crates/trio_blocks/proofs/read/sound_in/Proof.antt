@@ -2,6 +2,7 @@
 use Prim.Native.Nat.{ℕ}
 use mathlib.Core.List.{List}
 use mathlib.Core.Path.{_≡_, refl, sym, ap, _∙_}
+use Rattle.blocks.specs.Bytes.{Bytes}
 use Rattle.refusals.specs.declared.Refusal.the-variants.{Done}
 use Rattle.trio_parts.specs.Part.{listsIn, gives}
 use Rattle.trio_parts.specs.Sound.{soundPart, soundOver}
@@ -13,21 +14,27 @@ use borrow.Author.Needs.{needs}
 use Rattle.trio_blocks.proofs.read.sound_in.Statement.{statement}
 use Rattle.trio_blocks.proofs.read.sound_in.Tie as tie
 
+-- the bytes, from the numbers on
+abbrev bytes : tie.After-numbers-in → List ℕ
+bytes c = c .before .before .args .b .now
+
+abbrev taken : tie.After-line-part → tie.After-numbers-in
+taken c = c .before .before
+
 -- what was read is the part that stands in the block
-is-part : (c : tie.After-line-part) → c .line-part .result ≡ partIn (c .before .before .before .before .args .b .now)
+is-part : (c : tie.After-line-part) → c .line-part .result ≡ partIn (bytes (taken c))
 is-part c =
-    let numbers = c .before .before in
-    let slice = numbers .before in
-    let b = slice .before .args .b .now in
-    c .line-part .ensures ∙ ap linePart (numbers .numbers-in .ensures) ∙ line-in b (λ i. slice .shared-slice-known .given i .fits)
+    let numbers = taken c in
+    let known : Bytes (bytes numbers) = λ i. numbers .before .shared-slice-known .given i .fits in
+    c .line-part .ensures ∙ ap linePart (numbers .numbers-in .ensures) ∙ line-in (bytes numbers) known
 
 lists-in : (b : List ℕ) → partIn b .scores ≡ listsIn (partIn b)
 unfolding partIn
 lists-in b = refl
 
-told : (c : tie.After-sound-over) → c .sound-over .result ≡ soundPart (partIn (c .before .before .before .before .before .args .b .now))
+told : (c : tie.After-sound-over) → c .sound-over .result ≡ soundPart (partIn (bytes (taken (c .before))))
 told c =
-    let b = c .before .before .before .before .before .args .b .now in
+    let b = bytes (taken (c .before)) in
     c .sound-over .ensures ∙ ap soundOver (is-part (c .before)) ∙ over-sound (partIn b) (lists-in b)
 
 numbers-in-requires : tie.Need-numbers-in-requires

@@ -16,6 +16,10 @@ few-held c =
     let slice = c .before .before in
     rw (c .get2 .ensures) (at-small 2 1 (slice .before .args .b .now) (λ i. slice .shared-slice-known .given i .fits))
 
+-- from the test of the held triples back to where both numbers were read
+abbrev by-held : tie.After-both → tie.After-get2
+by-held c = c .before .before .before
+
 get-requires : tie.Need-get-requires
 get-requires c κs = search needs
 
@@ -44,19 +48,19 @@ both-requires : tie.Need-both-requires
 both-requires c κs = search needs
 
 mul-zeros-3 : tie.Need-mul-zeros-3
-mul-zeros-3 c = let n = few-clusters (c .before .before .before .before) in omega arith
+mul-zeros-3 c = let n = few-clusters (by-held c .before) in omega arith
 
 add-zeros-3 : tie.Need-add-zeros-3
-add-zeros-3 c = let n = few-clusters (c .before .before .before .before) in omega arith
+add-zeros-3 c = let n = few-clusters (by-held c .before) in omega arith
 
 zeros-requires-3 : tie.Need-zeros-requires-3
 zeros-requires-3 c κs = search needs
 
 mul-zeros-4 : tie.Need-mul-zeros-4
-mul-zeros-4 c = let n = few-clusters (c .before .before .before .before .before) in omega arith
+mul-zeros-4 c = let n = few-clusters (by-held (c .before) .before) in omega arith
 
 add-zeros-4 : tie.Need-add-zeros-4
-add-zeros-4 c = let n = few-clusters (c .before .before .before .before .before) in omega arith
+add-zeros-4 c = let n = few-clusters (by-held (c .before) .before) in omega arith
 
 zeros-requires-4 : tie.Need-zeros-requires-4
 zeros-requires-4 c κs = search needs

@@ -3,7 +3,7 @@ use mathlib.Core.List.{_++_}
 use mathlib.Core.Path.{_≡_, _∙_}
 use lib.ListN.{length}
 use Rattle.trio_blocks_form.specs.Writing.{bodyOf, blockOf}
-use Rattle.trio_blocks_form.proofs.LayLaws.{zeros, checked}
+use Rattle.trio_blocks_form.proofs.LayLaws.{zeroBytes, checked}
 use Rattle.trio_blocks_form.proofs.NumbersLaws.{layout-by, long-body}
 use borrow.Author.Needs.{needs}
 use Rattle.trio_blocks.proofs.write.block_of.Statement.{statement}
@@ -43,7 +43,7 @@ returns c =
     let p = numbers .before .args .p in
     let few = long (numbers .before) .0 in
     let eight = long (numbers .before) .1 in
-    let body : lay .lay .result ≡ bodyOf p ++ zeros 2 =
+    let body : lay .lay .result ≡ bodyOf p ++ zeroBytes 2 =
     lay .lay .ensures ∙ rw (numbers .numbers-of .ensures, layout-by p few eight) in
     rw (stored .put .ensures, check .check-of .ensures, body) (checked (bodyOf p) (long-body p few eight))
 

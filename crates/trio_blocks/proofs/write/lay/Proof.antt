@@ -1,7 +1,7 @@
 -- `trio_blocks::write::lay` meets its contract: four runs behind the head. Assumes nothing.
 use mathlib.Core.Path.{_≡_}
 use lib.ListN.{length}
-use Rattle.trio_blocks_form.proofs.LayLaws.{laid}
+use Rattle.trio_blocks_form.proofs.LayLaws.{stored-behind-head}
 use borrow.Author.Needs.{needs}
 use Rattle.trio_blocks.proofs.write.lay.Statement.{statement}
 use Rattle.trio_blocks.proofs.write.lay.Tie as tie
@@ -66,7 +66,7 @@ returns c =
     let start = made .before in
     let n : length (start .args .t1) ≡ 39 = search needs in
     rw (c .put-run4 .ensures, third .put-run3 .ensures, second .put-run2 .ensures, first .put-run .ensures, made .head .ensures)
-    (laid (start .args .t1) n)
+    (stored-behind-head (start .args .t1) n)
 
 pub lay-spec : {M : Type 1} → statement M
 lay-spec =

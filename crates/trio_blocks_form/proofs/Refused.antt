@@ -1,0 +1,71 @@
+-- When writing is refused, and what comes with it; zeros are no block; and numbers in a block that no sound part has. Assumes nothing.
+use Prim.Native.Nat.{ℕ, _<_}
+use mathlib.Core.Bool.{false}
+use mathlib.Core.List.{List}
+use mathlib.Core.Logic.{_↔_}
+use mathlib.Core.Path.{_≡_, refl, ap}
+use native.Mathlib.Omega.{arith}
+use lib.ListN.{replicate}
+use Rattle.blocks.specs.Check.{checkRight}
+use Rattle.refusals.specs.declared.Refusal.the-variants.{BadPart, Check}
+use Rattle.refusals.specs.Refusals.{numberOf}
+use Rattle.trio_parts.specs.declared.part.Part.{Part}
+use Rattle.trio_parts.specs.Part.{rowCount, emptyPart}
+use Rattle.trio_parts.specs.Right.{inputRight, rightPart}
+use Rattle.trio_parts.specs.Sound.{soundPart}
+use Rattle.trio_parts.proofs.RightLaws.{right-input, some-clusters}
+use Rattle.trio_parts.proofs.SoundLaws.{sound-right, wrong-unsound}
+use Rattle.trio_blocks_form.specs.declared.written.Written.{Written}
+use Rattle.trio_blocks_form.specs.Writing.{writtenOf}
+use Rattle.trio_blocks_form.specs.Reading.{clustersIn, heldIn, partIn, refuses, readOf}
+use Rattle.trio_blocks_form.proofs.Shape.{right-shape, held-at-most}
+use Rattle.trio_blocks_form.proofs.Changed.{only-false}
+
+-- ---- writing
+
+module _ (p : Part) where
+  -- B4: of a part that is not sound writing gives 12 and 512 zeros
+  pub bad-written : soundPart p ≡ false → writtenOf p ≡ record { refusal = BadPart; block = replicate 512 0 }
+  unfolding writtenOf
+  bad-written bad = rw bad
+
+  -- R12: and 12 of no other
+  pub writes-bad : (writtenOf p .refusal ≡ BadPart) ↔ (soundPart p ≡ false)
+  unfolding writtenOf
+  writes-bad = (
+    λ e. only-false (soundPart p) (λ sound. omega (arith, ap numberOf (rw sound at e))),
+    λ bad. ap (λ (w : Written). w .refusal) (bad-written bad),
+  )
+
+-- O3: so of the part of a refused opening
+pub empty-written : writtenOf emptyPart ≡ record { refusal = BadPart; block = replicate 512 0 }
+unfolding rightPart inputRight
+empty-written = bad-written emptyPart (wrong-unsound emptyPart refl)
+
+-- ---- reading
+
+-- B3, B7: 512 zeros are no block
+pub zeros-refused : readOf (replicate 512 0) ≡ refuses Check
+unfolding readOf checkRight
+zeros-refused = refl
+
+module _ (b : List ℕ) where
+  -- B5, R12: more than 8 clusters are no sound part, whatever else stands in the block
+  pub many-clusters : 8 < clustersIn b → soundPart (partIn b) ≡ false
+  unfolding partIn
+  many-clusters h = only-false _ (λ e. let few = right-shape (partIn b) (sound-right (partIn b) e) .few in omega arith)
+
+  -- B5, R12: nor is none
+  pub no-clusters : clustersIn b ≡ 0 → soundPart (partIn b) ≡ false
+  unfolding partIn
+  no-clusters h =
+      only-false _ (λ e. let some = some-clusters (partIn b) (right-input (partIn b) (sound-right (partIn b) e)) in omega arith)
+
+  -- B5, R12: nor are more than 2 triples
+  pub many-held : 2 < heldIn b → soundPart (partIn b) ≡ false
+  unfolding partIn
+  many-held h =
+      only-false _ (λ e.
+      let held = right-shape (partIn b) (sound-right (partIn b) e) .held in
+      let few = held-at-most (rowCount (partIn b)) (partIn b .marks) in
+      omega (arith, held, few))
