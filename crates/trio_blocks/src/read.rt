@@ -8,7 +8,7 @@ ghost use Rattle.refusals.specs.declared.Refusal.the-variants.{Done, BadPart};
 ghost use Rattle.trio_parts.specs.Part.{gives};
 ghost use Rattle.trio_parts.specs.Sound.{soundPart};
 ghost use Rattle.trio_blocks_form.specs.Reading.{partIn, fixedRight, unusedRight, refuses, readOf};
-ghost use Rattle.trio_blocks_form.specs.Inner.{IsRun, numbersIn};
+ghost use Rattle.trio_blocks.specs.Inner.{IsRun, numbersIn};
 use blocks::bytes::get;
 use blocks::bytes::zeros;
 use blocks::check::check_of;

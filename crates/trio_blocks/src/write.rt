@@ -6,7 +6,7 @@ ghost use lib.ListN.{length, replicate};
 ghost use lib.Seq.{sets};
 ghost use Rattle.blocks.specs.Bytes.{fieldsOf, asBytes};
 ghost use Rattle.trio_blocks_form.specs.Writing.{blockOf, writtenOf};
-ghost use Rattle.trio_blocks_form.specs.Inner.{headBy, layoutBy};
+ghost use Rattle.trio_blocks.specs.Inner.{headBy, layoutBy};
 use blocks::bytes::put;
 use blocks::check::check_of;
 use refusals::Refusal;

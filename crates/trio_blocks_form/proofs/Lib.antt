@@ -1,6 +1,4 @@
--- What holds of every block; and what writing and reading need.
-pub mod LayLaws
-pub mod NumbersLaws
+-- What holds of every block.
 pub mod Shape
 pub mod Widths
 pub mod Fitting

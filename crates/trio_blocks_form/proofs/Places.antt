@@ -7,7 +7,7 @@ use mathlib.Mathlib.Data.Bool.Basic.{and-elim-left, and-elim-right, and-intro}
 use native.Mathlib.Omega.{arith}
 use lib.Dec.{eqb}
 use lib.Ieee.{Float, binary64, toBits}
-use lib.ListN.{length, drop, length-map}
+use lib.ListN.{length, drop, length-append, length-map}
 use lib.Seq.{drop-at, drop-drop, drop-nil}
 use Rattle.lists.specs.Every.{every}
 use Rattle.blocks.specs.Bytes.{bytesOf, fieldsOf, asBytes, zeroIn}
@@ -54,6 +54,10 @@ module _ (p : Part) (is : TypedPart p) where
       fields-append (headOf p) (a ++ (b ++ tailOf p))
       ∙ ap (λ (l : List ℕ). asBytes (headOf p) ++ l)
       (fields-append a (b ++ tailOf p) ∙ ap (λ (l : List ℕ). counts ++ l) (fields-append b (tailOf p)))
+
+  pub long-body : length (bodyOf p) ≡ 510
+  long-body =
+      ap length parts ∙ rw (length-append counts (weights ++ tail), many-counts, length-append weights tail, many-weights)
 
   from-16 : drop 16 (blockOf p) ≡ counts ++ (weights ++ (tail ++ check))
   unfolding blockOf

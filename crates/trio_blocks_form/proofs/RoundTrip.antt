@@ -7,7 +7,8 @@ use mathlib.Mathlib.Data.Bool.Basic.{and-intro}
 use native.Mathlib.Nat.{mod-lt}
 use borrow.Author.Tests.{eq-eqb}
 use lib.Dec.{lit<}
-use lib.Ieee.{binary64, toBits}
+use lib.Ieee.{binary64, toBits, ofBits}
+use lib.Ieee.Bits.{ofBits-toBits}
 use lib.ListN.{length, getD, take, drop, length-append, length-map}
 use lib.Seq.{take-at, drop-at}
 use Rattle.lists.specs.Lists.{totalOf}
@@ -15,29 +16,26 @@ use Rattle.blocks.specs.Bytes.{Field, bytesOf, wholeOf, wholeAt, wholesAt, fiel
 use Rattle.blocks.specs.Check.{wordsOf, checkOf, checkRight}
 use Rattle.blocks.proofs.ByteLaws.{whole-bytes, bytes-append, bytes-of, bytes-fields}
 use Rattle.blocks.proofs.FieldLaws.{read-written}
+use Rattle.limits.proofs.FitLaws.{floats-back}
 use Rattle.refusals.specs.declared.Refusal.the-variants.{Done}
 use Rattle.trio_parts.specs.declared.part.Part.{Part}
 use Rattle.trio_parts.specs.Part.{gives}
 use Rattle.trio_parts.specs.Sound.{soundPart}
 use Rattle.trio_parts.specs.Typed.{TypedPart}
 use Rattle.trio_parts.proofs.SoundLaws.{sound-right, sound-true}
-use Rattle.trio_numbers.specs.Numbers.{partNumbers, linePart}
-use Rattle.trio_numbers.proofs.NumbersBack.{line-back}
 use Rattle.trio_blocks_form.specs.Writing.{bitsOf, headOf, tailOf, layoutOf, bodyOf, blockOf, writtenOf}
-use Rattle.trio_blocks_form.specs.Reading.{partIn, fixedRight, readOf}
-use Rattle.trio_blocks_form.specs.Inner.{numbersIn}
+use Rattle.trio_blocks_form.specs.Reading.{weightsIn, partIn, fixedRight, readOf}
 use Rattle.trio_blocks_form.specs.declared.written.Written.{Written}
-use Rattle.trio_blocks_form.proofs.NumbersLaws.{long-body, line-in}
 use Rattle.trio_blocks_form.proofs.Shape.{RightShape, right-shape}
 use Rattle.trio_blocks_form.proofs.Widths.{layoutAt, fields-at, widths-are}
 use Rattle.trio_blocks_form.proofs.Fitting.{layout-holds}
-use Rattle.trio_blocks_form.proofs.Places.{last-zero, unused-zero}
+use Rattle.trio_blocks_form.proofs.Places.{long-body, last-zero, unused-zero}
 
 -- ---- the block of a part
 
 module _ (p : Part) (is : TypedPart p) where
   body-510 : length (bodyOf p) ≡ 510
-  body-510 = long-body p (is .counts-24) (is .weights .places)
+  body-510 = long-body p is
 
   block-512 : length (blockOf p) ≡ 512
   unfolding blockOf
@@ -137,17 +135,33 @@ module _ (p : Part) (is : TypedPart p) (right : RightShape p) where
   unfolding layoutAt wholesAt
   tail-back = ap (drop 8) behind-counts ∙ drop-at bits (valuesOf (tailOf p)) 8 long-bits
 
-  positions-back : wholesAt 176 4 2 b ≡ p .held .first .position ∷ p .held .second .position ∷ []
-  unfolding layoutAt wholesAt
-  positions-back = ap (take 2) tail-back
+  entry-back : (k : ℕ) → getD (drop 37 (valuesOf (layoutAt b))) k 0 ≡ getD (valuesOf (tailOf p)) k 0
+  entry-back k = ap (λ (l : List ℕ). getD l k 0) tail-back
 
-  scores-back : wholesAt 184 8 2 b ≡ toBits binary64 (p .held .first .score) ∷ toBits binary64 (p .held .second .score) ∷ []
+  first-position : wholeAt 176 4 b ≡ p .held .first .position
   unfolding layoutAt wholesAt
-  scores-back = ap (λ (l : List ℕ). take 2 (drop 2 l)) tail-back
+  first-position = entry-back 0
 
-  numbers-back : numbersIn b ≡ partNumbers p
-  unfolding numbersIn partNumbers
-  numbers-back = rw (clusters-back, marks-back, held-back, positions-back, scores-back, counts-back, weights-back)
+  second-position : wholeAt 180 4 b ≡ p .held .second .position
+  unfolding layoutAt wholesAt
+  second-position = entry-back 1
+
+  first-bits : wholeAt 184 8 b ≡ toBits binary64 (p .held .first .score)
+  unfolding layoutAt wholesAt
+  first-bits = entry-back 2
+
+  second-bits : wholeAt 192 8 b ≡ toBits binary64 (p .held .second .score)
+  unfolding layoutAt wholesAt
+  second-bits = entry-back 3
+
+  floats-there : weightsIn b ≡ p .weights
+  floats-there = ap (map (ofBits binary64)) weights-back ∙ floats-back (p .weights) (is .weights .f64s)
+
+  first-score : ofBits binary64 (wholeAt 184 8 b) ≡ p .held .first .score
+  first-score = ap (ofBits binary64) first-bits ∙ ofBits-toBits binary64 (p .held .first .score) (is .first-f64)
+
+  second-score : ofBits binary64 (wholeAt 192 8 b) ≡ p .held .second .score
+  second-score = ap (ofBits binary64) second-bits ∙ ofBits-toBits binary64 (p .held .second .score) (is .second-f64)
 
   -- ---- so it is read as the part
 
@@ -160,8 +174,20 @@ module _ (p : Part) (is : TypedPart p) (right : RightShape p) where
   fixed-back = and-intro (eq-eqb (wholeAt 0 1 b) 1 form-back) (and-intro five-zero (last-zero p is))
 
   part-back : soundPart p ≡ true → partIn b ≡ p
+  unfolding partIn
   part-back sound =
-      sym (line-in b (block-bytes p is .bytes)) ∙ ap linePart numbers-back ∙ line-back p is (sound-true p is sound .lists)
+      rw (
+        clusters-back,
+        counts-back,
+        floats-there,
+        marks-back,
+        held-back,
+        first-position,
+        second-position,
+        first-score,
+        second-score,
+        sym (sound-true p is sound .lists),
+      )
 
 -- a sound part that the types allow comes back from its block
 pub block-read-back : (p : Part) → TypedPart p → soundPart p ≡ true → readOf (blockOf p) ≡ gives Done p

@@ -4,14 +4,12 @@ use Prim.Native.Nat.{ℕ, zero, suc, _+_, _^_, _≤_, _<_, min}
 use mathlib.Core.List.{List, [], _∷_, _++_, map, append-nil, append-assoc}
 use mathlib.Core.Path.{_≡_, refl, sym, ap, ap₂, _∙_}
 use native.Mathlib.Omega.{arith}
-use lib.Dec.{T}
-use lib.Ieee.{Float, binary64, fits, toBits, ofBits}
+use lib.Ieee.{Float, binary64, toBits, ofBits}
 use lib.Ieee.Bits.{ofBits-toBits}
-use lib.Ieee.Fits.{and-l, and-r}
 use lib.ListN.{length, getD, take, drop, length-append, length-map}
 use lib.Seq.{take-at, drop-at, drop-cons, sets-eq, length-take-le}
 use Rattle.lists.specs.Lists.{numbers}
-use Rattle.limits.specs.Limits.{allFit}
+use Rattle.limits.proofs.FitLaws.{floats-back}
 use Rattle.trio_samples.specs.declared.scores.Scores.{Scores}
 use Rattle.trio_samples.specs.Scores.{listsOf}
 use Rattle.trio_parts.specs.declared.part.Part.{Part}
@@ -28,11 +26,6 @@ counts-back (c ∷ l) h = ap₂ _∷_ (same c (h 0)) (counts-back l (λ i. h (su
   where
     same : (c : ℕ) → c < 4294967296 → min c 4294967295 ≡ c
     same c h = omega arith
-
-floats-back : (l : List Float) → T (allFit l) → map (ofBits binary64) (map (toBits binary64) l) ≡ l
-floats-back [] h = refl
-floats-back (x ∷ l) h =
-    ap₂ _∷_ (ofBits-toBits binary64 x (and-l (fits binary64 x) (allFit l) h)) (floats-back l (and-r (fits binary64 x) (allFit l) h))
 
 -- n places one after the other hold what is taken from the first of them on
 read-of : {B : Type 0} (f : ℕ → B) (l : List ℕ) (at n : ℕ) → at + n ≤ length l

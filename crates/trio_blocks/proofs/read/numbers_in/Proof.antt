@@ -1,6 +1,6 @@
 -- `trio_blocks::read::numbers_in` meets its contract: each number is read where it stands. Assumes nothing.
 use Rattle.blocks.specs.Bytes.{wholesAt}
-use Rattle.trio_blocks_form.specs.Inner.{numbersIn}
+use Rattle.trio_blocks.specs.Inner.{numbersIn}
 use borrow.Author.Needs.{needs}
 use Rattle.trio_blocks.proofs.read.numbers_in.Statement.{statement}
 use Rattle.trio_blocks.proofs.read.numbers_in.Tie as tie

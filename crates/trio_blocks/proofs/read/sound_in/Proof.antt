@@ -9,7 +9,7 @@ use Rattle.trio_parts.specs.Sound.{soundPart, soundOver}
 use Rattle.trio_parts.proofs.SoundLaws.{over-sound}
 use Rattle.trio_numbers.specs.Numbers.{linePart}
 use Rattle.trio_blocks_form.specs.Reading.{partIn}
-use Rattle.trio_blocks_form.proofs.NumbersLaws.{line-in}
+use Rattle.trio_blocks.proofs.NumbersLaws.{line-in}
 use borrow.Author.Needs.{needs}
 use Rattle.trio_blocks.proofs.read.sound_in.Statement.{statement}
 use Rattle.trio_blocks.proofs.read.sound_in.Tie as tie

@@ -3,8 +3,8 @@ use mathlib.Core.List.{_++_}
 use mathlib.Core.Path.{_≡_, _∙_}
 use lib.ListN.{length}
 use Rattle.trio_blocks_form.specs.Writing.{bodyOf, blockOf}
-use Rattle.trio_blocks_form.proofs.LayLaws.{zeroBytes, checked}
-use Rattle.trio_blocks_form.proofs.NumbersLaws.{layout-by, long-body}
+use Rattle.trio_blocks.proofs.LayLaws.{zeroBytes, checked}
+use Rattle.trio_blocks.proofs.NumbersLaws.{layout-by, long-body}
 use borrow.Author.Needs.{needs}
 use Rattle.trio_blocks.proofs.write.block_of.Statement.{statement}
 use Rattle.trio_blocks.proofs.write.block_of.Tie as tie

@@ -1,7 +1,7 @@
 -- `trio_blocks::write::lay` meets its contract: four runs behind the head. Assumes nothing.
 use mathlib.Core.Path.{_≡_}
 use lib.ListN.{length}
-use Rattle.trio_blocks_form.proofs.LayLaws.{stored-behind-head}
+use Rattle.trio_blocks.proofs.LayLaws.{stored-behind-head}
 use borrow.Author.Needs.{needs}
 use Rattle.trio_blocks.proofs.write.lay.Statement.{statement}
 use Rattle.trio_blocks.proofs.write.lay.Tie as tie

@@ -12,10 +12,10 @@ use Rattle.trio_parts.specs.declared.part.Part.{Part}
 use Rattle.trio_numbers.specs.Numbers.{partNumbers, asCount, numbersCounts, numbersFloats, linePart}
 use Rattle.trio_numbers.proofs.NumbersLaws.{numbers-39}
 use Rattle.trio_numbers.proofs.NumbersBack.{counts-back}
 use Rattle.trio_blocks_form.specs.Writing.{bitsOf, headOf, layoutOf, bodyOf}
 use Rattle.trio_blocks_form.specs.Reading.{countsIn, weightsIn, partIn}
-use Rattle.trio_blocks_form.specs.Inner.{run, headBy, layoutBy, numbersIn}
-use Rattle.trio_blocks_form.proofs.LayLaws.{long-layout}
+use Rattle.trio_blocks.specs.Inner.{run, headBy, layoutBy, numbersIn}
+use Rattle.trio_blocks.proofs.LayLaws.{long-layout}
 
 -- ---- writing
 

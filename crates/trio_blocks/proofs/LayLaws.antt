@@ -9,7 +9,7 @@ use lib.Seq.{sets, sets-eq, take-at, drop-at, drop-drop, length-take-le}
 use Rattle.blocks.specs.Bytes.{field, bytesOf, fieldsOf, asBytes}
 use Rattle.blocks.specs.Check.{checkOf}
 use Rattle.blocks.proofs.FieldLaws.{fields-append, same-length}
-use Rattle.trio_blocks_form.specs.Inner.{run, headBy, layoutBy}
+use Rattle.trio_blocks.specs.Inner.{run, headBy, layoutBy}
 
 abbrev pub zeroBytes : ℕ → List ℕ
 zeroBytes n = replicate n 0
