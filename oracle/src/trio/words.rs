@@ -1,5 +1,4 @@
 //! The cases of the trio as text (docs/VECTORS.md): questions, and answers in the words that `vectors` writes.
-use super::block::Block;
 use super::types::{Answer, Input, Pair};
 use crate::floor::floats::{word, words};
 
@@ -16,7 +15,7 @@ pub fn bytes(all: &[u8]) -> String {
 }
 
 /// What `write` answers.
-pub fn block(number: u32, block: &Block) -> String {
+pub fn block(number: u32, block: &[u8]) -> String {
     format!("{number} {}", bytes(block))
 }
 
