@@ -43,7 +43,8 @@ module _ (p : Params) (counts : List ℕ) (few : length counts ≤ 8) where
   abbrev shared : Shared
   shared = sharedOf p counts (length counts) (totalOf counts)
 
-  posteriors-same : (l : List GermlinePair) → map (λ g. foundOfEight counts g shared .posterior) l ≡ map (λ g. foundOf firstEdition p counts g .posterior) l
+  posteriors-same : (l : List GermlinePair) →
+      map (λ g. foundOfEight counts g shared .posterior) l ≡ map (λ g. foundOf firstEdition p counts g .posterior) l
   posteriors-same [] = refl
   posteriors-same (g ∷ l) = rw (found-by p counts few g, posteriors-same l)
 

@@ -234,7 +234,8 @@ module _ (p : Params) (counts : List ℕ) (ok : AcceptedMosaic p counts) (g : Ge
       clash true b c q h = true≢false (sym (sym (ap (λ (b : Bool). not (b || c)) q) ∙ h))
       clash false b c q h = true≢false (sym h)
 
-  observed : (i : ℕ) → i < n → somaticIn counts g i ≡ true → let x = observedShare (countAt counts i) (nat (totalOf counts)) in Vaf x × (lt x (nat 1) ≡ true)
+  observed : (i : ℕ) → i < n → somaticIn counts g i ≡ true →
+      let x = observedShare (countAt counts i) (nat (totalOf counts)) in Vaf x × (lt x (nat 1) ≡ true)
   observed i m s =
       let v = observed-share (countAt counts i) (totalOf counts)
       (seen-some counts i (and-elim-left (seenIn counts i) (not (germlineIn g i)) s)) (other-seen i m s) (omega (arith, total-small)) in
@@ -326,8 +327,10 @@ module _ (p : Params) (counts : List ℕ) (ok : AcceptedMosaic p counts) (g : Ge
           (record { vafs = startVafs counts g; value = likelihoodOf firstEdition counts g (startVafs counts g) }) in
           Within (2 ^ 47) (cond (t && not true) (b .value) (b .value ⊕ priorOf firstEdition p counts g (b .vafs)))
       go true e =
-          let s : FiniteBest counts g (searchedAll firstEdition p counts g) = unfold searchedAll in (gone n (omega arith) .then-some (any-over counts g ∙ e)) in
-          within-more (within-add (s .within) (prior-within (searchedAll firstEdition p counts g .vafs) (s .kept .tryable) (s .kept .low)) (lit≤ tt)) (lit≤ tt)
+          let s : FiniteBest counts g (searchedAll firstEdition p counts g) =
+          unfold searchedAll in (gone n (omega arith) .then-some (any-over counts g ∙ e)) in
+          within-more (within-add (s .within)
+          (prior-within (searchedAll firstEdition p counts g .vafs) (s .kept .tryable) (s .kept .low)) (lit≤ tt)) (lit≤ tt)
       go false e =
           within-more (within-add (likelihood-within (startVafs counts g) start-tryable)
           (prior-within (startVafs counts g) start-tryable start-low) (lit≤ tt)) (lit≤ tt)

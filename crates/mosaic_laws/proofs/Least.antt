@@ -57,7 +57,8 @@ module _ (e : Edition) (p : Params) (counts : List ℕ) (g : GermlinePair) where
     step-start i l o s m b h true q = tried-start i (stepOf (p .highest) s) (steps i l o s m q) b h
     step-start i l o s m b h false q = h
 
-    allele-start : (i : ℕ) → i < length counts → somaticIn counts g i ≡ true → (b : BestVafs) → b ≡ start → searchedAllele e p counts g i b ≡ start
+    allele-start : (i : ℕ) → i < length counts → somaticIn counts g i ≡ true → (b : BestVafs) → b ≡ start →
+        searchedAllele e p counts g i b ≡ start
     unfolding searchedAllele
     allele-start i l o b h =
         let x = observedShare (countAt counts i) (nat (totalOf counts)) in
