@@ -1,11 +1,11 @@
--- The names of the refusals. Definitions only (RULES.md, R0 to R15).
+-- The names of the refusals. Definitions only (RULES.md, R0 to R16).
 use Prim.Native.Nat.{ℕ, zero, suc}
 use Prim.Native.Char.{code}
 use Prim.Native.String as text
 use mathlib.Core.List.{List, [], _∷_}
 use Rattle.refusals.specs.declared.Refusal.{Refusal}
 use Rattle.refusals.specs.declared.Refusal.the-variants.{Done, NoCluster, TooMany, Shape, Count, Weight, Model, Table, Row}
-use Rattle.refusals.specs.declared.Refusal.the-variants.{OtherTrio, NotComplete, NoCall, BadPart, Block, Check, Layout}
+use Rattle.refusals.specs.declared.Refusal.the-variants.{OtherTrio, NotComplete, NoCall, BadPart, Block, Check, Layout, Rule}
 
 -- the first n bytes of an ASCII text, zeros where it ends before
 abbrev pub paddedText : ℕ → text.String → List ℕ
@@ -13,7 +13,7 @@ paddedText zero s = []
 paddedText (suc n) text.[] = 0 ∷ paddedText n text.[]
 paddedText (suc n) (text._∷_ c s) = code c ∷ paddedText n s
 
--- R0 to R15: the name of a refusal
+-- R0 to R16: the name of a refusal
 abbrev pub spelled : Refusal → text.String
 spelled Done = "done"
 spelled NoCluster = "NoCluster"
@@ -31,7 +31,8 @@ spelled BadPart = "BadPart"
 spelled Block = "Block"
 spelled Check = "Check"
 spelled Layout = "Layout"
+spelled Rule = "Rule"
 
--- R0 to R15: its name as the eleven bytes that the longest has
+-- R0 to R16: its name as the eleven bytes that the longest has
 abbrev pub nameOf : Refusal → List ℕ
 nameOf r = paddedText 11 (spelled r)

@@ -1,10 +1,10 @@
--- The numbers of the refusals. Definitions only (RULES.md, R0 to R15).
+-- The numbers of the refusals. Definitions only (RULES.md, R0 to R16).
 use Prim.Native.Nat.{ℕ}
 use Rattle.refusals.specs.declared.Refusal.{Refusal}
 use Rattle.refusals.specs.declared.Refusal.the-variants.{Done, NoCluster, TooMany, Shape, Count, Weight, Model, Table, Row}
-use Rattle.refusals.specs.declared.Refusal.the-variants.{OtherTrio, NotComplete, NoCall, BadPart, Block, Check, Layout}
+use Rattle.refusals.specs.declared.Refusal.the-variants.{OtherTrio, NotComplete, NoCall, BadPart, Block, Check, Layout, Rule}
 
--- R0 to R15: the number of a refusal
+-- R0 to R16: the number of a refusal
 abbrev pub numberOf : Refusal → ℕ
 numberOf Done = 0
 numberOf NoCluster = 1
@@ -22,3 +22,4 @@ numberOf BadPart = 12
 numberOf Block = 13
 numberOf Check = 14
 numberOf Layout = 15
+numberOf Rule = 16

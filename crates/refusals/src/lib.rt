@@ -22,6 +22,7 @@ pub enum Refusal {
     Block,
     Check,
     Layout,
+    Rule,
 }
 
 // The number by which callers in other languages and every text form know it.
@@ -45,5 +46,6 @@ pub fn number(r: Refusal) -> u32
         Refusal::Block => 13,
         Refusal::Check => 14,
         Refusal::Layout => 15,
+        Refusal::Rule => 16,
     }
 }

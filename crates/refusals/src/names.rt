@@ -24,5 +24,6 @@ pub fn name(r: Refusal) -> [u8; 11]
         Refusal::Block => *b"Block\0\0\0\0\0\0",
         Refusal::Check => *b"Check\0\0\0\0\0\0",
         Refusal::Layout => *b"Layout\0\0\0\0\0",
+        Refusal::Rule => *b"Rule\0\0\0\0\0\0\0",
     }
 }

@@ -1,6 +1,8 @@
 -- The notebook gives the number of different child pairs, for every two parents, also where a pair has its higher number in front: by cases
 -- on which of their four numbers are equal. Assumes nothing.
-use Prim.Native.Nat.{ℕ, _+_}
+use Prim.Native.Nat.{ℕ, _+_, _≤_}
+use native.Mathlib.Omega.{arith}
+use mir.Val.{boolByte}
 use mathlib.Core.Path.{_≡_, refl, sym, _∙_}
 use mathlib.Core.Bool.{Bool, true, false, not, cond, _&&_, _||_}
 use mathlib.Core.List.{[], _∷_}
@@ -20,6 +22,15 @@ use Rattle.trio_mendel.proofs.MendelLaws.{same-ordered, same-row, same-
 -- one for what is there
 abbrev pub oneIf : Bool → ℕ
 oneIf there = cond there 1 0
+
+-- a bool as a number of the code
+pub as-number : (b : Bool) → boolByte b ≡ oneIf b
+as-number true = refl
+as-number false = refl
+
+pub one-at-most : (b : Bool) → boolByte b ≤ 1
+one-at-most true = omega arith
+one-at-most false = omega arith
 
 -- the alleles of a pair, by whether its two numbers are the same
 abbrev pub countBy : Bool → ℕ
@@ -56,7 +67,7 @@ shared-by f m = go (eqb (f .low) (f .high)) (carries m (f .low)) (carries m (f .
 module _ (a b k l : ℕ) where
   -- by which of the four are equal, `ab` saying whether a is b and so on: the length of the list, one more for each combination that is not
   -- the same as one before it, and the notebook's number
-  abbrev byList : Bool → Bool → Bool → Bool → Bool → Bool → ℕ
+  abbrev pub byList : Bool → Bool → Bool → Bool → Bool → Bool → ℕ
   byList ab kl ka la kb lb =
       let ends = (ab && kl) || (la && kb) in
       let middle = (ab && kl) || (ka && lb) in
@@ -65,7 +76,7 @@ module _ (a b k l : ℕ) where
   abbrev byNotebook : Bool → Bool → Bool → Bool → Bool → Bool → ℕ
   byNotebook ab kl ka la kb lb = pairsMade (countBy ab) (countBy kl) (sharedBy ab (ka || la) (kb || lb))
 
-  four-by-list : length (distinct (combinations (pair a b) (pair k l)))
+  pub four-by-list : length (distinct (combinations (pair a b) (pair k l)))
       ≡ byList (eqb a b) (eqb k l) (eqb k a) (eqb l a) (eqb k b) (eqb l b)
   four-by-list =
       four-count (ordered a k) (ordered a l) (ordered b k) (ordered b l)

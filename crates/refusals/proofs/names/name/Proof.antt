@@ -52,6 +52,9 @@ enum-told-15 c = search needs
 enum-told-16 : tie.Need-enum-told-16
 enum-told-16 c = search needs
 
+enum-told-17 : tie.Need-enum-told-17
+enum-told-17 c = search needs
+
 returns : tie.Need-returns
 returns c = rw (c .before .before .enum-told .given .1) refl
 
@@ -100,6 +103,9 @@ returns-15 c = rw (c .before .before .enum-told15 .given .1) refl
 returns-16 : tie.Need-returns-16
 returns-16 c = rw (c .before .before .enum-told16 .given .1) refl
 
+returns-17 : tie.Need-returns-17
+returns-17 c = rw (c .before .before .enum-told17 .given .1) refl
+
 pub name-spec : {M : Type 1} → statement M
 name-spec =
     tie.close
@@ -120,6 +126,7 @@ name-spec =
     enum-told-14
     enum-told-15
     enum-told-16
+    enum-told-17
     returns
     returns-2
     returns-3
@@ -135,4 +142,5 @@ name-spec =
     returns-13
     returns-14
     returns-15
-    returns-16)
+    returns-16
+    returns-17)

@@ -1,24 +1,13 @@
 -- `trio_mendel::mendel::shared_count` meets its contract. Assumes nothing.
-use Prim.Native.Nat.{_≤_}
-use mathlib.Core.Path.{_≡_, refl, ap, _∙_}
-use mathlib.Core.Bool.{Bool, true, false}
+use mathlib.Core.Path.{_≡_, ap, _∙_}
 use native.Mathlib.Omega.{arith}
 use mir.Val.{boolByte}
 use borrow.Author.Needs.{needs}
 use borrow.Author.Tests.{eq-eqb, ne-eqb}
 use Rattle.trio_mendel.specs.Decision.{carries}
-use Rattle.trio_mendel.proofs.CountLaws.{oneIf, shared-by}
+use Rattle.trio_mendel.proofs.CountLaws.{oneIf, as-number, one-at-most, shared-by}
 use Rattle.trio_mendel.proofs.mendel.shared_count.Statement.{statement}
 use Rattle.trio_mendel.proofs.mendel.shared_count.Tie as tie
-
--- a bool as a number
-as-number : (b : Bool) → boolByte b ≡ oneIf b
-as-number true = refl
-as-number false = refl
-
-one-at-most : (b : Bool) → boolByte b ≤ 1
-one-at-most true = omega arith
-one-at-most false = omega arith
 
 carries-requires : tie.Need-carries-requires
 carries-requires c κs = search needs
