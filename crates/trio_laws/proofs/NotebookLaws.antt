@@ -157,11 +157,6 @@ parents-exchanged c f m =
 -- ---- which of the four combinations can be the same; of one row or one column see `same-row` and `same-column`
 -- (trio_mendel/proofs/MendelLaws.antt)
 
--- a pair is the same either way round
-pub either-order : (a b : ℕ) → ordered a b ≡ ordered b a
-either-order a b =
-    same-is (ordered a b) (ordered b a) (same-ordered a b b a ∙ rw (eq-eqb a a refl, eq-eqb b b refl) (or-true (together a b b a)))
-
 -- two pairs that are the same, and their first numbers are not: they match crosswise
 match-crosswise : (x y u v : ℕ) → (x ≡ u → ⊥) → matchedPairs x y u v ≡ true → (x ≡ v) × (y ≡ u)
 match-crosswise x y u v other = go (together x u y v) refl

@@ -1,7 +1,7 @@
 -- Pairs: when two are the same; what is among the different ones of a list, and how many they are. Assumes nothing.
 use Prim.Native.Nat.{ℕ, suc, _≤_, suc-le-suc, zero-le}
 use mathlib.Core.Path.{_≡_, refl, sym, ap, _∙_}
-use mathlib.Core.Bool.{Bool, true, false, not, cond, _&&_, _||_, and-comm, and-true, and-eq-true-iff}
+use mathlib.Core.Bool.{Bool, true, false, not, cond, _&&_, _||_, and-comm, and-true, or-true, and-eq-true-iff}
 use mathlib.Core.List.{List, [], _∷_, _++_, append-nil}
 use native.Mathlib.Nat.{le-trans}
 use native.Mathlib.Omega.{arith}
@@ -79,6 +79,11 @@ same-ordered x y u v = go (leb x y) (leb u v) refl refl
         let l = leb-false x y p in
         let k = leb-false u v q in
         and-comm (eqb y v) (eqb x u) ∙ or-left straight crossed (together-then x v y u x u y v (λ e d. (omega arith, omega arith)))
+
+-- a pair is the same either way round
+pub either-order : (a b : ℕ) → ordered a b ≡ ordered b a
+either-order a b =
+    same-is (ordered a b) (ordered b a) (same-ordered a b b a ∙ rw (eq-eqb a a refl, eq-eqb b b refl) (or-true (together a b b a)))
 
 -- two combinations with one allele of the father are the same exactly when the mother's two alleles are
 pub same-row : (a k l : ℕ) → samePair (ordered a k) (ordered a l) ≡ eqb k l

@@ -3,8 +3,8 @@ use Prim.Native.Nat.{ℕ, _+_}
 use native.Mathlib.Omega.{arith}
 use mathlib.Core.Logic.{_⊎_, _≢_, inl, inr, ⊎-elim}
 use mathlib.Core.Path.{_≡_, refl, sym, ap, subst, _∙_}
-use mathlib.Core.Bool.{Bool, true, false, cond, _&&_, _||_, and-comm}
-use borrow.Author.Tests.{eq-eqb, ne-eqb}
+use mathlib.Core.Bool.{Bool, true, false, cond, _&&_, _||_, and-comm, true≢false}
+use borrow.Author.Tests.{eqb-true, eq-eqb, ne-eqb}
 use lib.Dec.{eqb}
 use lib.ListN.{length}
 use lib.Ieee.{Float, binary64, size, add, sub, mul, div, round, lt, le, ofInt, ofBits, neg}
@@ -15,7 +15,7 @@ use Rattle.trio_family.specs.declared.pair.Pair.{Pair}
 use Rattle.trio_family.specs.Genotypes.{pair}
 use Rattle.trio_mendel.specs.Mendel.{ordered, samePair, among, combinations, childPairs, mendelTerm}
 use Rattle.trio_mendel.specs.Rules.{waysOf, gameteTerm, termOf, alikeHets}
-use Rattle.trio_mendel.proofs.MendelLaws.{same-is, same-ordered, same-row, same-column, distinct-same}
+use Rattle.trio_mendel.proofs.MendelLaws.{same-is, same-ordered, either-order, same-row, same-column, distinct-same}
 use Rattle.trio_mendel.proofs.CountLaws.{oneIf}
 use Rattle.trio_mendel.proofs.WaysLaws.{four-ways, differentBy, waysBy, crosswise, straightOn, different-by, apart-or-one}
 
@@ -182,3 +182,61 @@ rules-agree c f m rule h = go (eqb rule 2)
     go : (t : Bool) → cond t (gameteTerm c f m) (mendelTerm c f m) ≡ mendelTerm c f m
     go true = gametes-even f m c h
     go false = refl
+
+-- ---- where they are: a quarter, a half, a quarter
+
+module _ (a b : ℕ) (differ : a ≢ b) (c : Pair) where
+  abbrev own : Pair
+  own = ordered (c .low) (c .high)
+
+  abbrev isChild : ℕ → ℕ → Bool
+  isChild x y = samePair (ordered x y) own
+
+  swapped : isChild b a ≡ isChild a b
+  swapped = ap (λ (p : Pair). samePair p own) (either-order b a)
+
+  -- the child is no two of the three pairs
+  never-two : (x y u v : ℕ) → samePair (ordered x y) (ordered u v) ≡ eqb a b → isChild x y ≡ true → isChild u v ≡ true → ⊥
+  never-two x y u v same h g =
+      let e = same-is (ordered x y) own h ∙ sym (same-is (ordered u v) own g) in
+      let t = sym (ap (λ (p : Pair). samePair p (ordered u v)) e ∙ itself (ordered u v)) ∙ same in
+      differ (eqb-true a b (sym t))
+    where
+      itself : (p : Pair) → samePair p p ≡ true
+      itself p = rw (eq-eqb (p .low) (p .low) refl, eq-eqb (p .high) (p .high) refl)
+
+  homozygotes : samePair (ordered a a) (ordered b b) ≡ eqb a b
+  homozygotes = same-ordered a a b b ∙ go (eqb a b)
+    where
+      go : (t : Bool) → ((t && t) || (t && t)) ≡ t
+      go true = refl
+      go false = refl
+
+  -- a homozygote is not a/b
+  pub no-middle : (isChild a a || isChild b b) ≡ true → isChild a b ≡ false
+  no-middle h = go (isChild a a) (isChild b b) (isChild a b) refl refl refl h
+    where
+      go : (p s q : Bool) → isChild a a ≡ p → isChild b b ≡ s → isChild a b ≡ q → (p || s) ≡ true → q ≡ false
+      go p s false P S Q t = refl
+      go true s true P S Q t = absurd (never-two a a a b (same-row a a b) P Q)
+      go false true true P S Q t = absurd (never-two a b b b (same-column a b b) Q S)
+      go false false true P S Q t = absurd (true≢false (sym t))
+
+  -- the term of a child of two parents a/b under rule 2: a half for a/b, a quarter for a/a and for b/b
+  pub gametes-alike : gameteTerm c (pair a b) (pair a b)
+      ≡ cond (isChild a b) (lnOf (nat 1 ⊘ nat 2)) (cond (isChild a a || isChild b b) (lnOf (nat 1 ⊘ nat 4)) (lnOf (decimal 1 6)))
+  unfolding gameteTerm waysOf
+  gametes-alike =
+      rw (four-ways (pair a b) (pair a b) own, swapped) (go (isChild a a) (isChild a b) (isChild b b) refl refl refl)
+    where
+      go : (p q s : Bool) → isChild a a ≡ p → isChild a b ≡ q → isChild b b ≡ s
+          → let w = oneIf p + oneIf q + oneIf q + oneIf s in
+          cond (eqb w 0) (lnOf (decimal 1 6)) (lnOf (nat w ⊘ nat 4))
+          ≡ cond q (lnOf (nat 1 ⊘ nat 2)) (cond (p || s) (lnOf (nat 1 ⊘ nat 4)) (lnOf (decimal 1 6)))
+      go true true s P Q S = absurd (never-two a a a b (same-row a a b) P Q)
+      go true false true P Q S = absurd (never-two a a b b homozygotes P S)
+      go true false false P Q S = refl
+      go false true true P Q S = absurd (never-two a b b b (same-column a b b) Q S)
+      go false true false P Q S = ap lnOf two-ways
+      go false false true P Q S = refl
+      go false false false P Q S = refl

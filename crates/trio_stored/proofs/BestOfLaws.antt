@@ -23,7 +23,7 @@ entries-same s t p (suc m) h =
     let rest = entries-same s t (suc p) m (λ q a b. h q (omega arith) (omega arith)) in
     cc
 
-module _ (n : ℕ) (counts : List ℕ) (weights : List Float) (one : 1 ≤ n) (few : n ≤ 8) where
+module _ (n : ℕ) (counts : List ℕ) (weights : List Float) (rule : ℕ) (one : 1 ≤ n) (few : n ≤ 8) where
   abbrev G : ℕ
   G = genotypeCount n
 
@@ -31,23 +31,23 @@ module _ (n : ℕ) (counts : List ℕ) (weights : List Float) (one : 1 ≤ n) (f
   W = rowWidth n
 
   abbrev stored : ℕ → Float
-  stored = storedScore n (listsOf n counts weights)
+  stored = storedScore n rule (listsOf n counts weights)
 
   abbrev ruled : ℕ → Float
-  ruled = scoreOf n counts weights
+  ruled = scoreOf n counts weights rule
 
   same : (q : ℕ) → q < G * W → stored q ≡ ruled q
-  same q h = stored-is n counts weights one few q h
+  same q h = stored-is n counts weights rule one few q h
 
   -- all rows of the lists of an input: the rules' own one pass
-  pub all-stored : bestOfAll n (listsOf n counts weights) ≡ heldOf (onePass 2 (allEntries G W ruled))
+  pub all-stored : bestOfAll n rule (listsOf n counts weights) ≡ heldOf (onePass 2 (allEntries G W ruled))
   unfolding bestOfAll
   all-stored =
       rw (le-leb 1 n one, le-leb n 8 few)
       (ap (λ l. heldOf (onePass 2 l)) (entries-same stored ruled 0 (G * W) (λ q a b. same q (omega arith))))
 
   -- a row of them
-  pub row-stored : (r : ℕ) → r < G → bestOfRow n r (listsOf n counts weights) ≡ heldOf (onePass 2 (rowEntries W ruled r))
+  pub row-stored : (r : ℕ) → r < G → bestOfRow n rule r (listsOf n counts weights) ≡ heldOf (onePass 2 (rowEntries W ruled r))
   unfolding bestOfRow
   row-stored r h =
       let last : r * W + W ≤ G * W = omega (arith, suc-mul r W, mul-le-mul h (le-refl W)) in

@@ -1,7 +1,7 @@
 -- The children of one father and one mother: a bound for their scores, and the three ways in which they are offered. Assumes nothing.
 use Prim.Native.Nat.{ℕ, _+_, _-_, _≤_, _<_}
 use native.Mathlib.Omega.{arith}
-use mathlib.Core.Bool.{true, false, cond, or-true}
+use mathlib.Core.Bool.{Bool, true, false, cond, or-true}
 use mathlib.Core.List.{List}
 use mathlib.Core.Path.{_≡_, refl, sym, ap, subst, _∙_}
 use borrow.Author.Tests.{eq-eqb}
@@ -12,18 +12,20 @@ use lib.Ieee.Fits.{add-fits}
 use lib.Ieee.Scale.{finite}
 use Rattle.floats.specs.F64.{_⊕_}
 use Rattle.floats.proofs.Ranges.{le-number}
-use Rattle.floats.proofs.RisingSums.{_≼_, ≼-trans, add-left-number, rises, rises-left, rises-to}
+use Rattle.floats.proofs.RisingSums.{_≼_, ≼-itself, ≼-trans, add-left-number, rises, rises-left, rises-to}
 use Rattle.trio_entries.specs.declared.held.Held.{Held}
 use Rattle.trio_entries.specs.Held.{heldOf, heldList}
 use Rattle.trio_family.specs.declared.pair.Pair.{Pair}
 use Rattle.trio_family.specs.Genotypes.{genotypeCount, genotypeAt}
 use Rattle.trio_family.proofs.GenotypesLaws.{genotypes-few}
-use Rattle.trio_mendel.specs.Mendel.{mendelTerm}
+use Rattle.trio_mendel.specs.Rules.{termOf}
 use Rattle.trio_stored.specs.declared.terms.Places.{Places}
-use Rattle.trio_stored.specs.Terms.{PairIn, placesOf, onPlaces, likelyTerm, unlikeTerm, TermsAt}
+use Rattle.trio_stored.specs.Terms.{PairIn, placesOf, between, atEnds, onPlaces, outerTerm, innerTerm, unlikeTerm}
+use Rattle.trio_stored.specs.Terms.{placedTerm, TermsAt}
 use Rattle.trio_stored.specs.Walk.{fallen, fourOf, blockScore, evenScore, familyScore, toPass, AtMost, HeldPast}
-use Rattle.trio_stored.proofs.PlacesLaws.{Rise, places-rise, term-by-place}
-use Rattle.trio_stored.proofs.TermLaws.{Term, likely-term, unlike-term, mendel-term, at-most-likely}
+use Rattle.trio_stored.proofs.PlacesLaws.{Rise, places-rise}
+use Rattle.trio_stored.proofs.TermPlaces.{term-by-place, term-at-ends, term-between, term-elsewhere}
+use Rattle.trio_stored.proofs.TermLaws.{Term, inner-term, outer-most, unlike-term, rule-term}
 use Rattle.trio_stored.proofs.WalkLaws.{NoGain, no-gain-under, not-passing, place-back}
 use Rattle.trio_stored.proofs.FallLaws.{fallen-same, fallen-ext}
 use Rattle.trio_stored.proofs.FourLaws.{four-fallen, four-ext}
@@ -38,12 +40,12 @@ under-bound base child top term t f g k l fin h m n =
     (rises-left t (base ⊕ child) (base ⊕ top) (add-fits binary64 base child) (add-fits binary64 base top) n
     (rises base child top f g (add-left-number (base ⊕ top) t n) h))
 
-module _ (n : ℕ) (f m : Pair) (child : List Float) (base top : Float) (at : ℕ) where
+module _ (n rule : ℕ) (f m : Pair) (child : List Float) (base top : Float) (at : ℕ) where
   abbrev score : ℕ → Float
-  score = familyScore n f m child base at
+  score = familyScore n rule f m child base at
 
   abbrev termAt : ℕ → Float
-  termAt k = mendelTerm (genotypeAt n k) f m
+  termAt k = termOf rule (genotypeAt n k) f m
 
   -- the score of the child at place k
   score-at : (k : ℕ) → score (at + k) ≡ base ⊕ getD child k nan ⊕ termAt k
@@ -57,7 +59,7 @@ module _ (n : ℕ) (f m : Pair) (child : List Float) (base top : Float) (at : �
       → termAt k ≼ t → score (at + k) ≼ base ⊕ top ⊕ t
   child-low g t most is number k l h =
       rw (score-at k)
-      (under-bound base (getD child k nan) top (termAt k) t (most .all-fit k) (most .fit) (mendel-term (genotypeAt n k) f m .is-f64)
+      (under-bound base (getD child k nan) top (termAt k) t (most .all-fit k) (most .fit) (rule-term (genotypeAt n k) f m rule .is-f64)
       (is .is-f64) (is .is-finite) (most .most k l) h number)
 
   module _ (q : ℕ) (h : Held) (past : HeldPast q h) (t : Float) (test : T (le (base ⊕ top ⊕ t) (toPass h))) where
@@ -74,8 +76,20 @@ module _ (n : ℕ) (f m : Pair) (child : List Float) (base top : Float) (at : �
     inside : (k : ℕ) → k < g → k < genotypeCount n
     inside k l = rw (← is) l
 
+    -- no term is above the one between
+    at-most-inner : (j : ℕ) → j < g → termAt j ≼ innerTerm rule f m
+    at-most-inner j l =
+        subst (λ (x : Float). x ≼ innerTerm rule f m) (sym (term-by-place n f m few F M rule j (inside j l)))
+        (go (between (placesOf n f m) j) (atEnds (placesOf n f m) j))
+      where
+        go : (s t : Bool) → cond s (innerTerm rule f m) (cond t (outerTerm rule f m) unlikeTerm) ≼ innerTerm rule f m
+        go true t = ≼-itself (innerTerm rule f m)
+        go false true = outer-most rule f m
+        go false false = inner-term rule f m .not-below
+
     -- no child is offered
-    pub family-none : (t : Float) → t ≡ likelyTerm f m → T (le (base ⊕ top ⊕ t) (toPass h)) → h ≡ heldOf (fallen score at g (heldList h))
+    pub family-none : (t : Float) → t ≡ innerTerm rule f m → T (le (base ⊕ top ⊕ t) (toPass h))
+        → h ≡ heldOf (fallen score at g (heldList h))
     family-none t e test =
         past .normal
         ∙ ap heldOf (sym (fallen-same score at g (at + g) (heldList h) (past .past) (omega arith) (λ k l.
@@ -83,64 +97,63 @@ module _ (n : ℕ) (f m : Pair) (child : List Float) (base top : Float) (at : �
       where
         low : (k : ℕ) → k < g → score (at + k) ≼ base ⊕ top ⊕ t
         low k l =
-            child-low g t most (subst Term (sym e) (likely-term f m)) (bound-number (at + g) h past t test) k l
-            (rw e (at-most-likely (genotypeAt n k) f m))
+            child-low g t most (subst Term (sym e) (inner-term rule f m)) (bound-number (at + g) h past t test) k l
+            (rw e (at-most-inner k l))
 
     -- those at four places are
     abbrev k : Places
     k = placesOf n f m
 
-    on-first : onPlaces k (k .first) ≡ true
-    on-first = rw (eq-eqb (k .first) (k .first) refl)
+    first-on : atEnds k (k .first) ≡ true
+    first-on = rw (eq-eqb (k .first) (k .first) refl)
 
-    on-second : onPlaces k (k .second) ≡ true
-    on-second = rw (eq-eqb (k .second) (k .second) refl) (or-true (eqb (k .second) (k .first)))
+    second-on : between k (k .second) ≡ true
+    second-on = rw (eq-eqb (k .second) (k .second) refl)
 
-    on-third : onPlaces k (k .third) ≡ true
-    on-third =
-        rw (eq-eqb (k .third) (k .third) refl, or-true (eqb (k .third) (k .second))) (or-true (eqb (k .third) (k .first)))
+    third-on : between k (k .third) ≡ true
+    third-on = rw (eq-eqb (k .third) (k .third) refl) (or-true (eqb (k .third) (k .second)))
 
-    on-fourth : onPlaces k (k .fourth) ≡ true
-    on-fourth =
-        rw (eq-eqb (k .fourth) (k .fourth) refl, or-true (eqb (k .fourth) (k .third)), or-true (eqb (k .fourth) (k .second)))
-        (or-true (eqb (k .fourth) (k .first)))
+    fourth-on : atEnds k (k .fourth) ≡ true
+    fourth-on = rw (eq-eqb (k .fourth) (k .fourth) refl) (or-true (eqb (k .fourth) (k .first)))
 
-    -- at one of these places the term is the likely one
-    on-place : (j : ℕ) → j < g → onPlaces k j ≡ true → score (at + j) ≡ evenScore child (likelyTerm f m) base at (at + j)
-    on-place j l e =
-        let term : termAt j ≡ likelyTerm f m = term-by-place n f m few F M j (inside j l) ∙ rw e in
-        rw (place-back at j) (ap (λ (x : Float). base ⊕ getD child j nan ⊕ x) term)
+    -- the score at a place with a known term
+    with-term : (x : Float) (j : ℕ) → termAt j ≡ x → score (at + j) ≡ evenScore child x base at (at + j)
+    with-term x j term = rw (place-back at j) (ap (λ (y : Float). base ⊕ getD child j nan ⊕ y) term)
 
-    off-place : (j : ℕ) → j < g → onPlaces k j ≡ false → termAt j ≡ unlikeTerm
-    off-place j l e = term-by-place n f m few F M j (inside j l) ∙ rw e
+    outer-at : (j : ℕ) → j < g → atEnds k j ≡ true → score (at + j) ≡ evenScore child (outerTerm rule f m) base at (at + j)
+    outer-at j l e = with-term (outerTerm rule f m) j (term-at-ends n f m few F M rule j (inside j l) e)
+
+    inner-at : (j : ℕ) → j < g → between k j ≡ true → score (at + j) ≡ evenScore child (innerTerm rule f m) base at (at + j)
+    inner-at j l e = with-term (innerTerm rule f m) j (term-between n f m few F M rule j (inside j l) e)
 
     rise : Rise k g
     rise = rw is (places-rise n f m few F M)
 
-    pub family-four : (t : Float) → t ≡ likelyTerm f m → T (le (base ⊕ top ⊕ unlikeTerm) (toPass h))
-        → fourOf (evenScore child t base at) at g k (heldList h) ≡ fallen score at g (heldList h)
-    family-four t e test =
+    pub family-four : (o i : Float) → o ≡ outerTerm rule f m → i ≡ innerTerm rule f m → T (le (base ⊕ top ⊕ unlikeTerm) (toPass h))
+        → fourOf (evenScore child o base at) (evenScore child i base at) at g k (heldList h) ≡ fallen score at g (heldList h)
+    family-four o i e d test =
         let w = rise .to-second in
         let x = rise .to-third in
         let y = rise .to-fourth in
         let z = rise .to-end in
         let b = base ⊕ top ⊕ unlikeTerm in
-        rw e
-        (sym (four-ext score (evenScore child (likelyTerm f m) base at) at g k (heldList h) (on-place (k .first) (omega arith) on-first)
-        (on-place (k .second) (omega arith) on-second) (on-place (k .third) (omega arith) on-third)
-        (on-place (k .fourth) (omega arith) on-fourth))
+        let outer = evenScore child (outerTerm rule f m) base at in
+        let inner = evenScore child (innerTerm rule f m) base at in
+        rw (e, d)
+        (sym (four-ext score outer inner at g k (heldList h) (outer-at (k .first) (omega arith) first-on)
+        (inner-at (k .second) (omega arith) second-on) (inner-at (k .third) (omega arith) third-on)
+        (outer-at (k .fourth) (omega arith) fourth-on))
         ∙ four-fallen score score-fits at b g k (heldList h) rise (past .past) (bound-no-gain (at + g) h past unlikeTerm test) (λ j l off.
         child-low g unlikeTerm most unlike-term (bound-number (at + g) h past unlikeTerm test) j l
-        (subst (λ (v : Float). v ≼ unlikeTerm) (sym (off-place j l off)) (unlike-term .not-below))))
+        (subst (λ (v : Float). v ≼ unlikeTerm) (sym (term-elsewhere n f m few F M rule j (inside j l) off)) (unlike-term .not-below))))
 
     -- all are, by a list of terms
-    pub family-all : (t : Float) (terms : List Float) → t ≡ likelyTerm f m → TermsAt k t terms
+    pub family-all : (o i : Float) (terms : List Float) → o ≡ outerTerm rule f m → i ≡ innerTerm rule f m → TermsAt k o i terms
         → fallen (blockScore child terms base at) at g (heldList h) ≡ fallen score at g (heldList h)
-    family-all t terms e at-places =
+    family-all o i terms e d at-places =
         fallen-ext (blockScore child terms base at) score at g (heldList h) (λ j l.
         let c : j < 36 = omega (arith, genotypes-few n few, inside j l) in
         let term : getD terms j nan ≡ termAt j =
         at-places j c
-        ∙ ap (λ (x : Float). cond (onPlaces k j) x unlikeTerm) e
-        ∙ sym (term-by-place n f m few F M j (inside j l)) in
+        ∙ rw (e, d) (sym (term-by-place n f m few F M rule j (inside j l))) in
         rw (place-back at j) (ap (λ (x : Float). base ⊕ getD child j nan ⊕ x) term))

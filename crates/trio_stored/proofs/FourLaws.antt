@@ -111,7 +111,7 @@ module _ (score : ℕ → Float) (fit : (q : ℕ) → T (fits binary64 (score q)
     apart k j p q r s = rw (ne-eqb j (k .first) p, ne-eqb j (k .second) q, ne-eqb j (k .third) r, ne-eqb j (k .fourth) s)
 
     pub four-fallen : (g : ℕ) (k : Places) (h : List Entry) → Rise k g → AllPast (at + g) h → NoGain b h
-        → ((j : ℕ) → j < g → onPlaces k j ≡ false → score (at + j) ≼ b) → fourOf score at g k h ≡ fallen score at g h
+        → ((j : ℕ) → j < g → onPlaces k j ≡ false → score (at + j) ≼ b) → fourOf score score at g k h ≡ fallen score at g h
     four-fallen g k h r a n low =
         let w = r .to-second in
         let x = r .to-third in
@@ -134,11 +134,11 @@ module _ (score : ℕ → Float) (fit : (q : ℕ) → T (fits binary64 (score q)
         (low j (omega arith) (apart k j (λ e. omega arith) (λ e. omega arith) (λ e. omega arith) (λ e. omega arith))) (four .gain)) in
         sym (one .same ∙ two .same ∙ three .same ∙ four .same ∙ rest)
 
--- by a score that is the same at the four places
-pub four-ext : (s t : ℕ → Float) (at g : ℕ) (k : Places) (h : List Entry) → s (at + k .first) ≡ t (at + k .first)
-    → s (at + k .second) ≡ t (at + k .second) → s (at + k .third) ≡ t (at + k .third) → s (at + k .fourth) ≡ t (at + k .fourth)
-    → fourOf s at g k h ≡ fourOf t at g k h
-four-ext s t at g k h a b c d = rw (a, b, c, d)
+-- by two scores that are the same at their places
+pub four-ext : (s outer inner : ℕ → Float) (at g : ℕ) (k : Places) (h : List Entry) → s (at + k .first) ≡ outer (at + k .first)
+    → s (at + k .second) ≡ inner (at + k .second) → s (at + k .third) ≡ inner (at + k .third) → s (at + k .fourth) ≡ outer (at + k .fourth)
+    → fourOf s s at g k h ≡ fourOf outer inner at g k h
+four-ext s outer inner at g k h a b c d = rw (a, b, c, d)
 
 -- ---- with one term for all
 

@@ -2,7 +2,7 @@
 -- places of the combinations of their alleles. Assumes nothing.
 use Prim.Native.Nat.{ℕ, zero, suc, _+_, _≤_, _<_}
 use native.Mathlib.Omega.{arith}
-use mathlib.Core.Bool.{Bool, true, false, not, _&&_, _||_, cond, true≢false, or-false}
+use mathlib.Core.Bool.{Bool, true, false, not, _&&_, _||_, cond, true≢false, or-false, or-comm}
 use mathlib.Core.Path.{_≡_, refl, sym, ap, subst, _∙_}
 use borrow.Author.Tests.{eq-eqb, ne-eqb, le-leb, lt-ltb, leb-true, leb-false, ltb-true, eqb-true}
 use lib.Dec.{T, eqb, leb, ltb}
@@ -13,10 +13,10 @@ use Rattle.lists.specs.Every.{every}
 use Rattle.trio_family.specs.declared.pair.Pair.{Pair}
 use Rattle.trio_family.specs.Genotypes.{pair, genotypeCount, genotypeAt}
 use Rattle.trio_family.proofs.GenotypesLaws.{genotypes-few}
-use Rattle.trio_mendel.specs.Mendel.{ordered, samePair, among, combinations, childPairs, mendelTerm}
+use Rattle.trio_mendel.specs.Mendel.{ordered, samePair, among, combinations, childPairs}
 use Rattle.trio_mendel.proofs.MendelLaws.{same-is, distinct-same}
 use Rattle.trio_stored.specs.declared.terms.Places.{Places}
-use Rattle.trio_stored.specs.Terms.{placeOf, placeBoth, PairIn, laterOf, earlierOf, placesOf, onPlaces, likelyTerm, unlikeTerm}
+use Rattle.trio_stored.specs.Terms.{placeOf, placeBoth, PairIn, laterOf, earlierOf, placesOf, onPlaces}
 
 -- ---- a test on numbers that holds up to a limit
 
@@ -169,11 +169,11 @@ module _ (n : ℕ) (few : n ≤ 8) where
             sym (ne-eqb p (placeOf n (q .low) (q .high)) (λ d.
             true≢false (sym (itself q) ∙ ap (samePair q) (sym (at-place q i) ∙ ap (genotypeAt n) (sym d)) ∙ e)))
 
-    both-place : (a b : ℕ) → a < n → b < n → samePair (ordered a b) here ≡ eqb p (placeBoth n a b)
+    pub both-place : (a b : ℕ) → a < n → b < n → samePair (ordered a b) here ≡ eqb p (placeBoth n a b)
     unfolding placeBoth
     both-place a b h k = same-place (ordered a b) (ordered-in a b h k)
 
-    in-order : ordered (here .low) (here .high) ≡ here
+    pub in-order : ordered (here .low) (here .high) ≡ here
     in-order = rw (le-leb (here .low) (here .high) (pair-in .0))
 
 -- ---- the places of two parents
@@ -229,18 +229,21 @@ module _ (n : ℕ) (f m : Pair) (few : n ≤ 8) (F : PairIn n f) (M : PairIn n m
           record { to-second = b; to-third = omega arith; to-fourth = c; to-end = both-inside n few (f .high) (m .high) (F .1) (M .1) }
 
   -- the two in the middle, in either order
-  middle : (p : ℕ) (t u : Bool) → (u || (eqb p (earlierOf q r) || (eqb p (laterOf q r) || t))) ≡ (u || (eqb p q || (eqb p r || t)))
-  middle p t u = go (leb q r) (eqb p q) (eqb p r) refl refl u
+  middle : (p : ℕ) (t u : Bool) → ((eqb p (earlierOf q r) || eqb p (laterOf q r)) || (u || t)) ≡ (u || (eqb p q || (eqb p r || t)))
+  middle p t u = go (leb q r) (eqb p q) (eqb p r) refl refl
     where
-      go : (s x y : Bool) → eqb p q ≡ x → eqb p r ≡ y → (u : Bool)
-          → (u || (eqb p (cond s q r) || (eqb p (cond s r q) || t))) ≡ (u || (x || (y || t)))
-      go true x y e g u = rw (e, g)
-      go false x true e g true = refl
-      go false x false e g true = refl
-      go false true true e g false = rw (e, g)
-      go false true false e g false = rw (e, g)
-      go false false true e g false = rw (e, g)
-      go false false false e g false = rw (e, g)
+      by-two : (u x y t : Bool) → ((x || y) || (u || t)) ≡ (u || (x || (y || t)))
+      by-two true true y t = refl
+      by-two true false true t = refl
+      by-two true false false t = refl
+      by-two false true y t = refl
+      by-two false false true t = refl
+      by-two false false false t = refl
+
+      go : (s x y : Bool) → eqb p q ≡ x → eqb p r ≡ y
+          → ((eqb p (cond s q r) || eqb p (cond s r q)) || (u || t)) ≡ (u || (x || (y || t)))
+      go true x y e g = rw (e, g) (by-two u x y t)
+      go false x y e g = rw (e, g, or-comm y x) (by-two u x y t)
 
   -- the child at place p is one that the parents can have exactly when p is one of these places
   pub among-places : (p : ℕ) → p < genotypeCount n
@@ -256,8 +259,3 @@ module _ (n : ℕ) (f m : Pair) (few : n ≤ 8) (F : PairIn n f) (M : PairIn n m
         both-place n few p h (f .high) (m .high) (F .1) (M .1),
         or-false (eqb p (placeBoth n (f .high) (m .high))),
       ) (sym (middle p (eqb p (placeBoth n (f .high) (m .high))) (eqb p (placeBoth n (f .low) (m .low)))))
-
-  pub term-by-place : (p : ℕ) → p < genotypeCount n
-      → mendelTerm (genotypeAt n p) f m ≡ cond (onPlaces (placesOf n f m) p) (likelyTerm f m) unlikeTerm
-  unfolding mendelTerm
-  term-by-place p h = ap (λ (t : Bool). cond t (likelyTerm f m) unlikeTerm) (among-places p h)

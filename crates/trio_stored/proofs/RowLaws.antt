@@ -16,14 +16,14 @@ use Rattle.trio_entries.specs.declared.held.Held.{Held}
 use Rattle.trio_entries.specs.Held.{heldOf, heldList}
 use Rattle.trio_family.specs.declared.pair.Pair.{Pair}
 use Rattle.trio_family.specs.Genotypes.{genotypeCount, genotypeAt}
-use Rattle.trio_mendel.specs.Mendel.{mendelTerm}
+use Rattle.trio_mendel.specs.Rules.{termOf}
 use Rattle.trio_samples.specs.declared.scores.Scores.{Scores}
 use Rattle.trio_search.specs.Work.{onePass, entriesFrom}
 use Rattle.trio_triples.specs.Stored.{storedScore}
 use Rattle.trio_stored.specs.Terms.{PairIn}
 use Rattle.trio_stored.specs.Walk.{fallen, familyScore, toPass, AtMost, HeldPast}
 use Rattle.trio_stored.proofs.PlacesLaws.{pair-in}
-use Rattle.trio_stored.proofs.TermLaws.{zero-term, mendel-term}
+use Rattle.trio_stored.proofs.TermLaws.{zero-term, rule-term}
 use Rattle.trio_stored.proofs.WalkLaws.{NoGain, no-gain-under, past-less, past-back, place-back}
 use Rattle.trio_stored.proofs.FallLaws.{fallen-split, fallen-ext, fallen-same, past-fallen, fallen-pass}
 use Rattle.trio_stored.proofs.FamilyLaws.{child-low, bound-number, bound-no-gain}
@@ -63,17 +63,17 @@ module _ (g f m : ℕ) (few : g ≤ 36) (hf : f < g) (hm : m < g) where
 
 -- ---- the scores of father f with mother m
 
-pub stored-fits : (n : ℕ) (s : Scores) (q : ℕ) → T (fits binary64 (storedScore n s q))
+pub stored-fits : (n rule : ℕ) (s : Scores) (q : ℕ) → T (fits binary64 (storedScore n rule s q))
 unfolding storedScore
-stored-fits n s q =
+stored-fits n rule s q =
     let g = genotypeCount n in
     let p = q % g in
     let f = q / (g * g) in
     let m = q / g % g in
     add-fits binary64 (getD (s .father) f nan ⊕ getD (s .mother) m nan ⊕ getD (s .child) p nan)
-    (mendelTerm (genotypeAt n p) (genotypeAt n f) (genotypeAt n m))
+    (termOf rule (genotypeAt n p) (genotypeAt n f) (genotypeAt n m))
 
-module _ (n : ℕ) (s : Scores) (f m : ℕ) (hm : m < genotypeCount n) where
+module _ (n rule : ℕ) (s : Scores) (f m : ℕ) (hm : m < genotypeCount n) where
   abbrev G : ℕ
   G = genotypeCount n
 
@@ -85,27 +85,27 @@ module _ (n : ℕ) (s : Scores) (f m : ℕ) (hm : m < genotypeCount n) where
   parents = getD (s .father) f nan ⊕ getD (s .mother) m nan
 
   abbrev own : ℕ → Float
-  own = familyScore n (genotypeAt n f) (genotypeAt n m) (s .child) parents at
+  own = familyScore n rule (genotypeAt n f) (genotypeAt n m) (s .child) parents at
 
-  stored-at : (p : ℕ) → p < G → own (at + p) ≡ storedScore n s (at + p)
+  stored-at : (p : ℕ) → p < G → own (at + p) ≡ storedScore n rule s (at + p)
   unfolding storedScore
   stored-at p hp = rw (child-of G f m p hm hp, father-of G f m p hm hp, mother-of G f m p hm hp, place-back at p)
 
-  pub family-is : (h : List Entry) → fallen own at G h ≡ fallen (storedScore n s) at G h
-  family-is h = fallen-ext own (storedScore n s) at G h stored-at
+  pub family-is : (h : List Entry) → fallen own at G h ≡ fallen (storedScore n rule s) at G h
+  family-is h = fallen-ext own (storedScore n rule s) at G h stored-at
 
   -- where the bound with a term of 0.0 is not above the second best, no score is
   pub family-low : (q : ℕ) (top : Float) (h : Held) → AtMost (s .child) G top → HeldPast q h → T (le (parents ⊕ top ⊕ nought) (toPass h))
-      → (p : ℕ) → p < G → NoGain (storedScore n s (at + p)) (heldList h)
+      → (p : ℕ) → p < G → NoGain (storedScore n rule s (at + p)) (heldList h)
   family-low q top h most past t p l =
       let F = genotypeAt n f in
       let M = genotypeAt n m in
-      let number = bound-number n F M (s .child) parents top at q h past nought t in
-      let term = mendel-term (genotypeAt n p) F M .not-above in
-      let low = child-low n F M (s .child) parents top at G nought most zero-term number p l term in
+      let number = bound-number n rule F M (s .child) parents top at q h past nought t in
+      let term = rule-term (genotypeAt n p) F M rule .not-above in
+      let low = child-low n rule F M (s .child) parents top at G nought most zero-term number p l term in
       rw (← stored-at p l)
       (no-gain-under (own (at + p)) (parents ⊕ top ⊕ nought) (heldList h) low
-      (bound-no-gain n F M (s .child) parents top at q h past nought t))
+      (bound-no-gain n rule F M (s .child) parents top at q h past nought t))
 
 -- ---- blocks of one width, from the last one down
 
@@ -168,10 +168,10 @@ module _ (score : ℕ → Float) (fit : (q : ℕ) → T (fits binary64 (score q)
 
 -- ---- the loop over the mothers of father f
 
-module _ (n f : ℕ) (s : Scores) (h₀ : Held) where
+module _ (n rule f : ℕ) (s : Scores) (h₀ : Held) where
   -- g is the number of genotypes
   abbrev pub Mothers : ℕ → Held → ℕ → Type 0
-  Mothers g h m = Blocks (storedScore n s) (stored-fits n s) (f * (g * g)) g g h₀ h m
+  Mothers g h m = Blocks (storedScore n rule s) (stored-fits n rule s) (f * (g * g)) g g h₀ h m
 
   module _ (h : Held) (m : ℕ) (some : 0 < m) where
     abbrev both : Float
@@ -183,14 +183,14 @@ module _ (n f : ℕ) (s : Scores) (h₀ : Held) where
         subst (λ (g : ℕ). AtMost (s .child) g top → Mothers g h m → T (le (both ⊕ top ⊕ nought) (toPass h)) → Mothers g h (m - 1)) (sym e)
         (λ most b t.
         let c = genotypeCount n in
-        blocks-same (storedScore n s) (stored-fits n s) (f * (c * c)) c c h₀ h m some b
-        (family-low n s f (m - 1) (omega (arith, b .within)) (f * (c * c) + m * c) top h most (b .held) t))
+        blocks-same (storedScore n rule s) (stored-fits n rule s) (f * (c * c)) c c h₀ h m some b
+        (family-low n rule s f (m - 1) (omega (arith, b .within)) (f * (c * c) + m * c) top h most (b .held) t))
 
     -- what is held once the children of F and M have been offered
     abbrev withFamily : ℕ → Pair → Pair → Held
     withFamily g F M =
         let at = f * (g * g) + (m - 1) * g in
-        heldOf (fallen (familyScore n F M (s .child) both at) at g (heldList h))
+        heldOf (fallen (familyScore n rule F M (s .child) both at) at g (heldList h))
 
     pub mother-offered : (g : ℕ) (F M : Pair) (o : Held) → g ≡ genotypeCount n → F ≡ genotypeAt n f → M ≡ genotypeAt n (m - 1)
         → Mothers g h m → o ≡ withFamily g F M → Mothers g o (m - 1)
@@ -203,8 +203,8 @@ module _ (n f : ℕ) (s : Scores) (h₀ : Held) where
         go =
             subst Step (sym e) (λ r b.
             let c = genotypeCount n in
-            blocks-more (storedScore n s) (stored-fits n s) (f * (c * c)) c c h₀ h m some b o
-            (r ∙ ap heldOf (family-is n s f (m - 1) (omega (arith, b .within)) (heldList h))))
+            blocks-more (storedScore n rule s) (stored-fits n rule s) (f * (c * c)) c c h₀ h m some b o
+            (r ∙ ap heldOf (family-is n rule s f (m - 1) (omega (arith, b .within)) (heldList h))))
 
 -- the genotype that stands at a number below g
 pub number-in : (n g k : ℕ) (p : Pair) → n ≤ 8 → g ≡ genotypeCount n → k < g → p ≡ genotypeAt n k → PairIn n p

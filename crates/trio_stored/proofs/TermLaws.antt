@@ -1,4 +1,4 @@
--- The five terms: their logarithms as the code writes them, their order, and the list that has one of them at four places. Assumes nothing.
+-- The terms: their logarithms as the code writes them, their order, and the list that has two of them at four places. Assumes nothing.
 use Prim.Native.Nat.{ℕ, _+_, _-_, _≤_, _<_, zero-le, suc-le-suc}
 use native.Mathlib.Nat.{le-trans}
 use native.Mathlib.Omega.{arith}
@@ -6,7 +6,8 @@ use native.Mathlib.Decide.{ℕ-discrete}
 use mathlib.Core.Bool.{Bool, true, false, not, _&&_, _||_, cond}
 use mathlib.Core.List.{List, [], _∷_}
 use mathlib.Core.Path.{_≡_, refl, subst, _∙_}
-use borrow.Author.Tests.{eq-eqb, ne-eqb, not-true}
+use mathlib.Core.Logic.{_≢_}
+use borrow.Author.Tests.{eq-eqb, ne-eqb, eqb-false, not-true}
 use lib.Dec.{T, eqb}
 use lib.ListN.{length, getD, set, replicate, length-set, length-replicate, getD-replicate}
 use lib.Seq.{getD-set-same, getD-set-other}
@@ -25,8 +26,9 @@ use Rattle.floats.proofs.RisingSums.{_≼_, ≼-itself}
 use Rattle.kernels.specs.Ln.{lnNearOne, lnParts, lnReduced, lnPositive, lnOf}
 use Rattle.trio_family.specs.declared.pair.Pair.{Pair}
 use Rattle.trio_mendel.specs.Mendel.{ordered, samePair, among, distinct, combinations, childPairs, mendelTerm}
+use Rattle.trio_mendel.specs.Rules.{waysOf, gameteTerm, termOf}
 use Rattle.trio_stored.specs.declared.terms.Places.{Places}
-use Rattle.trio_stored.specs.Terms.{likelyTerm, unlikeTerm, TermsAt}
+use Rattle.trio_stored.specs.Terms.{uneven, shareOf, shareTerm, outerTerm, innerTerm, unlikeTerm, TermsAt}
 use Rattle.trio_stored.proofs.PlacesLaws.{is-true}
 use Rattle.lists.proofs.EveryLaws.{every-up}
 use Rattle.trio_mendel.proofs.MendelLaws.{child-pairs-few}
@@ -61,10 +63,20 @@ notAbove x y = not (ltZ (keyOf y) (keyOf x))
 abbrev between : Float → Bool
 between x = finite x && (fits binary64 x && (notAbove x nought && notAbove unlikeTerm x))
 
-likely-between : T (every (λ (d : ℕ). between (lnOf (nat 1 ⊘ nat d))) (numbers 1 4))
+share-between : T (every (λ (d : ℕ). between (lnOf (nat 1 ⊘ nat d))) (numbers 1 4))
 unfolding lnOf lnPositive lnReduced lnParts lnNearOne exponent significand size add sub mul div round lt le ofInt ofBits fits keyOf isNan
     toBits
-likely-between = tt
+share-between = tt
+
+ways-between : T (every (λ (w : ℕ). between (lnOf (nat w ⊘ nat 4))) (numbers 1 4))
+unfolding lnOf lnPositive lnReduced lnParts lnNearOne exponent significand size add sub mul div round lt le ofInt ofBits fits keyOf isNan
+    toBits
+ways-between = tt
+
+quarter-below-half : T (notAbove (shareTerm 4) (shareTerm 2))
+unfolding lnOf lnPositive lnReduced lnParts lnNearOne exponent significand size add sub mul div round lt le ofInt ofBits fits keyOf isNan
+    toBits
+quarter-below-half = tt
 
 unlike-between : T (between unlikeTerm)
 unfolding lnOf lnPositive lnReduced lnParts lnNearOne exponent significand size add sub mul div round lt le ofInt ofBits fits keyOf isNan
@@ -102,32 +114,77 @@ zero-term = term-by-test nought zero-between
 pub unlike-term : Term unlikeTerm
 unlike-term = term-by-test unlikeTerm unlike-between
 
-pub likely-term : (f m : Pair) → Term (likelyTerm f m)
-likely-term f m =
-    let d = length (childPairs f m) in
-    let few = child-pairs-few f m in
-    let e : 1 + (d - 1) ≡ d = omega (arith, few .0) in
-    term-by-test (likelyTerm f m)
-    (subst (λ (k : ℕ). T (between (lnOf (nat 1 ⊘ nat k)))) e
-    (every-up (λ (k : ℕ). between (lnOf (nat 1 ⊘ nat k))) 1 4 (d - 1) likely-between (omega (arith, few .0, few .1))))
+-- a test that holds of 1 to 4
+of-four : (x : ℕ → Float) → T (every (λ (k : ℕ). between (x k)) (numbers 1 4)) → (d : ℕ) → 1 ≤ d → d ≤ 4 → Term (x d)
+of-four x h d some few =
+    let e : 1 + (d - 1) ≡ d = omega arith in
+    term-by-test (x d)
+    (subst (λ (k : ℕ). T (between (x k))) e (every-up (λ (k : ℕ). between (x k)) 1 4 (d - 1) h (omega arith)))
 
--- the term of a child is one of the two, so not above the larger
+pub share-term : (d : ℕ) → 1 ≤ d → d ≤ 4 → Term (shareTerm d)
+share-term = of-four shareTerm share-between
+
+-- how many shares there are of one size: one at least and four at most
+pub share-few : (rule d if-uneven : ℕ) → 1 ≤ d → d ≤ 4 → 1 ≤ if-uneven → if-uneven ≤ 4
+    → (1 ≤ shareOf rule d if-uneven) × (shareOf rule d if-uneven ≤ 4)
+unfolding shareOf
+share-few rule d u p q r s = go (uneven rule d)
+  where
+    go : (t : Bool) → (1 ≤ cond t u d) × (cond t u d ≤ 4)
+    go true = (r, s)
+    go false = (p, q)
+
+module _ (rule : ℕ) (f m : Pair) where
+  pub inner-term : Term (innerTerm rule f m)
+  inner-term =
+      let d = length (childPairs f m) in
+      let few = child-pairs-few f m in
+      let share = share-few rule d 2 (few .0) (few .1) (omega arith) (omega arith) in
+      share-term (shareOf rule d 2) (share .0) (share .1)
+
+  -- the term between is not below the one at the ends
+  pub outer-most : outerTerm rule f m ≼ innerTerm rule f m
+  unfolding shareOf
+  outer-most = go (uneven rule (length (childPairs f m)))
+    where
+      quarter : shareTerm 4 ≼ shareTerm 2
+      quarter = not-true (ltZ (keyOf (shareTerm 2)) (keyOf (shareTerm 4))) (is-true (notAbove (shareTerm 4) (shareTerm 2)) quarter-below-half)
+
+      go : (t : Bool) → let d = length (childPairs f m) in shareTerm (cond t 4 d) ≼ shareTerm (cond t 2 d)
+      go true = quarter
+      go false = ≼-itself (shareTerm (length (childPairs f m)))
+
+-- the term of any child of any parents
 module _ (c f m : Pair) where
-  pub mendel-term : Term (mendelTerm c f m)
+  mendel-term : Term (mendelTerm c f m)
   unfolding mendelTerm
   mendel-term = go (among (ordered (c .low) (c .high)) (childPairs f m))
     where
-      go : (t : Bool) → Term (cond t (likelyTerm f m) unlikeTerm)
-      go true = likely-term f m
+      go : (t : Bool) → Term (cond t (shareTerm (length (childPairs f m))) unlikeTerm)
+      go true = let few = child-pairs-few f m in share-term (length (childPairs f m)) (few .0) (few .1)
       go false = unlike-term
 
-  pub at-most-likely : mendelTerm c f m ≼ likelyTerm f m
-  unfolding mendelTerm
-  at-most-likely = go (among (ordered (c .low) (c .high)) (childPairs f m))
+  ways-few : waysOf c f m ≤ 4
+  unfolding waysOf
+  ways-few = passing-length (λ q. samePair q (ordered (c .low) (c .high))) (combinations f m)
+
+  gamete-term : Term (gameteTerm c f m)
+  unfolding gameteTerm
+  gamete-term = go (eqb (waysOf c f m) 0) (eqb-false (waysOf c f m) 0)
     where
-      go : (t : Bool) → cond t (likelyTerm f m) unlikeTerm ≼ likelyTerm f m
-      go true = ≼-itself (likelyTerm f m)
-      go false = likely-term f m .not-below
+      go : (t : Bool) → (t ≡ false → waysOf c f m ≢ 0) → Term (cond t unlikeTerm (lnOf (nat (waysOf c f m) ⊘ nat 4)))
+      go true e = unlike-term
+      go false e =
+          let some = e refl in
+          of-four (λ (w : ℕ). lnOf (nat w ⊘ nat 4)) ways-between (waysOf c f m) (omega arith) ways-few
+
+  pub rule-term : (rule : ℕ) → Term (termOf rule c f m)
+  unfolding termOf
+  rule-term rule = go (eqb rule 2)
+    where
+      go : (t : Bool) → Term (cond t (gameteTerm c f m) (mendelTerm c f m))
+      go true = gamete-term
+      go false = mendel-term
 
 -- ---- four places of a list set
 
@@ -138,48 +195,37 @@ one-set l i p x h = go (ℕ-discrete p i)
     go (yes e) = rw (eq-eqb p i e) (subst (λ (j : ℕ). getD (set l j x) p nan ≡ x) e (getD-set-same l p x nan h))
     go (no e) = rw (ne-eqb p i e) (getD-set-other l i p x nan e)
 
-in-one : {A : Type 0} (x u : A) (a b c d : Bool) → cond d x (cond c x (cond b x (cond a x u))) ≡ cond (a || (b || (c || d))) x u
-in-one x u true b c d = go b c d
-  where
-    go : (b c d : Bool) → cond d x (cond c x (cond b x x)) ≡ x
-    go true true true = refl
-    go true true false = refl
-    go true false true = refl
-    go true false false = refl
-    go false true true = refl
-    go false true false = refl
-    go false false true = refl
-    go false false false = refl
-in-one x u false true true true = refl
-in-one x u false true true false = refl
-in-one x u false true false true = refl
-in-one x u false true false false = refl
-in-one x u false false true true = refl
-in-one x u false false true false = refl
-in-one x u false false false true = refl
-in-one x u false false false false = refl
+-- of four, two by two
+in-two : {A : Type 0} (x y u : A) (a b c d : Bool) → cond c y (cond b y (cond d x (cond a x u))) ≡ cond (b || c) y (cond (a || d) x u)
+in-two x y u a true true d = refl
+in-two x y u a true false d = refl
+in-two x y u a false true d = refl
+in-two x y u true false false true = refl
+in-two x y u true false false false = refl
+in-two x y u false false false true = refl
+in-two x y u false false false false = refl
 
 -- ln(1e-6), as a constant of the code
 abbrev unlike : Float
 unlike = ofBits binary64 0xC02B_A18A_998F_FFA0
 
-pub four-set : (k : Places) (x : Float)
-    → TermsAt k x (set (set (set (set (replicate 36 unlike) (k .first) x) (k .second) x) (k .third) x) (k .fourth) x)
-four-set k x p h =
+pub four-set : (k : Places) (x y : Float)
+    → TermsAt k x y (set (set (set (set (replicate 36 unlike) (k .first) x) (k .fourth) x) (k .second) y) (k .third) y)
+four-set k x y p h =
     let u = unlike in
     let l₀ = replicate 36 u in
     let l₁ = set l₀ (k .first) x in
-    let l₂ = set l₁ (k .second) x in
-    let l₃ = set l₂ (k .third) x in
+    let l₂ = set l₁ (k .fourth) x in
+    let l₃ = set l₂ (k .second) y in
     let n₀ : length l₀ ≡ 36 = length-replicate 36 u in
     let n₁ : length l₁ ≡ 36 = length-set l₀ (k .first) x ∙ n₀ in
-    let n₂ : length l₂ ≡ 36 = length-set l₁ (k .second) x ∙ n₁ in
-    let n₃ : length l₃ ≡ 36 = length-set l₂ (k .third) x ∙ n₂ in
+    let n₂ : length l₂ ≡ 36 = length-set l₁ (k .fourth) x ∙ n₁ in
+    let n₃ : length l₃ ≡ 36 = length-set l₂ (k .second) y ∙ n₂ in
     rw (
-      one-set l₃ (k .fourth) p x (omega arith),
-      one-set l₂ (k .third) p x (omega arith),
-      one-set l₁ (k .second) p x (omega arith),
+      one-set l₃ (k .third) p y (omega arith),
+      one-set l₂ (k .second) p y (omega arith),
+      one-set l₁ (k .fourth) p x (omega arith),
       one-set l₀ (k .first) p x (omega arith),
       getD-replicate 36 p u nan h,
       log-unlike,
-    ) (in-one x u (eqb p (k .first)) (eqb p (k .second)) (eqb p (k .third)) (eqb p (k .fourth)))
+    ) (in-two x y u (eqb p (k .first)) (eqb p (k .second)) (eqb p (k .third)) (eqb p (k .fourth)))

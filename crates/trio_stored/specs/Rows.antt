@@ -13,5 +13,5 @@ abbrev pub listed : List Float → List Float → List Float → Scores
 listed child father mother = record { child = child; father = father; mother = mother }
 
 -- T1, T5: what is held once the row of father f has been offered, g being the number of genotypes
-abbrev pub rowFallen : ℕ → ℕ → ℕ → List Float → List Float → List Float → List Entry → List Entry
-rowFallen n g f child father mother h = fallen (storedScore n (listed child father mother)) (f * (g * g)) (g * g) h
+abbrev pub rowFallen : ℕ → ℕ → ℕ → ℕ → List Float → List Float → List Float → List Entry → List Entry
+rowFallen n rule g f child father mother h = fallen (storedScore n rule (listed child father mother)) (f * (g * g)) (g * g) h

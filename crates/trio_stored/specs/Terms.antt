@@ -1,7 +1,7 @@
 -- For the code: the Mendelian terms of all children of two parents, by the places of their genotypes. No public contract speaks of it.
--- Definitions only (RULES.md, T1, T3).
+-- Definitions only (RULES.md, T1, T3, T13).
 use Prim.Native.Nat.{ℕ, _+_, _-_, _*_, _/_, _≤_, _<_}
-use mathlib.Core.Bool.{Bool, cond, _||_}
+use mathlib.Core.Bool.{Bool, cond, _&&_, _||_}
 use mathlib.Core.List.{List}
 use mathlib.Core.Path.{_≡_}
 use lib.Dec.{eqb, leb}
@@ -45,18 +45,44 @@ placesOf n f m =
       fourth = placeBoth n (f .high) (m .high);
     }
 
--- T3: is p one of them?
-abbrev pub onPlaces : Places → ℕ → Bool
-onPlaces k p = eqb p (k .first) || (eqb p (k .second) || (eqb p (k .third) || eqb p (k .fourth)))
+-- T3: is p one of them? Of the two between, or of the first and the last?
+abbrev pub between : Places → ℕ → Bool
+between k p = eqb p (k .second) || eqb p (k .third)
 
--- T3: the term of a child that the parents can have: ln(1/d)
-abbrev pub likelyTerm : Pair → Pair → Float
-likelyTerm f m = lnOf (nat 1 ⊘ nat (length (childPairs f m)))
+abbrev pub atEnds : Places → ℕ → Bool
+atEnds k p = eqb p (k .first) || eqb p (k .fourth)
+
+abbrev pub onPlaces : Places → ℕ → Bool
+onPlaces k p = between k p || atEnds k p
+
+-- T13: rule 2 parts the weight of the d different pairs unevenly, which it does where d is 3
+abbrev pub uneven : ℕ → ℕ → Bool
+uneven rule d = eqb rule 2 && eqb d 3
+
+-- T3, T13: into how many even shares the weight would go if every child had one like this child's: d, but where it is uneven
+unfoldable pub shareOf : ℕ → ℕ → ℕ → ℕ
+shareOf rule d if-uneven = cond (uneven rule d) if-uneven d
+
+-- T3: the term of one of so many
+abbrev pub shareTerm : ℕ → Float
+shareTerm d = lnOf (nat 1 ⊘ nat d)
+
+-- T3, T13: the terms of the children that two parents can have: of those at the first and the last place, a quarter where it is uneven,
+-- and of those between, a half
+abbrev pub outerTerm : ℕ → Pair → Pair → Float
+outerTerm rule f m = shareTerm (shareOf rule (length (childPairs f m)) 4)
+
+abbrev pub innerTerm : ℕ → Pair → Pair → Float
+innerTerm rule f m = shareTerm (shareOf rule (length (childPairs f m)) 2)
 
 -- T3: the term of any other child: ln(1e-6); which has which: `term-by-place` (proofs/PlacesLaws.antt)
 abbrev pub unlikeTerm : Float
 unlikeTerm = lnOf (decimal 1 6)
 
--- T3: t has the term x at these places, and `unlikeTerm` at all others
-abbrev pub TermsAt : Places → Float → List Float → Type 0
-TermsAt k x t = (p : ℕ) → p < 36 → getD t p nan ≡ cond (onPlaces k p) x unlikeTerm
+-- T3, T13: the one term at a place between, the other at an end, and `unlikeTerm` elsewhere
+abbrev pub placedTerm : Places → Float → Float → ℕ → Float
+placedTerm k outer inner p = cond (between k p) inner (cond (atEnds k p) outer unlikeTerm)
+
+-- T3, T13: t has these terms at the places
+abbrev pub TermsAt : Places → Float → Float → List Float → Type 0
+TermsAt k outer inner t = (p : ℕ) → p < 36 → getD t p nan ≡ placedTerm k outer inner p

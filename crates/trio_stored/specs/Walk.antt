@@ -13,7 +13,7 @@ use Rattle.floats.specs.F64.{_⊕_}
 use Rattle.floats.specs.Key.{keyOf}
 use Rattle.trio_family.specs.declared.pair.Pair.{Pair}
 use Rattle.trio_family.specs.Genotypes.{genotypeAt}
-use Rattle.trio_mendel.specs.Mendel.{mendelTerm}
+use Rattle.trio_mendel.specs.Rules.{termOf}
 use Rattle.trio_entries.specs.declared.entry.Entry.{Entry}
 use Rattle.trio_entries.specs.declared.held.Held.{Held}
 use Rattle.trio_entries.specs.Best.{offered}
@@ -33,11 +33,12 @@ fallen score p (suc n) h = fallen score p n (offered beatsOf 2 (entryAt score (p
 abbrev pub nextOf : (ℕ → Float) → ℕ → ℕ → ℕ → List Entry → List Entry
 nextOf score at k last h = cond (ltb k last) (offered beatsOf 2 (entryAt score (at + k)) h) h
 
--- T5: and once the four places have been, the last one first; all lie before g
-abbrev pub fourOf : (ℕ → Float) → ℕ → ℕ → Places → List Entry → List Entry
-fourOf score at g k h =
-    nextOf score at (k .first) (k .second)
-    (nextOf score at (k .second) (k .third) (nextOf score at (k .third) (k .fourth) (nextOf score at (k .fourth) g h)))
+-- T5, T13: and once the four places have been, the last one first, the first and the last by one score and those between by another; all
+-- lie before g
+abbrev pub fourOf : (ℕ → Float) → (ℕ → Float) → ℕ → ℕ → Places → List Entry → List Entry
+fourOf outer inner at g k h =
+    nextOf outer at (k .first) (k .second)
+    (nextOf inner at (k .second) (k .third) (nextOf inner at (k .third) (k .fourth) (nextOf outer at (k .fourth) g h)))
 
 -- ---- the scores of one father and one mother, whose sum is `base`: (base + child) + term. Positions start at `at`
 
@@ -49,9 +50,9 @@ blockScore child terms base at q = base ⊕ getD child (q - at) nan ⊕ getD ter
 abbrev pub evenScore : List Float → Float → Float → ℕ → ℕ → Float
 evenScore child term base at q = base ⊕ getD child (q - at) nan ⊕ term
 
--- T4: as it is
-abbrev pub familyScore : ℕ → Pair → Pair → List Float → Float → ℕ → ℕ → Float
-familyScore n f m child base at q = base ⊕ getD child (q - at) nan ⊕ mendelTerm (genotypeAt n (q - at)) f m
+-- T4, T13: as it is under a rule
+abbrev pub familyScore : ℕ → ℕ → Pair → Pair → List Float → Float → ℕ → ℕ → Float
+familyScore n rule f m child base at q = base ⊕ getD child (q - at) nan ⊕ termOf rule (genotypeAt n (q - at)) f m
 
 -- ---- what may be left out
 

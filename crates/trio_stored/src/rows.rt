@@ -1,4 +1,4 @@
-// One row, and all of them, over three lists of sample scores (docs/RULES.md, T1, T4, T5).
+// One row, and all of them, over three lists of sample scores (docs/RULES.md, T1, T4, T5, T13).
 ghost use mathlib.Core.Path.{_≡_};
 ghost use Prim.Native.Nat.{_+_, _*_, _≤_, _<_};
 ghost use Rattle.trio_entries.specs.Held.{heldOf, heldList};
@@ -34,6 +34,7 @@ fn largest(scores: [f64; 36], g: u64) -> f64
 // above 0.
 fn row(
     n: u64,
+    rule: u64,
     g: u64,
     f: u64,
     child: &[f64; 36],
@@ -43,7 +44,7 @@ fn row(
     held: Held,
 ) -> Held
     requires { ⌜ (1 ≤ n) × (n ≤ 8) × (g ≡ genotypeCount n) × (f < g) × AtMost (now child) g top × HeldPast (f * (g * g) + g * g) held ⌝ }
-    ensures { λ r. ⌜ r ≡ heldOf (rowFallen n g f (now (child .entry)) (now (father .entry)) (now (mother .entry)) (heldList held)) ⌝ }
+    ensures { λ r. ⌜ r ≡ heldOf (rowFallen n rule g f (now (child .entry)) (now (father .entry)) (now (mother .entry)) (heldList held)) ⌝ }
 {
     let own = genotype_at(n, f);
     let mut h = held;
@@ -54,15 +55,15 @@ fn row(
         if (base + top) + 0.0 <= to_pass(h) {} else {
             let other = genotype_at(n, m);
             let at = f * (g * g) + m * g;
-            h = family(n, own, other, child, base, top, g, at, h);
+            h = family(n, rule, own, other, child, base, top, g, at, h);
         }
     }
     h
 }
 
-fn one_row(n: u64, r: u64, scores: Scores) -> Held
+fn one_row(n: u64, rule: u64, r: u64, scores: Scores) -> Held
     requires { ⌜ (1 ≤ n) × (n ≤ 8) ⌝ }
-    ensures { λ h. ⌜ h ≡ bestOfRow n r scores ⌝ }
+    ensures { λ h. ⌜ h ≡ bestOfRow n rule r scores ⌝ }
 {
     let g = genotype_count(n as u32);
     if r < g {
@@ -70,14 +71,14 @@ fn one_row(n: u64, r: u64, scores: Scores) -> Held
         let father = scores.father;
         let mother = scores.mother;
         let top = largest(child, g);
-        return row(n, g, r, &child, &father, &mother, top, Held::nothing());
+        return row(n, rule, g, r, &child, &father, &mother, top, Held::nothing());
     }
     Held::nothing()
 }
 
-fn all_rows(n: u64, scores: Scores) -> Held
+fn all_rows(n: u64, rule: u64, scores: Scores) -> Held
     requires { ⌜ (1 ≤ n) × (n ≤ 8) ⌝ }
-    ensures { λ h. ⌜ h ≡ bestOfAll n scores ⌝ }
+    ensures { λ h. ⌜ h ≡ bestOfAll n rule scores ⌝ }
 {
     let g = genotype_count(n as u32);
     let child = scores.child;
@@ -88,27 +89,27 @@ fn all_rows(n: u64, scores: Scores) -> Held
     let mut f = g;
     while 0 < f {
         f -= 1;
-        h = row(n, g, f, &child, &father, &mother, top, h);
+        h = row(n, rule, g, f, &child, &father, &mother, top, h);
     }
     h
 }
 
 // The best two of row r, of lists of sample scores; none where there is no such row.
-pub fn best_of_row(n: u64, r: u64, scores: Scores) -> Held
-    ensures { λ h. ⌜ h ≡ bestOfRow n r scores ⌝ }
+pub fn best_of_row(n: u64, rule: u64, r: u64, scores: Scores) -> Held
+    ensures { λ h. ⌜ h ≡ bestOfRow n rule r scores ⌝ }
 {
     if 1 <= n && n <= 8 {
-        return one_row(n, r, scores);
+        return one_row(n, rule, r, scores);
     }
     Held::nothing()
 }
 
 // The best two of all rows; none where n is no number of clusters.
-pub fn best_of_all(n: u64, scores: Scores) -> Held
-    ensures { λ h. ⌜ h ≡ bestOfAll n scores ⌝ }
+pub fn best_of_all(n: u64, rule: u64, scores: Scores) -> Held
+    ensures { λ h. ⌜ h ≡ bestOfAll n rule scores ⌝ }
 {
     if 1 <= n && n <= 8 {
-        return all_rows(n, scores);
+        return all_rows(n, rule, scores);
     }
     Held::nothing()
 }

@@ -1,9 +1,10 @@
-// The Mendelian terms of all children of two parents, by the places of their genotypes (docs/RULES.md, T1, T3).
+// The Mendelian terms of all children of two parents, by the places of their genotypes (docs/RULES.md, T1, T3, T13).
 ghost use mathlib.Core.Path.{_≡_};
 ghost use Prim.Native.Nat.{_≤_, _<_};
 ghost use Rattle.floats.specs.F64.{_⊘_, nat};
 ghost use Rattle.kernels.specs.Ln.{lnOf};
-ghost use Rattle.trio_stored.specs.Terms.{placeOf, placeBoth, PairIn, placesOf, laterOf, earlierOf, TermsAt};
+ghost use Rattle.trio_stored.specs.Terms.{placeOf, placeBoth, PairIn, placesOf, laterOf, earlierOf};
+ghost use Rattle.trio_stored.specs.Terms.{shareOf, TermsAt};
 use trio_family::pair::Pair;
 
 // ln(1e-6), the term of a child that these parents cannot have.
@@ -32,6 +33,16 @@ pub(crate) fn likely(d: u64) -> f64
         return -1.0986122886681098;
     }
     -1.3862943611198906
+}
+
+// d, but where rule 2 parts the weight of three pairs unevenly.
+pub(crate) fn share(rule: u64, d: u64, if_uneven: u64) -> u64
+    ensures { λ r. ⌜ r ≡ shareOf rule d «if_uneven» ⌝ }
+{
+    if rule == 2 && d == 3 {
+        return if_uneven;
+    }
+    d
 }
 
 // The place of a pair with the lower number a in the list of genotypes.
@@ -87,18 +98,18 @@ pub(crate) fn places_of(n: u64, f: Pair, m: Pair) -> Places
 }
 
 // The term of each child by its place: ln(1e-6) but at these four.
-pub(crate) fn terms_of(k: Places, term: f64) -> [f64; 36]
+pub(crate) fn terms_of(k: Places, outer: f64, inner: f64) -> [f64; 36]
     requires { ⌜ (k .first < 36) × (k .second < 36) × (k .third < 36) × (k .fourth < 36) ⌝ }
-    ensures { λ r. ⌜ TermsAt k term r ⌝ }
+    ensures { λ r. ⌜ TermsAt k outer inner r ⌝ }
 {
     let a = k.first;
     let b = k.second;
     let c = k.third;
     let d = k.fourth;
     let mut t = [UNLIKE; 36];
-    t[a as usize] = term;
-    t[b as usize] = term;
-    t[c as usize] = term;
-    t[d as usize] = term;
+    t[a as usize] = outer;
+    t[d as usize] = outer;
+    t[b as usize] = inner;
+    t[c as usize] = inner;
     t
 }

@@ -32,11 +32,11 @@ under-at n counts weights s k h =
 
 -- ---- the scores of positions
 
-module _ (n : ℕ) (counts : List ℕ) (weights : List Float) (one : 1 ≤ n) (few : n ≤ 8) where
+module _ (n : ℕ) (counts : List ℕ) (weights : List Float) (rule : ℕ) (one : 1 ≤ n) (few : n ≤ 8) where
   abbrev G : ℕ
   G = genotypeCount n
 
-  pub stored-is : (q : ℕ) → q < G * rowWidth n → storedScore n (listsOf n counts weights) q ≡ scoreOf n counts weights q
+  pub stored-is : (q : ℕ) → q < G * rowWidth n → storedScore n rule (listsOf n counts weights) q ≡ scoreOf n counts weights rule q
   unfolding storedScore listsOf tripleScore tripleAt
   stored-is q h =
       let some : 0 < G = genotypes-some n one in
@@ -51,6 +51,6 @@ module _ (n : ℕ) (counts : List ℕ) (weights : List Float) (one : 1 ≤ n) (f
       )
 
   -- so of every position of the search
-  pub over-is : (q : ℕ) → q < G * rowWidth n → scoreOver n (listsOf n counts weights) q ≡ scoreOf n counts weights q
+  pub over-is : (q : ℕ) → q < G * rowWidth n → scoreOver n rule (listsOf n counts weights) q ≡ scoreOf n counts weights rule q
   unfolding scoreOver
   over-is q h = rw (le-leb 1 n one, le-leb n 8 few, lt-ltb q (G * rowWidth n) h) (stored-is q h)

@@ -15,12 +15,12 @@ use Rattle.trio_stored.proofs.rows.all_rows.Statement.{statement}
 use Rattle.trio_stored.proofs.rows.all_rows.Tie as tie
 
 abbrev Inv-loop : tie.InvT-loop
-Inv-loop n g child father mother top h₀ f₀ h f =
+Inv-loop n rule g child father mother top h₀ f₀ h f =
     let s = listed child father mother in
-    Rows (storedScore n s) (stored-fits n s) (g * g) g h f
+    Rows (storedScore n rule s) (stored-fits n rule s) (g * g) g h f
 
 abbrev μ-loop : tie.MeasureT-loop
-μ-loop n g child father mother top h₀ f₀ h f = f
+μ-loop n rule g child father mother top h₀ f₀ h f = f
 
 -- the number of genotypes, counted at the start
 abbrev counted : tie.After-nothing Inv-loop μ-loop → tie.After-genotype-count Inv-loop μ-loop
@@ -47,7 +47,7 @@ loop-holds c =
     let a = some .before .args in
     let g = some .genotype-count .result in
     rw (c .nothing .ensures)
-    (blocks-none (storedScore (a .n) (a .scores)) (stored-fits (a .n) (a .scores)) 0 (g * g) g (heldOf []) (nothing-past (0 + g * (g * g))))
+    (blocks-none (storedScore (a .n) (a .rule) (a .scores)) (stored-fits (a .n) (a .rule) (a .scores)) 0 (g * g) g (heldOf []) (nothing-past (0 + g * (g * g))))
 
 sub-f : tie.Need-sub-f Inv-loop μ-loop
 sub-f c = search needs
@@ -66,7 +66,7 @@ row-requires c κs =
       some .genotype-count .ensures,
       omega (arith, s .inv .within, inside .loop-test .taken),
       none .before .largest .ensures,
-      rows-past (storedScore (a .n) (a .scores)) (stored-fits (a .n) (a .scores)) (g * g) g (s .h) (s .f) (inside .loop-test .taken)
+      rows-past (storedScore (a .n) (a .rule) (a .scores)) (stored-fits (a .n) (a .rule) (a .scores)) (g * g) g (s .h) (s .f) (inside .loop-test .taken)
           (s .inv),
     )
 
@@ -80,7 +80,7 @@ loop-again c =
     let some = counted (inside .before .before) in
     let a = some .before .args in
     let g = some .genotype-count .result in
-    rows-more (storedScore (a .n) (a .scores)) (stored-fits (a .n) (a .scores)) (g * g) g (s .h) (c .row .result) (s .f)
+    rows-more (storedScore (a .n) (a .rule) (a .scores)) (stored-fits (a .n) (a .rule) (a .scores)) (g * g) g (s .h) (c .row .result) (s .f)
     (inside .loop-test .taken) (s .inv) (c .row .ensures)
 
 returns : tie.Need-returns Inv-loop μ-loop
@@ -91,8 +91,8 @@ returns c =
     let begun = some .before in
     let a = begun .args in
     let g = some .genotype-count .result in
-    let score = storedScore (a .n) (a .scores) in
-    let fit = stored-fits (a .n) (a .scores) in
+    let score = storedScore (a .n) (a .rule) (a .scores) in
+    let fit = stored-fits (a .n) (a .rule) (a .scores) in
     let none : s .f ≡ 0 = omega arith in
     rw (le-leb 1 (a .n) (begun .pre .0), le-leb (a .n) 8 (begun .pre .1), ← some .genotype-count .ensures)
     (rows-all score fit (g * g) g (s .h) (subst (Rows score fit (g * g) g (s .h)) none (s .inv)))

@@ -53,7 +53,7 @@ returns c =
     let a = begun .args in
     let g = counted .genotype-count .result in
     let e = counted .genotype-count .ensures in
-    let score = storedScore (a .n) (a .scores) in
+    let score = storedScore (a .n) (a .rule) (a .scores) in
     let r : c .row .result ≡ heldOf (fallen score (a .r * (g * g)) (g * g) []) = rw (none .nothing .ensures) at (c .row .ensures) in
     rw (le-leb 1 (a .n) (begun .pre .0), le-leb (a .n) 8 (begun .pre .1), ← e, lt-ltb (a .r) g (inside .if1 .taken))
     (r ∙ ap heldOf (fallen-pass score (a .r * (g * g)) (g * g)))

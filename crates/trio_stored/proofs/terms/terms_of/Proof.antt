@@ -29,7 +29,7 @@ array-write-t-4 : tie.Need-array-write-t-4
 array-write-t-4 c = search needs
 
 returns : tie.Need-returns
-returns c = four-set (c .args .k) (c .args .term)
+returns c = four-set (c .args .k) (c .args .outer) (c .args .inner)
 
 pub terms-of-spec : {M : Type 1} → statement M
 terms-of-spec =

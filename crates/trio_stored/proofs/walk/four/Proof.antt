@@ -11,35 +11,35 @@ use Rattle.trio_stored.proofs.walk.four.Statement.{statement}
 use Rattle.trio_stored.proofs.walk.four.Tie as tie
 
 -- the scores, from the start
-abbrev scored : tie.Start → ℕ → Float
-scored c = let a = c .args in evenScore (a .child .now) (a .term) (a .base) (a .at)
+abbrev scored : tie.Start → Float → ℕ → Float
+scored c term = let a = c .args in evenScore (a .child .now) term (a .base) (a .at)
 
 -- what is held once a place has been offered, as a list, and that it lies past that place
-abbrev Taken : tie.Start → ℕ → ℕ → Held → Held → Type 0
-Taken c k last h o = let at = c .args .at in (heldList o ≡ nextOf (scored c) at k last (heldList h)) × HeldPast (at + k) o
+abbrev Taken : tie.Start → Float → ℕ → ℕ → Held → Held → Type 0
+Taken c term k last h o = let at = c .args .at in (heldList o ≡ nextOf (scored c term) at k last (heldList h)) × HeldPast (at + k) o
 
 fourth-taken : (c : tie.After-next) → let start = c .before in
-    Taken start (start .args .k .fourth) (start .args .g) (start .args .held) (c .next .result)
+    Taken start (start .args .outer) (start .args .k .fourth) (start .args .g) (start .args .held) (c .next .result)
 fourth-taken c =
     let start = c .before in
     let a = start .args in
-    next-held (scored start) (even-fits (a .child .now) (a .term) (a .base) (a .at)) (a .at) (a .k .fourth) (a .g) (a .held)
+    next-held (scored start (a .outer)) (even-fits (a .child .now) (a .outer) (a .base) (a .at)) (a .at) (a .k .fourth) (a .g) (a .held)
     (c .next .result) (start .pre .0 .3) (start .pre .1 .2) (c .next .ensures)
 
 third-taken : (c : tie.After-next2) → let start = c .before .before in
-    Taken start (start .args .k .third) (start .args .k .fourth) (c .before .next .result) (c .next2 .result)
+    Taken start (start .args .inner) (start .args .k .third) (start .args .k .fourth) (c .before .next .result) (c .next2 .result)
 third-taken c =
     let start = c .before .before in
     let a = start .args in
-    next-held (scored start) (even-fits (a .child .now) (a .term) (a .base) (a .at)) (a .at) (a .k .third) (a .k .fourth)
+    next-held (scored start (a .inner)) (even-fits (a .child .now) (a .inner) (a .base) (a .at)) (a .at) (a .k .third) (a .k .fourth)
     (c .before .next .result) (c .next2 .result) (start .pre .0 .2) (fourth-taken (c .before) .1) (c .next2 .ensures)
 
 second-taken : (c : tie.After-next3) → let start = c .before .before .before in
-    Taken start (start .args .k .second) (start .args .k .third) (c .before .next2 .result) (c .next3 .result)
+    Taken start (start .args .inner) (start .args .k .second) (start .args .k .third) (c .before .next2 .result) (c .next3 .result)
 second-taken c =
     let start = c .before .before .before in
     let a = start .args in
-    next-held (scored start) (even-fits (a .child .now) (a .term) (a .base) (a .at)) (a .at) (a .k .second) (a .k .third)
+    next-held (scored start (a .inner)) (even-fits (a .child .now) (a .inner) (a .base) (a .at)) (a .at) (a .k .second) (a .k .third)
     (c .before .next2 .result) (c .next3 .result) (start .pre .0 .1) (third-taken (c .before) .1) (c .next3 .ensures)
 
 next-requires : tie.Need-next-requires

@@ -59,8 +59,8 @@ mul-ll-c c = let below = child-below (c .before .before .before .before .before)
 element-copy-out-ll-c : tie.Need-element-copy-out-ll-c
 element-copy-out-ll-c c = let below = child-below (c .before .before .before .before .before) in search needs
 
-mendelian-prior-requires : tie.Need-mendelian-prior-requires
-mendelian-prior-requires c κs = search needs
+mendelian-term-requires : tie.Need-mendelian-term-requires
+mendelian-term-requires c κs = search needs
 
 returns : tie.Need-returns
 unfolding storedScore
@@ -69,7 +69,7 @@ returns c =
     let second = third .before in
     let first = second .before in
     rw (← first .before .pre .2)
-    (rw (c .mendelian-prior .ensures, third .genotype-at3 .ensures, second .genotype-at2 .ensures, first .genotype-at .ensures))
+    (rw (c .mendelian-term .ensures, third .genotype-at3 .ensures, second .genotype-at2 .ensures, first .genotype-at .ensures))
 
 pub stored-score-spec : {M : Type 1} → statement M
 stored-score-spec =
@@ -89,5 +89,5 @@ stored-score-spec =
     element-copy-out-ll-m
     mul-ll-c
     element-copy-out-ll-c
-    mendelian-prior-requires
+    mendelian-term-requires
     returns)
