@@ -43,7 +43,7 @@ use Rattle.trio_parts.proofs.RightLaws.{right-input, right-work, some-c
 
 module _ (p : Part) where
   abbrev over : Entry → Bool
-  over = scoredTrue (scoreOver (p .clusters) (p .scores))
+  over = scoredTrue (scoreOver (p .clusters) (p .rule) (p .scores))
 
   -- the entries of a count n, tested over the lists
   abbrev used : ℕ → List Entry
@@ -85,7 +85,7 @@ module _ (p : Part) (right : rightPart p ≡ true) (lists : p .scores ≡ listsI
   shaped = right-shaped (rowCount p) (p .marks) (p .held) (right-work p right)
 
   -- a triple held stands at a position of the search, where the lists give the score of the rules
-  held-over : (e : Entry) → In (heldList (p .held)) e → scoredTrue (scoreOver (p .clusters) (p .scores)) e ≡ scoredTrue (scoreIn p) e
+  held-over : (e : Entry) → In (heldList (p .held)) e → scoredTrue (scoreOver (p .clusters) (p .rule) (p .scores)) e ≡ scoredTrue (scoreIn p) e
   held-over e i =
       let row = and-elim-right (not (isNan (e .score))) (inMarked (rowCount p) (p .marks) e) (shaped .scored e i) in
       let inside : e .position < rowCount p * rowWidth (p .clusters) =
@@ -93,8 +93,8 @@ module _ (p : Part) (right : rightPart p ≡ true) (lists : p .scores ≡ listsI
       (unmarked-above (rowCount p) (p .marks) (e .position / rowWidth (p .clusters)) (shaped .below) row) in
       let input = right-input p right in
       ap (λ (x : Float). eqb (toBits binary64 (e .score)) (toBits binary64 x))
-      (ap (λ (l : Scores). scoreOver (p .clusters) l (e .position)) lists
-      ∙ over-is (p .clusters) (p .counts) (p .weights) (some-clusters p input) (few-clusters p input) (e .position) inside)
+      (ap (λ (l : Scores). scoreOver (p .clusters) (p .rule) l (e .position)) lists
+      ∙ over-is (p .clusters) (p .counts) (p .weights) (p .rule) (some-clusters p input) (few-clusters p input) (e .position) inside)
 
   over-all : (l : List Entry) → ((e : Entry) → In l e → In (heldList (p .held)) e) → every (over p) l ≡ every (scoredTrue (scoreIn p)) l
   over-all [] h = refl
@@ -206,25 +206,27 @@ module _ (p : Part) (typed : TypedPart p) where
           ap (λ (x : Float). record { position = e .position; score = x })
           (same-bits (e .score) (scoreIn p (e .position)) (held-fit p typed e i) (position-fits p (e .position)) bits)
 
--- two parts of one input have the same clusters, counts and weights, and so the same scores
+-- two parts of one input have the same clusters, counts, weights and rule, and so the same scores
 pub record OneInput (a b : Part) : Type 0 where
   pub one-clusters : b .clusters ≡ a .clusters
   pub one-counts : b .counts ≡ a .counts
   pub one-weights : b .weights ≡ a .weights
+  pub one-rule : b .rule ≡ a .rule
 
 pub same-one : (a b : Part) → TypedPart a → TypedPart b → sameInput a b ≡ true → OneInput a b
 unfolding sameInput
 same-one a b t u e =
-    let lists = and-elim-right (eqb (a .clusters) (b .clusters))
-    (sameNumbers (a .counts) (b .counts) && sameBits (a .weights) (b .weights)) e in
+    let rest = and-elim-right (eqb (a .clusters) (b .clusters)) _ e in
+    let lists = and-elim-right (eqb (a .rule) (b .rule)) (sameNumbers (a .counts) (b .counts) && sameBits (a .weights) (b .weights)) rest in
     record {
       one-clusters = sym (eqb-true (a .clusters) (b .clusters) (and-elim-left (eqb (a .clusters) (b .clusters)) _ e));
       one-counts = sym (same-equal (a .counts) (b .counts) (and-elim-left (sameNumbers (a .counts) (b .counts)) _ lists));
       one-weights = sym (same-floats (a .weights) (b .weights)
           (each-fits (a .weights) (t .weights .f64s)) (each-fits (b .weights) (u .weights .f64s))
           (and-elim-right (sameNumbers (a .counts) (b .counts)) _ lists));
+      one-rule = sym (eqb-true (a .rule) (b .rule) (and-elim-left (eqb (a .rule) (b .rule)) _ rest));
     }
 
 pub one-score : (a b : Part) → OneInput a b → scoreIn b ≡ scoreIn a
 one-score a b o =
-    λ i. scoreOf (o .one-clusters i) (o .one-counts i) (o .one-weights i)
+    λ i. scoreOf (o .one-clusters i) (o .one-counts i) (o .one-weights i) (o .one-rule i)

@@ -1,4 +1,4 @@
--- A part: its input, the scores that come of it, and its work. Definitions only (RULES.md, S3, L3, T4, T6, O3).
+-- A part: its input, the scores that come of it, and its work. Definitions only (RULES.md, S3, L3, T4, T6, T13, O3).
 use Prim.Native.Nat.{ℕ}
 use mathlib.Core.Bool.{Bool}
 use mathlib.Core.List.{List, []}
@@ -28,9 +28,9 @@ weightAllowed x = inRange (nat 0) (nat 1000) x
 abbrev pub listsIn : Part → Scores
 listsIn p = listsOf (p .clusters) (p .counts) (p .weights)
 
--- T4: the score by which the input of a part is searched, by position
+-- T4, T13: the score by which the input of a part is searched, its rule included, by position
 abbrev pub scoreIn : Part → ℕ → Float
-scoreIn p = scoreOf (p .clusters) (p .counts) (p .weights)
+scoreIn p = scoreOf (p .clusters) (p .counts) (p .weights) (p .rule)
 
 -- ---- the work
 
@@ -49,6 +49,7 @@ withWork p v =
       clusters = p .clusters;
       counts = p .counts;
       weights = p .weights;
+      rule = p .rule;
       scores = p .scores;
       marks = v .marks;
       held = heldOf (v .held);
@@ -56,21 +57,22 @@ withWork p v =
 
 -- ---- parts of given lists
 
--- T6: an input with its lists and no row worked, for at most 24 counts and 8 weights, zeros behind them
-abbrev pub freshPart : ℕ → List ℕ → List Float → Part
-freshPart n counts weights =
+-- T6, T13: an input with its lists and no row worked, for at most 24 counts and 8 weights, zeros behind them, and a rule
+abbrev pub freshPart : ℕ → List ℕ → List Float → ℕ → Part
+freshPart n counts weights rule =
     record {
       clusters = n;
       counts = padded 24 0 counts;
       weights = padded 8 (nat 0) weights;
+      rule = rule;
       scores = listsOf n (padded 24 0 counts) (padded 8 (nat 0) weights);
       marks = noWork .marks;
       held = heldOf (noWork .held);
     }
 
--- O3: all zeros, the cluster number too: what a refused opening gives
+-- O3: all zeros, the cluster number and the rule too: what a refused opening gives
 abbrev pub emptyPart : Part
-emptyPart = freshPart 0 [] []
+emptyPart = freshPart 0 [] [] 0
 
 -- O2: what a step gives: a refusal, `Done` among these, and a part
 abbrev pub gives : Refusal → Part → Stepped

@@ -33,7 +33,7 @@ soundPart p = rightPart p && (storedRight p && heldTrue p)
 -- S4: the same with the part's own lists taken for those of its input; where they are, it is `soundPart`: `over-sound`
 -- (trio_parts/proofs/SoundLaws.antt)
 unfoldable pub heldOver : Part → Bool
-heldOver p = every (scoredTrue (scoreOver (p .clusters) (p .scores))) (heldList (p .held))
+heldOver p = every (scoredTrue (scoreOver (p .clusters) (p .rule) (p .scores))) (heldList (p .held))
 
 unfoldable pub soundOver : Part → Bool
 soundOver p = rightPart p && heldOver p

@@ -1,5 +1,6 @@
 // Whether two parts have the same input (docs/RULES.md, R9).
 ghost use mathlib.Core.Path.{_≡_};
+ghost use Rattle.floats.specs.Bits.{sameBits};
 ghost use Rattle.lists.specs.Lists.{sameNumbers};
 ghost use Rattle.trio_parts.specs.Same.{sameInput};
 use crate::part::Part;
@@ -18,6 +19,12 @@ fn same_counts(a: [u32; 24], b: [u32; 24]) -> bool
     true
 }
 
+fn same_weights(a: [f64; 8], b: [f64; 8]) -> bool
+    ensures { λ r. ⌜ r ≡ sameBits a b ⌝ }
+{
+    same_bits(&a, &b)
+}
+
 // Do two parts have the same input?
 pub fn same_input(a: Part, b: Part) -> bool
     ensures { λ r. ⌜ r ≡ sameInput a b ⌝ }
@@ -25,12 +32,15 @@ pub fn same_input(a: Part, b: Part) -> bool
     if a.clusters != b.clusters {
         return false;
     }
+    if a.rule != b.rule {
+        return false;
+    }
     let ca = a.counts;
     let cb = b.counts;
     if same_counts(ca, cb) {
         let wa = a.weights;
         let wb = b.weights;
-        return same_bits(&wa, &wb);
+        return same_weights(wa, wb);
     }
     false
 }

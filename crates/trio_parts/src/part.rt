@@ -7,12 +7,13 @@ use trio_entries::held::Held;
 use trio_samples::scores::Scores;
 
 // Each cluster has three counts, of child, father and mother, and one weight; each animal has a score for each genotype. Places that are
-// not in use are zero.
+// not in use are zero. The rule is the Mendelian one, 1 or 2.
 #[repr(C)]
 pub struct Part {
     pub clusters: u64,
     pub counts: [u32; 24],
     pub weights: [f64; 8],
+    pub rule: u64,
     pub scores: Scores,
     pub marks: u64,
     pub held: Held,
@@ -33,6 +34,7 @@ impl Part {
             clusters: 0,
             counts: [0u32; 24],
             weights: [0.0f64; 8],
+            rule: 0,
             scores: Scores::none(),
             marks: 0,
             held: Held::nothing(),

@@ -9,6 +9,7 @@ use floats::bits::bits;
 use limits::counts::count_allowed;
 use limits::ranges::in_range;
 use trio_family::genotypes::genotype_count;
+use trio_mendel::gametes::rule_allowed;
 use trio_search::shape::work_right;
 
 fn count_right(x: u32, in_use: bool) -> bool
@@ -72,8 +73,10 @@ pub fn right_part(p: Part) -> bool
     }
     if counts_right(counts, 3 * n) {
         if weights_right(weights, n) {
-            let rows = genotype_count(n as u32);
-            return work_right(rows, p.marks, held);
+            if rule_allowed(p.rule) {
+                let rows = genotype_count(n as u32);
+                return work_right(rows, p.marks, held);
+            }
         }
     }
     false

@@ -25,10 +25,10 @@ fn stored_right(p: Part) -> bool
 }
 
 // Has an entry the score of its position, which the lists give?
-fn scored_true(n: u64, scores: Scores, e: Entry) -> bool
-    ensures { λ b. ⌜ b ≡ scoredTrue (scoreOver n scores) e ⌝ }
+fn scored_true(n: u64, rule: u64, scores: Scores, e: Entry) -> bool
+    ensures { λ b. ⌜ b ≡ scoredTrue (scoreOver n rule scores) e ⌝ }
 {
-    bits(e.score) == bits(score_over(n, scores, e.position))
+    bits(e.score) == bits(score_over(n, rule, scores, e.position))
 }
 
 // Has every triple held?
@@ -43,11 +43,11 @@ fn held_over(p: Part) -> bool
     if held.count == 0 {
         return true;
     }
-    if scored_true(n, scores, first) {
+    if scored_true(n, p.rule, scores, first) {
         if held.count == 1 {
             return true;
         }
-        return scored_true(n, scores, second);
+        return scored_true(n, p.rule, scores, second);
     }
     false
 }

@@ -42,6 +42,9 @@ counts-right-requires c κs = search needs
 weights-right-requires : tie.Need-weights-right-requires
 weights-right-requires c κs = search needs
 
+rule-allowed-requires : tie.Need-rule-allowed-requires
+rule-allowed-requires c κs = search needs
+
 cast-genotype-count : tie.Need-cast-genotype-count
 cast-genotype-count c = search needs
 
@@ -54,28 +57,45 @@ work-right-requires c κs = search needs
 returns-3 : tie.Need-returns-3
 unfolding rightPart inputRight
 returns-3 c =
-    let p = c .before .before .before .before .before .before .before .before .before .before .before .args .p in
+    let counted = c .before in
+    let ruled = counted .before in
+    let weighed = ruled .before .before in
+    let tested = weighed .before .before in
+    let bounded = tested .before .before in
+    let p = bounded .before .before .before .before .before .args .p in
     rw (
-      some (c .before .before .before .before .before .before .before),
-      few (c .before .before .before .before .before .before),
-      counts (c .before .before .before .before),
-      sym (c .before .before .before .weights-right .ensures) ∙ c .before .before .if4 .taken,
+      some (bounded .before),
+      few bounded,
+      counts tested,
+      sym (weighed .before .weights-right .ensures) ∙ weighed .if4 .taken,
+      sym (ruled .before .rule-allowed .ensures) ∙ ruled .if5 .taken,
     )
-    (c .work-right .ensures ∙ ap (λ (n : ℕ). workRight n (p .marks) (p .held)) (c .before .genotype-count .ensures))
+    (c .work-right .ensures ∙ ap (λ (n : ℕ). workRight n (p .marks) (p .held)) (counted .genotype-count .ensures))
 
 returns-4 : tie.Need-returns-4
 unfolding rightPart inputRight
 returns-4 c =
+    let weighed = c .before .before in
+    let tested = weighed .before .before in
+    let bounded = tested .before .before in
     rw (
-      some (c .before .before .before .before .before),
-      few (c .before .before .before .before),
-      counts (c .before .before),
-      sym (c .before .weights-right .ensures) ∙ c .if4 .left,
+      some (bounded .before),
+      few bounded,
+      counts tested,
+      sym (weighed .before .weights-right .ensures) ∙ weighed .if4 .taken,
+      sym (c .before .rule-allowed .ensures) ∙ c .if5 .left,
     )
 
 returns-5 : tie.Need-returns-5
 unfolding rightPart inputRight
-returns-5 c = rw (some (c .before .before .before), few (c .before .before), sym (c .before .counts-right .ensures) ∙ c .if3 .left)
+returns-5 c =
+    let tested = c .before .before in
+    let bounded = tested .before .before in
+    rw (some (bounded .before), few bounded, counts tested, sym (c .before .weights-right .ensures) ∙ c .if4 .left)
+
+returns-6 : tie.Need-returns-6
+unfolding rightPart inputRight
+returns-6 c = rw (some (c .before .before .before), few (c .before .before), sym (c .before .counts-right .ensures) ∙ c .if3 .left)
 
 pub right-part-spec : {M : Type 1} → statement M
 right-part-spec =
@@ -86,9 +106,11 @@ right-part-spec =
     mul-counts-right
     counts-right-requires
     weights-right-requires
+    rule-allowed-requires
     cast-genotype-count
     genotype-count-requires
     work-right-requires
     returns-3
     returns-4
-    returns-5)
+    returns-5
+    returns-6)
