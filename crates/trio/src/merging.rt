@@ -23,6 +23,7 @@ pub(crate) fn joined(a: Part, b: Part) -> Part
         clusters: a.clusters,
         counts,
         weights,
+        rule: a.rule,
         scores,
         marks: a.marks | b.marks,
         held: merge_held(ha, hb),

@@ -26,9 +26,10 @@ fn row_part(p: Part, r: u64) -> Part
         clusters: p.clusters,
         counts,
         weights,
+        rule: p.rule,
         scores,
         marks: row_marked(0, r),
-        held: best_of_row(p.clusters, r, scores),
+        held: best_of_row(p.clusters, p.rule, r, scores),
     }
 }
 

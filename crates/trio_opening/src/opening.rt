@@ -1,4 +1,4 @@
-// Opening a trio: its counts and weights, checked and laid into a part with the scores that they give (docs/RULES.md, O1, T6).
+// Opening a trio: its counts, weights and rule, checked and laid into a part with the scores that they give (docs/RULES.md, O1, T6, T13).
 ghost use mathlib.Core.Path.{_≡_};
 ghost use Prim.Native.Nat.{_≤_};
 ghost use Rattle.floats.specs.F64.{nat};
@@ -10,6 +10,7 @@ use limits::counts::counts_allowed;
 use limits::ranges::all_in;
 use refusals::Refusal;
 use trio_entries::held::Held;
+use trio_mendel::gametes::rule_allowed;
 use trio_parts::part::Part;
 use trio_parts::part::Stepped;
 use trio_samples::scores::fill_scores;
@@ -49,9 +50,9 @@ fn refused(refusal: Refusal) -> Stepped
     }
 }
 
-fn fresh_part(n: u64, counts: &[u32], weights: &[f64]) -> Part
+fn fresh_part(n: u64, counts: &[u32], weights: &[f64], rule: u64) -> Part
     requires { ⌜ (length (now counts) ≤ 24) × (length (now weights) ≤ 8) ⌝ }
-    ensures { λ r. ⌜ r ≡ freshPart n (now (counts .entry)) (now (weights .entry)) ⌝ }
+    ensures { λ r. ⌜ r ≡ freshPart n (now (counts .entry)) (now (weights .entry)) rule ⌝ }
 {
     let laid = laid_counts(counts);
     let weighed = laid_weights(weights);
@@ -59,15 +60,16 @@ fn fresh_part(n: u64, counts: &[u32], weights: &[f64]) -> Part
         clusters: n,
         counts: laid,
         weights: weighed,
+        rule,
         scores: fill_scores(n, laid, weighed),
         marks: 0,
         held: Held::nothing(),
     }
 }
 
-// A part of n clusters with no row worked, or the first refusal that holds and a part of all zeros.
-pub fn open_part(n: u64, counts: &[u32], weights: &[f64]) -> Stepped
-    ensures { λ r. ⌜ r ≡ openStep n (now (counts .entry)) (now (weights .entry)) ⌝ }
+// A part of n clusters under a rule with no row worked, or the first refusal that holds and a part of all zeros.
+pub fn open_part(n: u64, counts: &[u32], weights: &[f64], rule: u64) -> Stepped
+    ensures { λ r. ⌜ r ≡ openStep n (now (counts .entry)) (now (weights .entry)) rule ⌝ }
 {
     if n == 0 {
         return refused(Refusal::NoCluster);
@@ -87,8 +89,11 @@ pub fn open_part(n: u64, counts: &[u32], weights: &[f64]) -> Stepped
     if !all_in(0.0, 1000.0, weights) {
         return refused(Refusal::Weight);
     }
+    if !rule_allowed(rule) {
+        return refused(Refusal::Rule);
+    }
     Stepped {
         refusal: Refusal::Done,
-        part: fresh_part(n, counts, weights),
+        part: fresh_part(n, counts, weights, rule),
     }
 }

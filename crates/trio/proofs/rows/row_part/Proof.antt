@@ -23,8 +23,8 @@ returns c =
     let r = start .args .r in
     let pre = start .pre in
     let few = genotypes-few (p .clusters) (pre .1) in
-    let held = c .best-of-row .ensures ∙ ap (λ (l : Scores). bestOfRow (p .clusters) r l) (pre .3)
-    ∙ row-stored (p .clusters) (p .counts) (p .weights) (pre .0) (pre .1) r (pre .2) in
+    let held = c .best-of-row .ensures ∙ ap (λ (l : Scores). bestOfRow (p .clusters) (p .rule) r l) (pre .3)
+    ∙ row-stored (p .clusters) (p .counts) (p .weights) (p .rule) (pre .0) (pre .1) r (pre .2) in
     rw (held, c .before .row-marked .ensures, marked-alone r (omega arith))
 
 pub row-part-spec : {M : Type 1} → statement M

@@ -122,19 +122,48 @@ returns-6 c =
       sym (weights .ensures) ∙ not-true (weights .result) (c .before .if6 .taken),
     ) (c .refused6 .ensures)
 
-fresh-part-requires : tie.Need-fresh-part-requires
-fresh-part-requires c κs = search needs
+rule-allowed-requires : tie.Need-rule-allowed-requires
+rule-allowed-requires c κs = search needs
+
+refused-requires-7 : tie.Need-refused-requires-7
+refused-requires-7 c κs = search needs
 
 returns-7 : tie.Need-returns-7
 unfolding openStep
 returns-7 c =
+    let rule = c .before .before .rule-allowed in
+    let weighed = c .before .before .before in
+    let counted = weighed .before .before in
+    let measured = counted .before .before in
     rw (
-      not-none (c .before .before .before .before .before .before .before .before),
-      not-many (c .before .before .before .before .before .before .before),
-      counts-fit (c .before .before .before .before .before .before),
-      weights-fit (c .before .before .before .before .before),
-      counts-pass (c .before .before .before),
-      weights-pass (c .before),
+      not-none (measured .before .before .before),
+      not-many (measured .before .before),
+      counts-fit (measured .before),
+      weights-fit measured,
+      counts-pass counted,
+      weights-pass weighed,
+      sym (rule .ensures) ∙ not-true (rule .result) (c .before .if7 .taken),
+    ) (c .refused7 .ensures)
+
+fresh-part-requires : tie.Need-fresh-part-requires
+fresh-part-requires c κs = search needs
+
+returns-8 : tie.Need-returns-8
+unfolding openStep
+returns-8 c =
+    let ruled = c .before in
+    let rule = ruled .before .rule-allowed in
+    let weighed = ruled .before .before in
+    let counted = weighed .before .before in
+    let measured = counted .before .before in
+    rw (
+      not-none (measured .before .before .before),
+      not-many (measured .before .before),
+      counts-fit (measured .before),
+      weights-fit measured,
+      counts-pass counted,
+      weights-pass weighed,
+      sym (rule .ensures) ∙ not-false (rule .result) (ruled .if7 .left),
     )
     (ap (gives Done) (c .fresh-part .ensures))
 
@@ -157,5 +186,8 @@ open-part-spec =
     all-in-requires
     refused-requires-6
     returns-6
+    rule-allowed-requires
+    refused-requires-7
+    returns-7
     fresh-part-requires
-    returns-7)
+    returns-8)
