@@ -22,24 +22,24 @@ use Rattle.trio_desks.proofs.Opening.{opened-is, fresh-places, fresh-ri
 use Rattle.trio_desks.proofs.Promises.{Fresh, promised, same-rows}
 use Rattle.trio_desks.proofs.SoundParts.{true-reworked}
 
-module _ (n : ℕ) (counts : List ℕ) (weights : List Float) where
-  module _ (accepted : numberOf (openStep n counts weights .refusal) ≡ 0) where
+module _ (n : ℕ) (counts : List ℕ) (weights : List Float) (rule : ℕ) where
+  module _ (accepted : numberOf (openStep n counts weights rule .refusal) ≡ 0) where
     abbrev start : Part
-    start = openStep n counts weights .part
+    start = openStep n counts weights rule .part
 
-    fresh : Fresh (freshPart n counts weights)
+    fresh : Fresh (freshPart n counts weights rule)
     fresh =
-        let p = freshPart n counts weights in
-        let r = fresh-right n counts weights accepted in
+        let p = freshPart n counts weights rule in
+        let r = fresh-right n counts weights rule accepted in
         record {
           right = r;
           lists = refl;
           no-work = refl;
-          numbers = scores-numbers p (right-input p r) (fresh-places n counts weights accepted);
+          numbers = scores-numbers p (right-input p r) (fresh-places n counts weights rule accepted);
         }
 
     opened-fresh : Fresh start
-    opened-fresh = subst Fresh (sym (ap (λ (s : Stepped). s .part) (opened-is n counts weights accepted))) fresh
+    opened-fresh = subst Fresh (sym (ap (λ (s : Stepped). s .part) (opened-is n counts weights rule accepted))) fresh
 
     -- every history of its parts keeps every promise
     pub demand-three : (h : History start) → Promised start h
@@ -63,22 +63,22 @@ module _ (n : ℕ) (counts : List ℕ) (weights : List Float) where
     unfolding rowsOf
     merging-with-itself h = same-part (merged h h) h (λ r. or-self (rowsOf start h r))
 
-    fresh-reworked : (l : List ℕ) → Covers (rowCount (freshPart n counts weights)) l
-        → closeStep (workedRows (freshPart n counts weights) l) ≡ onePassCall (freshPart n counts weights)
+    fresh-reworked : (l : List ℕ) → Covers (rowCount (freshPart n counts weights rule)) l
+        → closeStep (workedRows (freshPart n counts weights rule) l) ≡ onePassCall (freshPart n counts weights rule)
     fresh-reworked =
-        true-reworked (freshPart n counts weights) (fresh-places n counts weights accepted)
+        true-reworked (freshPart n counts weights rule) (fresh-places n counts weights rule accepted)
         (record { shape = fresh .right; lists = refl; entries = λ e i. absurd i })
 
     -- with every row worked, in any order, closing gives the call
-    pub worked-call : (l : List ℕ) → Covers (rowCount start) l → closeStep (workedRows start l) ≡ callOf n counts weights
+    pub worked-call : (l : List ℕ) → Covers (rowCount start) l → closeStep (workedRows start l) ≡ callOf n counts weights rule
     unfolding calledBy
     worked-call l c =
         subst (λ (p : Part). Covers (rowCount p) l → closeStep (workedRows p l) ≡ onePassCall p)
-        (sym (ap (λ (s : Stepped). s .part) (opened-is n counts weights accepted))) (fresh-reworked l) c
-        ∙ rw (eq-eqb (numberOf (openStep n counts weights .refusal)) 0 accepted)
+        (sym (ap (λ (s : Stepped). s .part) (opened-is n counts weights rule accepted))) (fresh-reworked l) c
+        ∙ rw (eq-eqb (numberOf (openStep n counts weights rule .refusal)) 0 accepted)
 
   -- a refused opening is the call
-  pub refused-call : numberOf (openStep n counts weights .refusal) ≢ 0
-      → refusedClosing (openStep n counts weights .refusal) (openStep n counts weights .part) ≡ callOf n counts weights
+  pub refused-call : numberOf (openStep n counts weights rule .refusal) ≢ 0
+      → refusedClosing (openStep n counts weights rule .refusal) (openStep n counts weights rule .part) ≡ callOf n counts weights rule
   unfolding calledBy
-  refused-call h = rw (ne-eqb (numberOf (openStep n counts weights .refusal)) 0 h)
+  refused-call h = rw (ne-eqb (numberOf (openStep n counts weights rule .refusal)) 0 h)

@@ -26,6 +26,7 @@ use Rattle.trio_triples.specs.Genotypes.{tripleAt, tripleOf}
 use Rattle.trio_samples.specs.Samples.{columnTotal, sampleScore}
 use Rattle.trio_samples.specs.Scores.{listsOf}
 use Rattle.trio_reads.specs.Unread.{unread}
+use Rattle.trio_mendel.specs.Rules.{ruleAllowed}
 use Rattle.trio_parts.specs.declared.part.Part.{Part}
 use Rattle.trio_parts.specs.Part.{weightAllowed, scoreIn, rowCount, freshPart, emptyPart, gives}
 use Rattle.trio_parts.specs.Right.{inputRight, rightPart}
@@ -48,7 +49,7 @@ use Rattle.trio_desks.proofs.SoundParts.{closing-says, true-reworked}
 -- ---- a forged part
 
 forged-right : rightPart forged ≡ true
-unfolding rightPart inputRight weightAllowed workRight isMarked markCount beatsOf genotypeCount keyOf le toBits ofInt isNan forged
+unfolding rightPart inputRight ruleAllowed weightAllowed workRight isMarked markCount beatsOf genotypeCount keyOf le toBits ofInt isNan forged
 forged-right = refl
 
 -- its scores are all minus infinity
@@ -56,7 +57,7 @@ forged-least : (q : ℕ) → scoreIn forged q ≡ inf true
 unfolding columnTotal forged
 forged-least q =
     let accepted = input-accepted forged (right-input forged forged-right) refl in
-    unread-least 2 (forged .counts) (forged .weights) accepted q Child refl
+    unread-least 2 (forged .counts) (forged .weights) 1 accepted q Child refl
 
 -- each of its triples has the score of its position
 lowest : (e : Entry) (q : ℕ) → e ≡ record { position = q; score = inf true } → IsEntry (scoreIn forged) e
@@ -113,7 +114,7 @@ forged-calls = refl
 one-pass-calls : allele (onePassCall forged) ≡ 1
 unfolding unread columnTotal forged
 one-pass-calls =
-    ap (λ (t : Triple). t .father .low) (last-unread (freshPart 2 [] []) (lit≤ tt) (lit≤ tt) forged-least refl .triple-is)
+    ap (λ (t : Triple). t .father .low) (last-unread (freshPart 2 [] [] 1) (lit≤ tt) (lit≤ tt) forged-least refl .triple-is)
 
 -- it closes, and calls another triple than the one pass of its input
 pub forged-calls-another : (closeStep forged .refusal ≡ Done) × (closeStep forged .triple ≢ onePassCall forged .triple)

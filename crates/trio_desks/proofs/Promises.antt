@@ -1,7 +1,7 @@
 -- D3: every history of parts of one accepted input keeps its promises. Of a score nothing is used but that it is a number.
 use Prim.Native.Nat.{ℕ, _<_}
 use mathlib.Core.Bool.{Bool, true, false, not, cond, _&&_, _||_, or-true}
-use mathlib.Core.List.{List, [], _∷_, map}
+use mathlib.Core.List.{List, map}
 use mathlib.Core.Path.{_≡_, refl, sym, ap, ap₂, subst, _∙_}
 use mathlib.Mathlib.Data.Bool.Basic.{and-intro}
 use native.Mathlib.Nat.{mul-pos}
@@ -43,7 +43,8 @@ input-swap : (a b : Part) → sameInput a b ≡ sameInput b a
 unfolding sameInput
 input-swap a b =
     ap₂ _&&_ (eqb-swap (a .clusters) (b .clusters))
-    (ap₂ _&&_ (same-swap (a .counts) (b .counts)) (same-swap (map (toBits binary64) (a .weights)) (map (toBits binary64) (b .weights))))
+    (ap₂ _&&_ (eqb-swap (a .rule) (b .rule))
+    (ap₂ _&&_ (same-swap (a .counts) (b .counts)) (same-swap (map (toBits binary64) (a .weights)) (map (toBits binary64) (b .weights)))))
 
 -- ---- a row once worked stays worked, whatever follows
 
@@ -158,7 +159,8 @@ module _ (start : Part) (fresh : Fresh start) where
   unfolding sameInput
   same-on v z =
       and-intro (eq-eqb (start .clusters) (start .clusters) refl)
-      (and-intro (same-self (start .counts)) (same-self (map (toBits binary64) (start .weights))))
+      (and-intro (eq-eqb (start .rule) (start .rule) refl)
+      (and-intro (same-self (start .counts)) (same-self (map (toBits binary64) (start .weights)))))
 
   merge-on : (w u : ℕ → Bool) (v z : Work) → IsSound w v → IsSound u z
       → mergeStep (withWork start v) (withWork start z) ≡ gives Done (withWork start (joined v z))
@@ -241,7 +243,8 @@ module _ (start : Part) (fresh : Fresh start) where
       let l = held-back (InRows width score (rowsOf start h)) (c .0 .held) (c .2 .held-best) in
       record {
         sound = ap soundPart (c .1) ∙ sound-with (rowsOf start h) (c .0) (c .2);
-        input-kept = (ap (λ (p : Part). p .clusters) (c .1), ap (λ (p : Part). p .counts) (c .1), ap (λ (p : Part). p .weights) (c .1));
+        input-kept = (ap (λ (p : Part). p .clusters) (c .1), ap (λ (p : Part). p .counts) (c .1), ap (λ (p : Part). p .weights) (c .1),
+          ap (λ (p : Part). p .rule) (c .1));
         lists-are = ap (λ (p : Part). p .scores) (c .1) ∙ fresh .lists;
         marks-are = λ r. ap (λ (p : Part). isMarked (p .marks) r) (c .1) ∙ c .2 .marks-are r;
         held-best =

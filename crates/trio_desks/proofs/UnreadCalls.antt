@@ -119,19 +119,19 @@ unread-of n counts e =
     or-inr (eqb (columnTotal n counts Child) 0) _
     (or-inr (eqb (columnTotal n counts Father) 0) _ (eq-eqb (columnTotal n counts Mother) 0 e))
 
-module _ (n : ℕ) (counts : List ℕ) (weights : List Float) (accepted : numberOf (openStep n counts weights .refusal) ≡ 0)
+module _ (n : ℕ) (counts : List ℕ) (weights : List Float) (rule : ℕ) (accepted : numberOf (openStep n counts weights rule .refusal) ≡ 0)
     (many : 2 ≤ n) where
   -- the whole answer, from two clusters on, as `LastUnread` says it: X2 cites it (examples), and it is by the same `last-unread` that a
   -- forged part is found out (Forged.antt). What the position, the score and the ground are with one cluster too stands above this crate,
   -- over what a call means: `unread-last`, `unread-score`, `ground-means` (trio_meanings)
-  pub unread-call : unread n counts ≡ true → LastUnread n (callOf n counts weights)
+  pub unread-call : unread n counts ≡ true → LastUnread n (callOf n counts weights rule)
   unfolding calledBy
   unread-call none =
-      let f = few-clusters n counts weights accepted in
-      let p = freshPart n counts weights in
+      let f = few-clusters n counts weights rule accepted in
+      let p = freshPart n counts weights rule in
       let u : unread n (p .counts) ≡ true = unread-padded counts n ∙ none in
-      let r = right-input p (fresh-right n counts weights accepted) in
-      let a = input-accepted p r (fresh-places n counts weights accepted) in
+      let r = right-input p (fresh-right n counts weights rule accepted) in
+      let a = input-accepted p r (fresh-places n counts weights rule accepted) in
       let c = unread-column n (p .counts) u in
-      subst (λ (s : Stepped). LastUnread n (calledBy s)) (sym (opened-is n counts weights accepted))
-      (last-unread p many f (λ q. unread-least n (p .counts) (p .weights) a q (c .0) (c .1)) u)
+      subst (λ (s : Stepped). LastUnread n (calledBy s)) (sym (opened-is n counts weights rule accepted))
+      (last-unread p many f (λ q. unread-least n (p .counts) (p .weights) (p .rule) a q (c .0) (c .1)) u)

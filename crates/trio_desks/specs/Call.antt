@@ -23,6 +23,6 @@ onePassCall p = closedAs (withWork p (wholeWork (rowCount p) (rowWidth (p .clust
 unfoldable pub calledBy : Stepped → Closed
 calledBy o = cond (eqb (numberOf (o .refusal)) 0) (onePassCall (o .part)) (refusedClosing (o .refusal) (o .part))
 
--- D2: the whole call, of a cluster number, counts and weights
-abbrev pub callOf : ℕ → List ℕ → List Float → Closed
-callOf n counts weights = calledBy (openStep n counts weights)
+-- D2, T13: the whole call, of a cluster number, counts, weights and a rule
+abbrev pub callOf : ℕ → List ℕ → List Float → ℕ → Closed
+callOf n counts weights rule = calledBy (openStep n counts weights rule)

@@ -70,6 +70,7 @@ module _ (start : Part) where
     pub sound : soundPart (partOf h) ≡ true
     -- its input is the one that was opened
     pub input-kept : (partOf h .clusters ≡ start .clusters) × (partOf h .counts ≡ start .counts) × (partOf h .weights ≡ start .weights)
+        × (partOf h .rule ≡ start .rule)
     -- its lists are what that input says
     pub lists-are : partOf h .scores ≡ listsIn start
     -- its marks are those rows and no others

@@ -9,8 +9,8 @@ use Rattle.trio.specs.Steps.{rowStep, mergeStep}
 use Rattle.trio_closings.specs.Closing.{closeStep}
 
 -- T6, O3: the part that opening gives, of all zeros where it is refused
-abbrev pub openedPart : ℕ → List ℕ → List Float → Part
-openedPart n counts weights = openStep n counts weights .part
+abbrev pub openedPart : ℕ → List ℕ → List Float → ℕ → Part
+openedPart n counts weights rule = openStep n counts weights rule .part
 
 -- O1: what can be done with a part: work a row into it, merge another part into it, close it
 pub data Step : Type 0 where

@@ -1,4 +1,4 @@
-// The call of a whole trio: opened, searched and closed in one go (docs/RULES.md, D2). The lists are filled once, and nothing is checked
+// The call of a whole trio: opened, searched and closed in one go (docs/RULES.md, D2, T13). The lists are filled once, and nothing is checked
 // again.
 ghost use mathlib.Core.Path.{_≡_};
 ghost use Prim.Native.Nat.{_≤_};
@@ -27,17 +27,18 @@ fn searched(p: Part) -> Part
         clusters: p.clusters,
         counts,
         weights,
+        rule: p.rule,
         scores,
         marks: (1 << rows) - 1,
-        held: best_of_all(p.clusters, scores),
+        held: best_of_all(p.clusters, p.rule, scores),
     }
 }
 
-// The call of n clusters with these counts and weights, or the opening's refusal with zeros.
-pub fn call(n: u64, counts: &[u32], weights: &[f64]) -> Closed
-    ensures { λ r. ⌜ r ≡ callOf n (now (counts .entry)) (now (weights .entry)) ⌝ }
+// The call of n clusters with these counts and weights under a rule, or the opening's refusal with zeros.
+pub fn call(n: u64, counts: &[u32], weights: &[f64], rule: u64) -> Closed
+    ensures { λ r. ⌜ r ≡ callOf n (now (counts .entry)) (now (weights .entry)) rule ⌝ }
 {
-    let opened = open_part(n, counts, weights);
+    let opened = open_part(n, counts, weights, rule);
     let refusal = opened.refusal;
     let part = opened.part;
     if refusals::number(refusal) == 0 {

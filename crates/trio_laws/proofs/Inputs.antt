@@ -10,6 +10,7 @@ use borrow.Author.Tests.{leb-true, ltb-true, ltb-false}
 use lib.Dec.{ltb, leb}
 use lib.ListN.{length, getD, List·getD-eq-default}
 use lib.Ieee.{nan, isNan}
+use Rattle.trio_mendel.specs.Rules.{ruleAllowed}
 use Rattle.trio_parts.specs.declared.part.Part.{Part}
 use Rattle.limits.specs.Limits.{countAllowed}
 use Rattle.trio_parts.specs.Part.{scoreIn, weightAllowed}
@@ -37,34 +38,38 @@ module _ (p : Part) (right : inputRight p ≡ true) (eight : length (p .weights)
   abbrev weights-test : Bool
   weights-test = placesRight weightAllowed noWeight n (p .weights)
 
-  some-clusters : (leb 1 n && (leb n 8 && (counts-test && weights-test))) ≡ true
+  abbrev lists-test : Bool
+  lists-test = counts-test && (weights-test && ruleAllowed (p .rule))
+
+  some-clusters : (leb 1 n && (leb n 8 && lists-test)) ≡ true
   unfolding inputRight
   some-clusters = right
 
-  places : (counts-test && weights-test) ≡ true
-  places =
-      let few-clusters = and-elim-right (leb 1 n) (leb n 8 && (counts-test && weights-test)) some-clusters in
-      and-elim-right (leb n 8) (counts-test && weights-test) few-clusters
+  places : lists-test ≡ true
+  places = and-elim-right (leb n 8) lists-test (and-elim-right (leb 1 n) (leb n 8 && lists-test) some-clusters)
+
+  weights-right : weights-test ≡ true
+  weights-right = and-elim-left weights-test (ruleAllowed (p .rule)) (and-elim-right counts-test (weights-test && ruleAllowed (p .rule)) places)
 
   count-at : (i : ℕ) → i < 3 * n → countAllowed (getD (p .counts) i 0) ≡ true
   count-at i h = go (ltb i (length (p .counts))) refl
     where
       go : (t : Bool) → ltb i (length (p .counts)) ≡ t → countAllowed (getD (p .counts) i 0) ≡ true
       go true e =
-          let right = and-elim-left counts-test weights-test places in
+          let right = and-elim-left counts-test (weights-test && ruleAllowed (p .rule)) places in
           place-passed countAllowed noCount 0 (3 * n) (p .counts) i right h (ltb-true i (length (p .counts)) e)
       go false e = ap countAllowed (List·getD-eq-default (p .counts) 0 (ltb-false i (length (p .counts)) e))
 
   pub input-accepted : AcceptedTrio n (p .counts) (p .weights)
   input-accepted =
       record {
-        some = leb-true 1 n (and-elim-left (leb 1 n) (leb n 8 && (counts-test && weights-test)) some-clusters);
+        some = leb-true 1 n (and-elim-left (leb 1 n) (leb n 8 && lists-test) some-clusters);
         few = few-clusters p right;
         count-allowed = count-at;
         weight-allowed =
-            λ c h. place-passed weightAllowed noWeight nan n (p .weights) c (and-elim-right counts-test weights-test places) h
+            λ c h. place-passed weightAllowed noWeight nan n (p .weights) c weights-right h
             (omega (arith, few-clusters p right, eight));
       }
 
   pub scores-numbers : (q : ℕ) → isNan (scoreIn p q) ≡ false
-  scores-numbers q = score-number n (p .counts) (p .weights) input-accepted q
+  scores-numbers q = score-number n (p .counts) (p .weights) (p .rule) input-accepted q

@@ -1,6 +1,6 @@
 -- How many of the four combinations are a child's pair, and how many different pairs these make, by which of the parents' numbers are
 -- equal. Assumes nothing.
-use Prim.Native.Nat.{ℕ, _+_}
+use Prim.Native.Nat.{ℕ, _+_, _≤_}
 use native.Mathlib.Omega.{arith}
 use mathlib.Core.Logic.{_⊎_, inl, inr}
 use mathlib.Core.Path.{_≡_, refl, sym, ap, _∙_}
@@ -11,6 +11,7 @@ use lib.Dec.{eqb}
 use lib.ListN.{length}
 use Rattle.lists.specs.Lists.{passing}
 use Rattle.lists.proofs.NumberLaws.{eqb-swap}
+use Rattle.lists.proofs.PassingLaws.{passing-length}
 use Rattle.trio_family.specs.declared.pair.Pair.{Pair}
 use Rattle.trio_family.specs.Genotypes.{pair}
 use Rattle.trio_mendel.specs.Mendel.{ordered, samePair, among, combinations, childPairs}
@@ -50,6 +51,10 @@ module _ (f m z : Pair) where
         count-next t r (s ∷ []),
         count-next t s [],
       )
+
+pub ways-few : (c f m : Pair) → waysOf c f m ≤ 4
+unfolding waysOf
+ways-few c f m = passing-length (λ q. samePair q (ordered (c .low) (c .high))) (combinations f m)
 
 -- ---- by which numbers are equal: the father has a and b, the mother k and l
 

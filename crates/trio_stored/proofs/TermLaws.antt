@@ -32,6 +32,7 @@ use Rattle.trio_stored.specs.Terms.{uneven, shareOf, shareTerm, outerTer
 use Rattle.trio_stored.proofs.PlacesLaws.{is-true}
 use Rattle.lists.proofs.EveryLaws.{every-up}
 use Rattle.trio_mendel.proofs.MendelLaws.{child-pairs-few}
+use Rattle.trio_mendel.proofs.WaysLaws.{ways-few}
 
 -- ---- the logarithms, as the code writes them
 
@@ -164,10 +165,6 @@ module _ (c f m : Pair) where
       go true = let few = child-pairs-few f m in share-term (length (childPairs f m)) (few .0) (few .1)
       go false = unlike-term
 
-  ways-few : waysOf c f m ≤ 4
-  unfolding waysOf
-  ways-few = passing-length (λ q. samePair q (ordered (c .low) (c .high))) (combinations f m)
-
   gamete-term : Term (gameteTerm c f m)
   unfolding gameteTerm
   gamete-term = go (eqb (waysOf c f m) 0) (eqb-false (waysOf c f m) 0)
@@ -176,7 +173,7 @@ module _ (c f m : Pair) where
       go true e = unlike-term
       go false e =
           let some = e refl in
-          of-four (λ (w : ℕ). lnOf (nat w ⊘ nat 4)) ways-between (waysOf c f m) (omega arith) ways-few
+          of-four (λ (w : ℕ). lnOf (nat w ⊘ nat 4)) ways-between (waysOf c f m) (omega arith) (ways-few c f m)
 
   pub rule-term : (rule : ℕ) → Term (termOf rule c f m)
   unfolding termOf

@@ -115,9 +115,10 @@ module _ (n : ℕ) (f m : Pair) (few : n ≤ 8) (F : PairIn n f) (M : PairIn n m
   alike-one h =
       let same = samePair (ordered (f .low) (f .high)) (ordered (m .low) (m .high)) in
       let parts = and-eq-true-iff (not (eqb (f .low) (f .high))) same .0 h in
-      let e = same-is (ordered (f .low) (f .high)) (ordered (m .low) (m .high)) (parts .1) in
-      (rw (le-leb (f .low) (f .high) (F .0), le-leb (m .low) (m .high) (M .0)) at e,
-        eqb-false (f .low) (f .high) (not-true (eqb (f .low) (f .high)) (parts .0)))
+      let e = same-is (ordered (f .low) (f .high)) (ordered (m .low) (m .high)) (parts .1) in (
+        rw (le-leb (f .low) (f .high) (F .0), le-leb (m .low) (m .high) (M .0)) at e,
+        eqb-false (f .low) (f .high) (not-true (eqb (f .low) (f .high)) (parts .0)),
+      )
 
   abbrev at : Places
   at = placesOf n f m

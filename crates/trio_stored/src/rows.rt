@@ -71,7 +71,17 @@ fn one_row(n: u64, rule: u64, r: u64, scores: Scores) -> Held
         let father = scores.father;
         let mother = scores.mother;
         let top = largest(child, g);
-        return row(n, rule, g, r, &child, &father, &mother, top, Held::nothing());
+        return row(
+            n,
+            rule,
+            g,
+            r,
+            &child,
+            &father,
+            &mother,
+            top,
+            Held::nothing(),
+        );
     }
     Held::nothing()
 }

@@ -77,7 +77,16 @@ fn next(child: &[f64; 36], base: f64, term: f64, at: u64, k: u64, last: u64, hel
 
 // What is held once the children at four places have been offered, the last one first, of those at one place one. The first and the last
 // place have one term, those between another.
-fn four(child: &[f64; 36], base: f64, outer: f64, inner: f64, g: u64, at: u64, k: Places, held: Held) -> Held
+fn four(
+    child: &[f64; 36],
+    base: f64,
+    outer: f64,
+    inner: f64,
+    g: u64,
+    at: u64,
+    k: Places,
+    held: Held,
+) -> Held
     requires { ⌜ (k .first ≤ k .second) × (k .second ≤ k .third) × (k .third ≤ k .fourth) × (k .fourth ≤ g) ⌝ }
     requires { ⌜ (g ≤ 36) × (at + g < 2 ^ 64) × HeldPast (at + g) held ⌝ }
     ensures { λ r. ⌜ r ≡ heldOf (fourOf (evenScore (now (child .entry)) outer base at) (evenScore (now (child .entry)) inner base at) at g k

@@ -25,7 +25,7 @@ abbrev asked : tie.Then1 → tie.Start
 asked c = c .before .before .before .before .before .before
 
 -- it was accepted
-accepted : (c : tie.Then1) → let a = asked c .args in numberOf (openStep (a .n) (a .counts .now) (a .weights .now) .refusal) ≡ 0
+accepted : (c : tie.Then1) → let a = asked c .args in numberOf (openStep (a .n) (a .counts .now) (a .weights .now) (a .rule) .refusal) ≡ 0
 accepted c =
     let o = c .before .before .before .open-part .ensures in
     sym (ap (λ (s : Stepped). numberOf (s .refusal)) o) ∙ sym (c .before .number .ensures) ∙ c .if1 .taken
@@ -33,11 +33,11 @@ accepted c =
 searched-requires : tie.Need-searched-requires
 searched-requires c κs =
     let a = asked c .args in
-    let fresh = opened-is (a .n) (a .counts .now) (a .weights .now) (accepted c) in
+    let fresh = opened-is (a .n) (a .counts .now) (a .weights .now) (a .rule) (accepted c) in
     subst (λ (s : Stepped). (1 ≤ s .part .clusters) × (s .part .clusters ≤ 8) × (s .part .scores ≡ listsIn (s .part)))
     (sym (c .before .before .before .open-part .ensures ∙ fresh)) (
-      some-clusters (a .n) (a .counts .now) (a .weights .now) (accepted c),
-      few-clusters (a .n) (a .counts .now) (a .weights .now) (accepted c),
+      some-clusters (a .n) (a .counts .now) (a .weights .now) (a .rule) (accepted c),
+      few-clusters (a .n) (a .counts .now) (a .weights .now) (a .rule) (accepted c),
       refl,
     )
 
@@ -51,7 +51,7 @@ returns c =
     let a = asked then .args in
     let o = then .before .before .before .open-part .ensures in
     c .closed-as .ensures ∙ ap closedAs (c .before .searched .ensures) ∙ ap (λ (s : Stepped). onePassCall (s .part)) o
-    ∙ rw (eq-eqb (numberOf (openStep (a .n) (a .counts .now) (a .weights .now) .refusal)) 0 (accepted then))
+    ∙ rw (eq-eqb (numberOf (openStep (a .n) (a .counts .now) (a .weights .now) (a .rule) .refusal)) 0 (accepted then))
 
 refused-closing-requires : tie.Need-refused-closing-requires
 refused-closing-requires c κs = search needs
@@ -61,7 +61,7 @@ returns-2 c =
     let a = c .before .before .before .before .before .before .before .args in
     let o = c .before .before .before .before .open-part .ensures in
     c .refused-closing .ensures ∙ ap (λ (s : Stepped). refusedClosing (s .refusal) (s .part)) o
-    ∙ refused-call (a .n) (a .counts .now) (a .weights .now)
+    ∙ refused-call (a .n) (a .counts .now) (a .weights .now) (a .rule)
     (λ e. c .before .if1 .left (c .before .before .number .ensures ∙ ap (λ (s : Stepped). numberOf (s .refusal)) o ∙ e))
 
 pub call-spec : {M : Type 1} → statement M

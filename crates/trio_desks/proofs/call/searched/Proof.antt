@@ -45,11 +45,11 @@ returns c =
     let pre = asked counted .pre in
     let marks = ap (λ (m : ℕ). m - 1) (one-shifted (counted .genotype-count .result) (few-rows counted))
     ∙ ap fullMarks (counted .genotype-count .ensures) in
-    let held = c .best-of-all .ensures ∙ ap (λ (l : Scores). bestOfAll (p .clusters) l) (pre .2)
-    ∙ all-stored (p .clusters) (p .counts) (p .weights) (pre .0) (pre .1) in
+    let held = c .best-of-all .ensures ∙ ap (λ (l : Scores). bestOfAll (p .clusters) (p .rule) l) (pre .2)
+    ∙ all-stored (p .clusters) (p .counts) (p .weights) (p .rule) (pre .0) (pre .1) in
     ap₂
     (λ (m : ℕ) (h : Held).
-    record { clusters = p .clusters; counts = p .counts; weights = p .weights; scores = p .scores; marks = m; held = h })
+    record { clusters = p .clusters; counts = p .counts; weights = p .weights; rule = p .rule; scores = p .scores; marks = m; held = h })
     marks held
 
 pub searched-spec : {M : Type 1} → statement M
