@@ -14,7 +14,7 @@ use Rattle.lists.proofs.EveryLaws.{every-each, some-fails}
 use Rattle.lists.proofs.PlaceLaws.{number-at, numbers-length}
 use Rattle.refusals.specs.declared.Refusal.{Refusal}
 use Rattle.refusals.specs.declared.Refusal.the-variants.{Done, NoCluster, TooMany, Shape, Count, Weight, Model, Table}
-use Rattle.refusals.specs.declared.Refusal.the-variants.{Row, OtherTrio, NotComplete, NoCall, BadPart, Block, Check, Layout}
+use Rattle.refusals.specs.declared.Refusal.the-variants.{Row, OtherTrio, NotComplete, NoCall, BadPart, Block, Check, Layout, Rule}
 use Rattle.refusals.specs.Refusals.{numberOf}
 use Rattle.trio_search.specs.Marks.{isMarked, fullMarks}
 use Rattle.trio_search_laws.proofs.ShapeLaws.{Shaped, right-shaped}
@@ -113,6 +113,7 @@ module _ (p : Part) where
   says-given Block c = absurd c
   says-given Check c = absurd c
   says-given Layout c = absurd c
+  says-given Rule c = absurd c
 
   -- for every refusal of the enum, Done among them
   pub closes-exactly : (r : Refusal) → (closeStep p .refusal ≡ r) ↔ ClosesWith p r

@@ -27,12 +27,12 @@ use Rattle.trio_meanings.proofs.CallLaws.{limits, call-called, closing-
 use Rattle.trio_meanings.proofs.CloseLaws.{closing-each}
 use Rattle.trio_meanings.proofs.GroundLaws.{ground-means}
 
-module _ (n : ℕ) (counts : List ℕ) (weights : List Float) (accepted : openStep n counts weights .refusal ≡ Done) where
+module _ (n : ℕ) (counts : List ℕ) (weights : List Float) (rule : ℕ) (accepted : openStep n counts weights rule .refusal ≡ Done) where
   abbrev c : Closed
-  c = callOf n counts weights
+  c = callOf n counts weights rule
 
-  abbrev called : Called n counts weights c
-  called = call-called n counts weights accepted
+  abbrev called : Called n counts weights rule c
+  called = call-called n counts weights rule accepted
 
   -- the six flags of a call are exactly the reads of its alleles, on every ground
   pub call-flags : FlagsTell counts (c .triple) (c .read)
@@ -50,20 +50,20 @@ module _ (n : ℕ) (counts : List ℕ) (weights : List Float) (accepted : openSt
 
       all-read : CalledRead counts (c .triple) → AllRead n counts
       all-read r =
-          let l = limits n counts weights accepted in
+          let l = limits n counts weights rule accepted in
           called-all-read n (l .some-clusters) (l .few-clusters) counts (calledAt c)
           (subst (CalledRead counts) (called .triple-is) r)
 
       set-so : CalledRead counts (c .triple) → (g : Ground) → c .ground ≡ g → (c .ground ≡ Won) ⊎ (c .ground ≡ Tied)
-      set-so r NoGround e = absurd (ground-means n counts weights accepted NoGround .0 e)
-      set-so r Unread e = let u = ground-means n counts weights accepted Unread .0 e in absurd (all-read r (u .0) (u .1))
-      set-so r Inferred e = let m = ground-means n counts weights accepted Inferred .0 e .1 in absurd (r (m .0) (m .1) (m .2) (m .3))
+      set-so r NoGround e = absurd (ground-means n counts weights rule accepted NoGround .0 e)
+      set-so r Unread e = let u = ground-means n counts weights rule accepted Unread .0 e in absurd (all-read r (u .0) (u .1))
+      set-so r Inferred e = let m = ground-means n counts weights rule accepted Inferred .0 e .1 in absurd (r (m .0) (m .1) (m .2) (m .3))
       set-so r Tied e = inr e
       set-so r Won e = inl e
 
       so-read : (c .ground ≡ Won) ⊎ (c .ground ≡ Tied) → CalledRead counts (c .triple)
-      so-read (inl e) = ground-means n counts weights accepted Won .0 e .1
-      so-read (inr e) = ground-means n counts weights accepted Tied .0 e .1
+      so-read (inl e) = ground-means n counts weights rule accepted Won .0 e .1
+      so-read (inr e) = ground-means n counts weights rule accepted Tied .0 e .1
 
       is-set : (t : Bool) → not t ≡ false → t ≡ true
       is-set true e = refl
@@ -75,12 +75,12 @@ module _ (n : ℕ) (counts : List ℕ) (weights : List Float) (accepted : openSt
           ∙ is-set (allelesRead (tripleRead counts (c .triple))) (called-settles counts (c .triple) .is-failed r)
 
   -- and so of every closing, once every row has been worked
-  module _ (h : History (openedPart n counts weights)) (all : AllWorked (openedPart n counts weights) h) where
+  module _ (h : History (openedPart n counts weights rule)) (all : AllWorked (openedPart n counts weights rule) h) where
     abbrev closing : Closed
-    closing = closeStep (partOf (openedPart n counts weights) h)
+    closing = closeStep (partOf (openedPart n counts weights rule) h)
 
     abbrev is-call : closing ≡ c
-    is-call = closing-is n counts weights accepted h all
+    is-call = closing-is n counts weights rule accepted h all
 
     pub closing-flags : FlagsTell counts (closing .triple) (closing .read)
     closing-flags = subst (λ (d : Closed). FlagsTell counts (d .triple) (d .read)) (sym is-call) call-flags
@@ -96,9 +96,9 @@ unfolding closedAs refusedClosing
 refused-none p = closing-each p (λ d. d .refusal ≢ Done → d .read ≡ noneRead) (λ other. absurd (other refl)) (λ r given other. refl)
 
 -- of any input that opening refuses
-pub refused-call-none : (n : ℕ) (counts : List ℕ) (weights : List Float) → openStep n counts weights .refusal ≢ Done
-    → callOf n counts weights .read ≡ noneRead
+pub refused-call-none : (n : ℕ) (counts : List ℕ) (weights : List Float) (rule : ℕ) → openStep n counts weights rule .refusal ≢ Done
+    → callOf n counts weights rule .read ≡ noneRead
 unfolding refusedClosing
-refused-call-none n counts weights other =
+refused-call-none n counts weights rule other =
     ap (λ (d : Closed). d .read)
-    (sym (refused-call n counts weights (λ z. other (ap (λ (o : Stepped). o .refusal) (opened-is n counts weights z)))))
+    (sym (refused-call n counts weights rule (λ z. other (ap (λ (o : Stepped). o .refusal) (opened-is n counts weights rule z)))))

@@ -71,18 +71,18 @@ kanpig-is false b n = kanpig-one b n
 
 -- ---- the quality of an accepted input
 
-module _ (n : ℕ) (counts : List ℕ) (weights : List Float) (accepted : openStep n counts weights .refusal ≡ Done) where
+module _ (n : ℕ) (counts : List ℕ) (weights : List Float) (rule : ℕ) (accepted : openStep n counts weights rule .refusal ≡ Done) where
   abbrev c : Closed
-  c = callOf n counts weights
+  c = callOf n counts weights rule
 
-  abbrev called : Called n counts weights c
-  called = call-called n counts weights accepted
+  abbrev called : Called n counts weights rule c
+  called = call-called n counts weights rule accepted
 
   abbrev key : ℕ → ℤ
-  key = keyAt n counts weights
+  key = keyAt n counts weights rule
 
   abbrev score : ℕ → Float
-  score = scoreOf n counts weights
+  score = scoreOf n counts weights rule
 
   abbrev second : ℕ
   second = c .runner .position
@@ -100,10 +100,10 @@ module _ (n : ℕ) (counts : List ℕ) (weights : List Float) (accepted : openSt
   module _ (read : AllRead n counts) where
     score-finite : (p : ℕ) → Number (score p)
     score-finite p =
-        let a = allowed n counts weights (limits n counts weights accepted) in
+        let a = allowed n counts weights rule (limits n counts weights rule accepted) in
         record {
-          is-finite = score-within n counts weights a p (λ s. some (columnTotal n counts s) (read s)) .is-finite;
-          is-f64 = score-fits n counts weights a p;
+          is-finite = score-within n counts weights rule a p (λ s. some (columnTotal n counts s) (read s)) .is-finite;
+          is-f64 = score-fits n counts weights rule a p;
         }
       where
         some : (k : ℕ) → k ≢ 0 → 0 < k
@@ -126,7 +126,7 @@ module _ (n : ℕ) (counts : List ℕ) (weights : List Float) (accepted : openSt
       not-below : lt (c .score) (c .runner .score) ≡ false
       not-below =
           rw (called .score-is, called .runner-score e)
-          (sym (key-below n counts weights (limits n counts weights accepted) (calledAt c) second)
+          (sym (key-below n counts weights rule (limits n counts weights rule accepted) (calledAt c) second)
           ∙ go (ltZ (key (calledAt c)) (key second)) refl)
         where
           go : (t : Bool) → ltZ (key (calledAt c)) (key second) ≡ t → t ≡ false
@@ -141,7 +141,7 @@ module _ (n : ℕ) (counts : List ℕ) (weights : List Float) (accepted : openSt
     least false e = let q = by-runner false e ∙ alone-most (c .score) (c .runner .score) in omega arith
 
     -- 3 where another position has the key of the one called, whatever the ground: the runner-up has it then
-    pub shared-three : BestShared n counts weights (calledAt c) → c .quality ≡ 3
+    pub shared-three : BestShared n counts weights rule (calledAt c) → c .quality ≡ 3
     shared-three s = go (c .«has_runner») refl
       where
         same : c .«has_runner» ≡ true → key second ≡ key (calledAt c)
@@ -160,7 +160,7 @@ module _ (n : ℕ) (counts : List ℕ) (weights : List Float) (accepted : openSt
   all-but-unread other = go (unread n counts) refl
     where
       go : (u : Bool) → unread n counts ≡ u → AllRead n counts
-      go true u = absurd (other (ground-means n counts weights accepted Unread .1 (unread-settles n counts .holds u)))
+      go true u = absurd (other (ground-means n counts weights rule accepted Unread .1 (unread-settles n counts .holds u)))
       go false u = unread-settles n counts .fails u
 
   -- there it is what kanpig's own function gives for the best scores
@@ -169,19 +169,19 @@ module _ (n : ℕ) (counts : List ℕ) (weights : List Float) (accepted : openSt
       ap pos (by-runner (all-but-unread other) (c .«has_runner») refl) ∙ sym (kanpig-is (c .«has_runner») (c .score) (c .runner .score))
 
   -- a tie may stand behind Inferred: then it is 3 as of every tie
-  pub hidden-tie : c .ground ≡ Inferred → BestShared n counts weights (calledAt c) → c .quality ≡ 3
-  hidden-tie g s = shared-three (ground-means n counts weights accepted Inferred .0 g .0) s
+  pub hidden-tie : c .ground ≡ Inferred → BestShared n counts weights rule (calledAt c) → c .quality ≡ 3
+  hidden-tie g s = shared-three (ground-means n counts weights rule accepted Inferred .0 g .0) s
 
   -- on Unread that would be 100, with a runner-up or without
   pub on-unread : c .ground ≡ Unread → kanpigQuality (bestScores c) ≡ pos 100
   on-unread g = kanpig-is (c .«has_runner») (c .score) (c .runner .score) ∙ ap pos (go (c .«has_runner») refl)
     where
       s : SomeUnread n counts
-      s = ground-means n counts weights accepted Unread .0 g
+      s = ground-means n counts weights rule accepted Unread .0 g
 
       go : (r : Bool) → c .«has_runner» ≡ r → trioQuality false r (c .score) (c .runner .score) ≡ 100
       go true e =
-          rw (unread-score n counts weights accepted s, called .runner-score e ∙ flat n counts weights accepted s second)
+          rw (unread-score n counts weights rule accepted s, called .runner-score e ∙ flat n counts weights rule accepted s second)
           (quality-examples .least-scores)
       go false e = alone-most (c .score) (c .runner .score)
 
@@ -190,11 +190,11 @@ module _ (n : ℕ) (counts : List ℕ) (weights : List Float) (accepted : openSt
       subst (λ (q : ℕ). q ≤ 100) (sym (called .quality-is)) (quality-most (unread n counts) (c .«has_runner») (c .score) (c .runner .score))
 
   beside : (g : Ground) → c .ground ≡ g → QualityBeside g (c .quality)
-  beside NoGround e = absurd (ground-means n counts weights accepted NoGround .0 e)
-  beside Unread e = unread-none (ground-means n counts weights accepted Unread .0 e)
-  beside Inferred e = let m = ground-means n counts weights accepted Inferred .0 e in (least (m .0) (c .«has_runner») refl, most)
-  beside Tied e = let m = ground-means n counts weights accepted Tied .0 e in shared-three (m .0) (m .2)
-  beside Won e = let m = ground-means n counts weights accepted Won .0 e in (least (m .0) (c .«has_runner») refl, most)
+  beside NoGround e = absurd (ground-means n counts weights rule accepted NoGround .0 e)
+  beside Unread e = unread-none (ground-means n counts weights rule accepted Unread .0 e)
+  beside Inferred e = let m = ground-means n counts weights rule accepted Inferred .0 e in (least (m .0) (c .«has_runner») refl, most)
+  beside Tied e = let m = ground-means n counts weights rule accepted Tied .0 e in shared-three (m .0) (m .2)
+  beside Won e = let m = ground-means n counts weights rule accepted Won .0 e in (least (m .0) (c .«has_runner») refl, most)
 
   accepted-rated : Rated c
   accepted-rated = beside (c .ground) refl
@@ -208,49 +208,49 @@ module _ (n : ℕ) (counts : List ℕ) (weights : List Float) (accepted : openSt
       go false u e = let l = least (unread-settles n counts .fails u) (c .«has_runner») refl in absurd (omega arith)
 
 -- of every input, accepted or not, the quality is what the ground says
-pub call-rated : (n : ℕ) (counts : List ℕ) (weights : List Float) → Rated (callOf n counts weights)
+pub call-rated : (n : ℕ) (counts : List ℕ) (weights : List Float) (rule : ℕ) → Rated (callOf n counts weights rule)
 unfolding refusedClosing
-call-rated n counts weights = go (eqb (numberOf (openStep n counts weights .refusal)) 0) refl
+call-rated n counts weights rule = go (eqb (numberOf (openStep n counts weights rule .refusal)) 0) refl
   where
-    go : (t : Bool) → eqb (numberOf (openStep n counts weights .refusal)) 0 ≡ t → Rated (callOf n counts weights)
+    go : (t : Bool) → eqb (numberOf (openStep n counts weights rule .refusal)) 0 ≡ t → Rated (callOf n counts weights rule)
     go true e =
-        let done = opened-is n counts weights (eqb-true (numberOf (openStep n counts weights .refusal)) 0 e) in
-        accepted-rated n counts weights (ap (λ (o : Stepped). o .refusal) done)
-    go false e = subst Rated (refused-call n counts weights (eqb-false (numberOf (openStep n counts weights .refusal)) 0 e)) refl
+        let done = opened-is n counts weights rule (eqb-true (numberOf (openStep n counts weights rule .refusal)) 0 e) in
+        accepted-rated n counts weights rule (ap (λ (o : Stepped). o .refusal) done)
+    go false e = subst Rated (refused-call n counts weights rule (eqb-false (numberOf (openStep n counts weights rule .refusal)) 0 e)) refl
 
 -- ---- of every closing
 
-module _ (n : ℕ) (counts : List ℕ) (weights : List Float) (accepted : openStep n counts weights .refusal ≡ Done)
-    (h : History (openedPart n counts weights)) where
+module _ (n : ℕ) (counts : List ℕ) (weights : List Float) (rule : ℕ) (accepted : openStep n counts weights rule .refusal ≡ Done)
+    (h : History (openedPart n counts weights rule)) where
   abbrev start : Part
-  start = openedPart n counts weights
+  start = openedPart n counts weights rule
 
   abbrev closing : Closed
   closing = closeStep (partOf start h)
 
   module _ (all : AllWorked start h) where
-    abbrev is-call : closing ≡ callOf n counts weights
-    is-call = closing-is n counts weights accepted h all
+    abbrev is-call : closing ≡ callOf n counts weights rule
+    is-call = closing-is n counts weights rule accepted h all
 
     worked-rated : Rated closing
-    worked-rated = subst Rated (sym is-call) (call-rated n counts weights)
+    worked-rated = subst Rated (sym is-call) (call-rated n counts weights rule)
 
     -- once every row has been worked, however desks went about it: 0 exactly where an animal has no reads
     pub closing-nothing : (closing .quality ≡ 0) ↔ SomeUnread n counts
     closing-nothing =
-        subst (λ (c : Closed). (c .quality ≡ 0) ↔ SomeUnread n counts) (sym is-call) (nothing-exactly n counts weights accepted)
+        subst (λ (c : Closed). (c .quality ≡ 0) ↔ SomeUnread n counts) (sym is-call) (nothing-exactly n counts weights rule accepted)
 
     -- kanpig's on every ground but that of an unread trio
     pub closing-all-but-unread : closing .ground ≢ Unread → pos (closing .quality) ≡ kanpigQuality (bestScores closing)
     closing-all-but-unread =
         subst (λ (c : Closed). c .ground ≢ Unread → pos (c .quality) ≡ kanpigQuality (bestScores c))
-        (sym is-call) (on-all-but-unread n counts weights accepted)
+        (sym is-call) (on-all-but-unread n counts weights rule accepted)
 
     -- and 3 where a tie stands behind Inferred
-    pub closing-hidden-tie : closing .ground ≡ Inferred → BestShared n counts weights (calledAt closing) → closing .quality ≡ 3
+    pub closing-hidden-tie : closing .ground ≡ Inferred → BestShared n counts weights rule (calledAt closing) → closing .quality ≡ 3
     closing-hidden-tie =
-        subst (λ (c : Closed). c .ground ≡ Inferred → BestShared n counts weights (calledAt c) → c .quality ≡ 3)
-        (sym is-call) (hidden-tie n counts weights accepted)
+        subst (λ (c : Closed). c .ground ≡ Inferred → BestShared n counts weights rule (calledAt c) → c .quality ≡ 3)
+        (sym is-call) (hidden-tie n counts weights rule accepted)
 
   -- of every history, closed too early or in time, the quality is what the ground says: over each of them Tied gives 3
   pub closing-rated : Rated closing
@@ -261,7 +261,7 @@ module _ (n : ℕ) (counts : List ℕ) (weights : List Float) (accepted : openSt
       p = partOf start h
 
       promised : Promised start h
-      promised = demand-three n counts weights (ap numberOf accepted) h
+      promised = demand-three n counts weights rule (ap numberOf accepted) h
 
       go : (t : Bool) → eqb (p .marks) (fullMarks (rowCount p)) ≡ t → Rated (closeStep p)
       go true e =

@@ -104,16 +104,16 @@ closing-stays p =
 
 -- ---- of the call of an accepted input, which hands back the part that it closed
 
-module _ (n : ℕ) (counts : List ℕ) (weights : List Float) (accepted : openStep n counts weights .refusal ≡ Done) where
+module _ (n : ℕ) (counts : List ℕ) (weights : List Float) (rule : ℕ) (accepted : openStep n counts weights rule .refusal ≡ Done) where
   abbrev c : Closed
-  c = callOf n counts weights
+  c = callOf n counts weights rule
 
   -- what holds of every answer to a complete part, and of that part, holds of the call and of its part
   of-call : (P : Part → Closed → Type 0) → ((p : Part) → P p (closedAs p)) → P (c .part) c
   unfolding closedAs
   of-call P each =
-      subst (λ (d : Closed). P (d .part) d) (sym (call-is n counts weights accepted))
-      (each (answerBy n counts weights (scoreOf n counts weights) (positionCount n) .part))
+      subst (λ (d : Closed). P (d .part) d) (sym (call-is n counts weights rule accepted))
+      (each (answerBy n counts weights rule (scoreOf n counts weights rule) (positionCount n) .part))
 
   pub call-any-ground : (ground-by : GroundRule)
       → let d = closedBy ground-by trioQuality (c .part) in SameCall d c × (d .quality ≡ c .quality)

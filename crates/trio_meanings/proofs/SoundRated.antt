@@ -91,8 +91,8 @@ module _ (p : Part) (typed : TypedPart p) (sound : soundPart p ≡ true) where
         let a = input-accepted p (right-input p (true-part .shape)) (typed .weights .places) in
         subst Number (sym (held-score e i))
         (record {
-          is-finite = score-within (p .clusters) (p .counts) (p .weights) a (e .position) (λ s. some _ (read s)) .is-finite;
-          is-f64 = score-fits (p .clusters) (p .counts) (p .weights) a (e .position);
+          is-finite = score-within (p .clusters) (p .counts) (p .weights) (p .rule) a (e .position) (λ s. some _ (read s)) .is-finite;
+          is-f64 = score-fits (p .clusters) (p .counts) (p .weights) (p .rule) a (e .position);
         })
       where
         some : (k : ℕ) → k ≢ 0 → 0 < k
