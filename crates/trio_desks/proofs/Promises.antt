@@ -243,8 +243,12 @@ module _ (start : Part) (fresh : Fresh start) where
       let l = held-back (InRows width score (rowsOf start h)) (c .0 .held) (c .2 .held-best) in
       record {
         sound = ap soundPart (c .1) ∙ sound-with (rowsOf start h) (c .0) (c .2);
-        input-kept = (ap (λ (p : Part). p .clusters) (c .1), ap (λ (p : Part). p .counts) (c .1), ap (λ (p : Part). p .weights) (c .1),
-          ap (λ (p : Part). p .rule) (c .1));
+        input-kept = (
+          ap (λ (p : Part). p .clusters) (c .1),
+          ap (λ (p : Part). p .counts) (c .1),
+          ap (λ (p : Part). p .weights) (c .1),
+          ap (λ (p : Part). p .rule) (c .1),
+        );
         lists-are = ap (λ (p : Part). p .scores) (c .1) ∙ fresh .lists;
         marks-are = λ r. ap (λ (p : Part). isMarked (p .marks) r) (c .1) ∙ c .2 .marks-are r;
         held-best =
