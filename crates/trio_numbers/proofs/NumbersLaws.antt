@@ -1,7 +1,7 @@
 -- The numbers of a part and of its scores as stores leave them, with room for them and without; and what is read of numbers. Assumes
 -- nothing.
 use Prim.Native.Nat.{ℕ, _+_, _≤_, _<_}
-use mathlib.Core.List.{List, _++_, map, append-nil}
+use mathlib.Core.List.{List, [], _∷_, _++_, map, append-assoc}
 use mathlib.Core.Path.{_≡_, refl, sym, ap, _∙_, subst}
 use borrow.Author.Tests.{le-leb, lt-leb}
 use lib.Dec.{lit≤}
@@ -19,25 +19,27 @@ use Rattle.trio_numbers.specs.Numbers.{asCount, numbersCounts, numbersFl
 -- ---- the numbers of a part
 
 module _ (p : Part) (counts : length (p .counts) ≡ 24) (weights : length (p .weights) ≡ 8) where
-  behind-first : length (p .counts ++ map (toBits binary64) (p .weights)) ≡ 32
-  behind-first =
-      length-append (p .counts) (map (toBits binary64) (p .weights))
-      ∙ rw (counts, length-map (p .weights) (toBits binary64), weights)
+  abbrev bits : List ℕ
+  bits = map (toBits binary64) (p .weights)
 
-  pub numbers-39 : length (partNumbers p) ≡ 39
-  unfolding partNumbers
-  numbers-39 = rw behind-first
+  lists-32 : length (p .counts ++ bits) ≡ 32
+  lists-32 = length-append (p .counts) bits ∙ rw (counts, length-map (p .weights) (toBits binary64), weights)
 
-  pub numbers-stored : sets (sets (firstNumbers p ++ replicate 32 0) 7 (p .counts)) 31 (map (toBits binary64) (p .weights)) ≡ partNumbers p
+  lists-there : partNumbers p ≡ firstNumbers p ++ ((p .counts ++ bits) ++ (p .rule ∷ []))
   unfolding partNumbers
+  lists-there = ap (λ (l : List ℕ). firstNumbers p ++ l) (sym (append-assoc (p .counts) bits (p .rule ∷ [])))
+
+  pub numbers-40 : length (partNumbers p) ≡ 40
+  numbers-40 = ap length lists-there ∙ rw (length-append (p .counts ++ bits) (p .rule ∷ []), lists-32)
+
+  pub numbers-stored : sets (sets (firstNumbers p ++ (replicate 32 0 ++ (p .rule ∷ []))) 7 (p .counts)) 31 bits ≡ partNumbers p
   numbers-stored =
-      let zeros = firstNumbers p ++ replicate 32 0 in
-      let bits = map (toBits binary64) (p .weights) in
+      let zeros = firstNumbers p ++ (replicate 32 0 ++ (p .rule ∷ [])) in
       ap (λ (k : ℕ). sets (sets zeros 7 (p .counts)) (7 + k) bits) (sym counts)
       ∙ sym (stored-behind zeros 7 (p .counts) bits)
-      ∙ sets-eq (p .counts ++ bits) zeros 7 (subst (λ (k : ℕ). 7 + k ≤ 39) (sym behind-first) (lit≤ tt))
-      ∙ ap (λ (k : ℕ). firstNumbers p ++ (p .counts ++ bits) ++ drop (7 + k) zeros) behind-first
-      ∙ ap (λ (l : List ℕ). firstNumbers p ++ l) (append-nil (p .counts ++ bits))
+      ∙ sets-eq (p .counts ++ bits) zeros 7 (subst (λ (k : ℕ). 7 + k ≤ 40) (sym lists-32) (lit≤ tt))
+      ∙ ap (λ (k : ℕ). firstNumbers p ++ (p .counts ++ bits) ++ drop (7 + k) zeros) lists-32
+      ∙ sym lists-there
 
 -- ---- the numbers of three lists of scores
 
@@ -82,16 +84,16 @@ module _ (s : Scores) (is : Lists36 s) where
 -- ---- both, with room for them and without
 
 module _ (l : List ℕ) (at : ℕ) (p : Part) where
-  pub put-none : length l < at + 147 → l ≡ partPut l at p
+  pub put-none : length l < at + 148 → l ≡ partPut l at p
   unfolding partPut
-  put-none h = rw (lt-leb (at + 147) (length l) h)
+  put-none h = rw (lt-leb (at + 148) (length l) h)
 
-  pub put-all : at + 147 ≤ length l → partPut l at p ≡ sets l at (allNumbers p)
+  pub put-all : at + 148 ≤ length l → partPut l at p ≡ sets l at (allNumbers p)
   unfolding partPut
-  put-all h = rw (le-leb (at + 147) (length l) h)
+  put-all h = rw (le-leb (at + 148) (length l) h)
 
-  pub put-both : at + 147 ≤ length l → length (partNumbers p) ≡ 39
-      → sets (sets l at (partNumbers p)) (at + 39) (scoreNumbers (p .scores)) ≡ partPut l at p
+  pub put-both : at + 148 ≤ length l → length (partNumbers p) ≡ 40
+      → sets (sets l at (partNumbers p)) (at + 40) (scoreNumbers (p .scores)) ≡ partPut l at p
   unfolding allNumbers
   put-both h n =
       ap (λ (k : ℕ). sets (sets l at (partNumbers p)) (at + k) (scoreNumbers (p .scores))) (sym n)

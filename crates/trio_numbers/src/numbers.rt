@@ -1,7 +1,7 @@
-// A part as a row of numbers, and back: 39, as a line (docs/VECTORS.md, `part`) and a block have them, and behind these the 108 of its
+// A part as a row of numbers, and back: 40, as a line (docs/VECTORS.md, `part`) and a block have them, and behind these the 108 of its
 // lists of scores.
 ghost use mathlib.Core.Path.{_≡_};
-ghost use mathlib.Core.List.{_++_, map};
+ghost use mathlib.Core.List.{[], _∷_, _++_, map};
 ghost use lib.Ieee.{binary64, toBits};
 ghost use lib.ListN.{drop, replicate};
 ghost use lib.Seq.{sets};
@@ -20,14 +20,14 @@ use trio_parts::part::Part;
 use trio_samples::scores::Scores;
 use trio_samples::scores::fill_scores;
 
-// The seven numbers before the counts, and zeros.
-fn first_numbers(p: Part) -> [u64; 39]
-    ensures { λ r. ⌜ r ≡ firstNumbers p ++ replicate 32 0 ⌝ }
+// The seven numbers before the counts, the rule behind the weights, and zeros between.
+fn single_numbers(p: Part) -> [u64; 40]
+    ensures { λ r. ⌜ r ≡ firstNumbers p ++ (replicate 32 0 ++ (p .rule ∷ [])) ⌝ }
 {
     let held = p.held;
     let first = held.first;
     let second = held.second;
-    let mut numbers = [0u64; 39];
+    let mut numbers = [0u64; 40];
     numbers[0] = p.clusters;
     numbers[1] = p.marks;
     numbers[2] = held.count;
@@ -35,10 +35,11 @@ fn first_numbers(p: Part) -> [u64; 39]
     numbers[4] = second.position;
     numbers[5] = bits(first.score);
     numbers[6] = bits(second.score);
+    numbers[39] = p.rule;
     numbers
 }
 
-fn put_counts(numbers: &mut [u64; 39], counts: [u32; 24])
+fn put_counts(numbers: &mut [u64; 40], counts: [u32; 24])
     ensures { λ _. ⌜ now (numbers .exit) ≡ sets (now (numbers .entry)) 7 counts ⌝ }
 {
     let mut i: usize = 0;
@@ -48,7 +49,7 @@ fn put_counts(numbers: &mut [u64; 39], counts: [u32; 24])
     }
 }
 
-fn put_weights(numbers: &mut [u64; 39], weights: [f64; 8])
+fn put_weights(numbers: &mut [u64; 40], weights: [f64; 8])
     ensures { λ _. ⌜ now (numbers .exit) ≡ sets (now (numbers .entry)) 31 (map (toBits binary64) weights) ⌝ }
 {
     let mut i: usize = 0;
@@ -59,12 +60,12 @@ fn put_weights(numbers: &mut [u64; 39], weights: [f64; 8])
 }
 
 // The numbers of a part.
-pub fn numbers_of(p: Part) -> [u64; 39]
+pub fn numbers_of(p: Part) -> [u64; 40]
     ensures { λ r. ⌜ r ≡ partNumbers p ⌝ }
 {
     let counts = p.counts;
     let weights = p.weights;
-    let mut numbers = first_numbers(p);
+    let mut numbers = single_numbers(p);
     put_counts(&mut numbers, counts);
     put_weights(&mut numbers, weights);
     numbers
@@ -75,17 +76,17 @@ pub fn numbers_of(p: Part) -> [u64; 39]
 pub fn put_part(numbers: &mut [u64], at: usize, p: Part)
     ensures { λ _. ⌜ now (numbers .exit) ≡ partPut (now (numbers .entry)) at p ⌝ }
 {
-    if numbers.len() < 147 {
+    if numbers.len() < 148 {
         return;
     }
-    if numbers.len() - 147 < at {
+    if numbers.len() - 148 < at {
         return;
     }
     let scores = p.scores;
     let row = numbers_of(p);
     let lists = score_numbers(scores);
     put_numbers(numbers, at, &row);
-    put_numbers(numbers, at + 39, &lists);
+    put_numbers(numbers, at + 40, &lists);
 }
 
 fn as_count(n: u64) -> u32
@@ -130,7 +131,7 @@ fn entry_at(numbers: &[u64], at: usize, position: usize, score: usize) -> Entry
     }
 }
 
-// The part of 39 numbers, with lists that are given.
+// The part of 40 numbers, with lists that are given.
 fn part_with(numbers: &[u64], at: usize, scores: Scores) -> Part
     ensures { λ r. ⌜ r ≡ partWith (drop at (now (numbers .entry))) scores ⌝ }
 {
@@ -143,20 +144,21 @@ fn part_with(numbers: &[u64], at: usize, scores: Scores) -> Part
         clusters: number_at(numbers, at, 0),
         counts: counts_at(numbers, at),
         weights: weights_at(numbers, at),
+        rule: number_at(numbers, at, 39),
         scores,
         marks: number_at(numbers, at, 1),
         held,
     }
 }
 
-// The part of the 147 numbers from a place on; a number that is not there counts as 0.
+// The part of the 148 numbers from a place on; a number that is not there counts as 0.
 pub fn part_at(numbers: &[u64], at: usize) -> Part
     ensures { λ r. ⌜ r ≡ numbersPart (drop at (now (numbers .entry))) ⌝ }
 {
     part_with(numbers, at, scores_at(numbers, at))
 }
 
-// The part of the 39 numbers from a place on, with the lists worked out from them.
+// The part of the 40 numbers from a place on, with the lists worked out from them.
 pub fn line_part(numbers: &[u64], at: usize) -> Part
     ensures { λ r. ⌜ r ≡ linePart (drop at (now (numbers .entry))) ⌝ }
 {

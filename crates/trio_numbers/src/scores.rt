@@ -37,7 +37,7 @@ pub fn score_numbers(scores: Scores) -> [u64; 108]
 }
 
 fn list_at(numbers: &[u64], at: usize, from: usize) -> [f64; 36]
-    requires { ⌜ from ≤ 111 ⌝ }
+    requires { ⌜ from ≤ 112 ⌝ }
     ensures { λ r. ⌜ r ≡ numbersFloats (drop at (now (numbers .entry))) from 36 ⌝ }
 {
     let mut list = [0.0f64; 36];
@@ -49,13 +49,13 @@ fn list_at(numbers: &[u64], at: usize, from: usize) -> [f64; 36]
     list
 }
 
-// The three lists behind the 39 numbers of a part that stand from a place on.
+// The three lists behind the 40 numbers of a part that stand from a place on.
 pub(crate) fn scores_at(numbers: &[u64], at: usize) -> Scores
     ensures { λ r. ⌜ r ≡ numbersScores (drop at (now (numbers .entry))) ⌝ }
 {
     Scores {
-        child: list_at(numbers, at, 39),
-        father: list_at(numbers, at, 75),
-        mother: list_at(numbers, at, 111),
+        child: list_at(numbers, at, 40),
+        father: list_at(numbers, at, 76),
+        mother: list_at(numbers, at, 112),
     }
 }

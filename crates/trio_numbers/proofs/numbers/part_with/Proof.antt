@@ -24,15 +24,20 @@ weights-at-requires c κs = search needs
 number-at-requires-3 : tie.Need-number-at-requires-3
 number-at-requires-3 c κs = search needs
 
+number-at-requires-4 : tie.Need-number-at-requires-4
+number-at-requires-4 c κs = search needs
+
 returns : tie.Need-returns
 returns c =
-    let weighed = c .before in
+    let ruled = c .before in
+    let weighed = ruled .before in
     let counted = weighed .before in
     let numbered = counted .before in
     let second = numbered .before in
     let first = second .before in
     rw (
-      c .number-at3 .ensures,
+      c .number-at4 .ensures,
+      ruled .number-at3 .ensures,
       weighed .weights-at .ensures,
       counted .counts-at .ensures,
       numbered .number-at2 .ensures,
@@ -52,4 +57,5 @@ part-with-spec =
     counts-at-requires
     weights-at-requires
     number-at-requires-3
+    number-at-requires-4
     returns)

@@ -2,7 +2,7 @@
 use mathlib.Core.Path.{_≡_}
 use lib.ListN.{length}
 use native.Mathlib.Omega.{arith}
-use Rattle.trio_numbers.proofs.NumbersLaws.{numbers-39, put-none, put-both}
+use Rattle.trio_numbers.proofs.NumbersLaws.{numbers-40, put-none, put-both}
 use borrow.Author.Needs.{needs}
 use Rattle.trio_numbers.proofs.numbers.put_part.Statement.{statement}
 use Rattle.trio_numbers.proofs.numbers.put_part.Tie as tie
@@ -56,7 +56,7 @@ returns-3 c =
     let s = row .before .before .before .before .before in
     let a = s .args in
     rw (put₂ .put-numbers2 .ensures, put₁ .put-numbers .ensures, lists .score-numbers .ensures, row .numbers-of .ensures)
-    (put-both (a .numbers .now) (a .at) (a .p) (omega arith) (numbers-39 (a .p) (long s .0) (long s .1)))
+    (put-both (a .numbers .now) (a .at) (a .p) (omega arith) (numbers-40 (a .p) (long s .0) (long s .1)))
 
 pub put-part-spec : {M : Type 1} → statement M
 put-part-spec =

@@ -1,7 +1,7 @@
--- `trio_numbers::numbers::first_numbers` meets its contract: seven stores into zeros. Assumes nothing.
+-- `trio_numbers::numbers::single_numbers` meets its contract: eight stores into zeros. Assumes nothing.
 use borrow.Author.Needs.{needs}
-use Rattle.trio_numbers.proofs.numbers.first_numbers.Statement.{statement}
-use Rattle.trio_numbers.proofs.numbers.first_numbers.Tie as tie
+use Rattle.trio_numbers.proofs.numbers.single_numbers.Statement.{statement}
+use Rattle.trio_numbers.proofs.numbers.single_numbers.Tie as tie
 
 array-write-numbers : tie.Need-array-write-numbers
 array-write-numbers c = search needs
@@ -30,11 +30,14 @@ bits-requires-2 c κs = search needs
 array-write-numbers-7 : tie.Need-array-write-numbers-7
 array-write-numbers-7 c = search needs
 
+array-write-numbers-8 : tie.Need-array-write-numbers-8
+array-write-numbers-8 c = search needs
+
 returns : tie.Need-returns
 returns c = rw (c .bits2 .ensures, c .before .bits .ensures)
 
-pub first-numbers-spec : {M : Type 1} → statement M
-first-numbers-spec =
+pub single-numbers-spec : {M : Type 1} → statement M
+single-numbers-spec =
     tie.close
     (tie.spec
     array-write-numbers
@@ -46,4 +49,5 @@ first-numbers-spec =
     array-write-numbers-6
     bits-requires-2
     array-write-numbers-7
+    array-write-numbers-8
     returns)
