@@ -4,24 +4,26 @@ use Prim.Native.Nat.{ℕ, _+_, _*_}
 use mathlib.Core.Bool.{Bool, true, false, cond, _&&_}
 use mathlib.Core.List.{List}
 use mathlib.Core.Logic.{_≢_, _↔_}
-use mathlib.Core.Path.{_≡_, refl, sym, ap, _∙_, subst}
+use mathlib.Core.Path.{_≡_, refl, sym, ap, ap₂, _∙_, subst}
 use mathlib.Mathlib.Data.Bool.Basic.{and-elim-left, and-elim-right, and-intro}
 use borrow.Author.Tests.{eqb-true, eqb-false, eq-eqb, ne-eqb}
 use lib.Dec.{eqb}
 use lib.ListN.{length}
-use Rattle.blocks.specs.Bytes.{wholeAt, zeroIn}
+use Rattle.blocks.specs.Bytes.{zeroIn}
 use Rattle.blocks.specs.Check.{checkRight}
 use Rattle.blocks.proofs.GetLaws.{at-byte}
 use Rattle.blocks.proofs.ZeroLaws.{zero-exactly}
 use Rattle.refusals.specs.declared.Refusal.{Refusal}
 use Rattle.refusals.specs.declared.Refusal.the-variants.{Done, NoCluster, TooMany, Shape, Count, Weight, Model, Table}
-use Rattle.refusals.specs.declared.Refusal.the-variants.{Row, OtherTrio, NotComplete, NoCall, BadPart, Block, Check, Layout}
+use Rattle.refusals.specs.declared.Refusal.the-variants.{Row, OtherTrio, NotComplete, NoCall, BadPart, Block, Check, Layout, Rule}
 use Rattle.trio_parts.specs.declared.part.Part.{Part}
 use Rattle.trio_parts.specs.declared.part.Stepped.{Stepped}
 use Rattle.trio_parts.specs.Part.{emptyPart, gives}
 use Rattle.trio_parts.specs.Sound.{soundPart}
-use Rattle.trio_blocks_form.specs.Reading.{clustersIn, heldIn, partIn, fixedRight, unusedRight, layoutRight, refuses, readOf}
-use Rattle.trio_blocks_form.specs.ReadWhen.{clusterByte, heldByte, RightLayout, WellSent, ReadWhen}
+use Rattle.trio_blocks_form.specs.Reading.{formIn, thirdIn, clustersIn, heldIn, partIn}
+use Rattle.trio_blocks_form.specs.Reading.{formRight, fixedRight, unusedRight, layoutRight, refuses, readOf}
+use Rattle.trio_blocks_form.specs.ReadWhen.{formByte, thirdByte, clusterByte, heldByte, RightLayout, WellSent, ReadWhen}
+use Rattle.trio_blocks_form.proofs.Forms.{form-exactly}
 
 module _ (b : List ℕ) where
   -- what `readOf` gives, of its four tests
@@ -30,6 +32,9 @@ module _ (b : List ℕ) where
       cond l (cond c (cond u (cond s (gives Done (partIn b)) (refuses BadPart)) (refuses Layout)) (refuses Check)) (refuses Block)
 
   -- ---- exactly when
+
+  form-are : formRight (formIn b) (thirdIn b) ≡ formRight (formByte b) (thirdByte b)
+  form-are = ap₂ formRight (at-byte 0 b) (at-byte 3 b)
 
   clusters-are : clustersIn b ≡ clusterByte b
   clusters-are = at-byte 1 b
@@ -42,7 +47,8 @@ module _ (b : List ℕ) where
   layout-means h =
       let fixed = and-elim-left (fixedRight b) (unusedRight b) h in
       let unused = rw (clusters-are, held-are) at (and-elim-right (fixedRight b) (unusedRight b) h) in
-      let zeros = and-elim-right (eqb (wholeAt 0 1 b) 1) (zeroIn 3 8 b && zeroIn 200 510 b) fixed in
+      let form = and-elim-left (formRight (formIn b) (thirdIn b)) (zeroIn 4 8 b && zeroIn 200 510 b) fixed in
+      let zeros = and-elim-right (formRight (formIn b) (thirdIn b)) (zeroIn 4 8 b && zeroIn 200 510 b) fixed in
       let counts = zeroIn (16 + 12 * clusterByte b) 112 b in
       let weights = zeroIn (112 + 8 * clusterByte b) 176 b in
       let positions = zeroIn (176 + 4 * heldByte b) 184 b in
@@ -50,9 +56,9 @@ module _ (b : List ℕ) where
       let behind-counts = and-elim-right counts (weights && (positions && scores)) unused in
       let entries = and-elim-right weights (positions && scores) behind-counts in
       record {
-        form = sym (at-byte 0 b) ∙ eqb-true (wholeAt 0 1 b) 1 (and-elim-left _ _ fixed);
-        behind-held = zero-exactly b 3 8 .0 (and-elim-left (zeroIn 3 8 b) (zeroIn 200 510 b) zeros);
-        behind-scores = zero-exactly b 200 510 .0 (and-elim-right (zeroIn 3 8 b) (zeroIn 200 510 b) zeros);
+        form = form-exactly (formByte b) (thirdByte b) .0 (sym form-are ∙ form);
+        behind-third = zero-exactly b 4 8 .0 (and-elim-left (zeroIn 4 8 b) (zeroIn 200 510 b) zeros);
+        behind-scores = zero-exactly b 200 510 .0 (and-elim-right (zeroIn 4 8 b) (zeroIn 200 510 b) zeros);
         counts-unused = zero-exactly b _ 112 .0 (and-elim-left counts (weights && (positions && scores)) unused);
         weights-unused = zero-exactly b _ 176 .0 (and-elim-left weights (positions && scores) behind-counts);
         positions-unused = zero-exactly b _ 184 .0 (and-elim-left positions scores entries);
@@ -62,15 +68,15 @@ module _ (b : List ℕ) where
   means-layout : RightLayout b → layoutRight b ≡ true
   unfolding fixedRight unusedRight
   means-layout r =
-      let form = eq-eqb (wholeAt 0 1 b) 1 (at-byte 0 b ∙ r .form) in
-      let five = zero-exactly b 3 8 .1 (r .behind-held) in
+      let form = form-are ∙ form-exactly (formByte b) (thirdByte b) .1 (r .form) in
+      let four = zero-exactly b 4 8 .1 (r .behind-third) in
       let rest = zero-exactly b 200 510 .1 (r .behind-scores) in
       let counts = zero-exactly b (16 + 12 * clusterByte b) 112 .1 (r .counts-unused) in
       let weights = zero-exactly b (112 + 8 * clusterByte b) 176 .1 (r .weights-unused) in
       let positions = zero-exactly b (176 + 4 * heldByte b) 184 .1 (r .positions-unused) in
       let scores = zero-exactly b (184 + 8 * heldByte b) 200 .1 (r .scores-unused) in
       rw (clusters-are, held-are)
-      (and-intro (and-intro form (and-intro five rest)) (and-intro counts (and-intro weights (and-intro positions scores))))
+      (and-intro (and-intro form (and-intro four rest)) (and-intro counts (and-intro weights (and-intro positions scores))))
 
   -- the layout is right exactly where every fixed byte and every byte of a place that is not in use is
   pub layout-exactly : (layoutRight b ≡ true) ↔ RightLayout b
@@ -106,6 +112,7 @@ module _ (b : List ℕ) where
   says-given OtherTrio w = absurd w
   says-given NotComplete w = absurd w
   says-given NoCall w = absurd w
+  says-given Rule w = absurd w
 
   -- for every refusal of the enum, Done among them
   pub reads-exactly : (r : Refusal) → (readOf b .refusal ≡ r) ↔ ReadWhen b r

@@ -42,4 +42,4 @@ unfolding writtenOf
 changed-block p c k is sound is-c near change =
     let written : writtenOf p .block ≡ blockOf p = rw sound in
     let inside : ChangedInside k (blockOf p) c = rw written at change in
-    changed-word (blockOf p) c k (block-bytes p is) is-c (block-checked p is) near inside
+    changed-word (blockOf p) c k (block-bytes 2 (p .rule) p is) is-c (block-checked 2 (p .rule) p is) near inside

@@ -24,7 +24,7 @@ use Rattle.trio_search.proofs.MarksLaws.{unmarked-above}
 use Rattle.trio_parts.specs.declared.part.Part.{Part}
 use Rattle.trio_parts.specs.Part.{rowCount}
 use Rattle.trio_parts.specs.Typed.{TypedPart}
-use Rattle.trio_blocks_form.specs.Writing.{bitsOf, headOf, tailOf, layoutOf}
+use Rattle.trio_blocks_form.specs.Writing.{bitsOf, headWith, tailOf, behindHead, layoutWith}
 use Rattle.trio_blocks_form.proofs.Shape.{RightShape, held-at-most}
 
 bits-small : (l : List Float) → T (allFit l) → (i : ℕ) → getD (bitsOf l) i 0 < 256 ^ 8
@@ -64,9 +64,9 @@ module _ (rows marks : ℕ) (few : rows ≤ 36) (below : marks < 2 ^ rows) where
 
 -- ---- all of them
 
-pub layout-holds : (p : Part) → TypedPart p → RightShape p → Each Holds (layoutOf p)
-unfolding layoutOf
-layout-holds p is right =
+pub layout-holds : (form third : ℕ) (p : Part) → form < 256 → third < 256 → TypedPart p → RightShape p → Each Holds (layoutWith form third p)
+unfolding layoutWith
+layout-holds form third p small-form small-third is right =
     let rows = genotypes-few (p .clusters) (right .few) in
     let clusters : p .clusters < 256 = omega (arith, right .few) in
     let held : p .held .count < 256 = omega (arith, right .held, held-at-most (rowCount p) (p .marks)) in
@@ -77,7 +77,7 @@ layout-holds p is right =
     let second = toBits-lt binary64 (p .held .second .score) (is .second-f64) in
     let counts = fieldsOf 4 (p .counts) in
     let weights = fieldsOf 8 (bitsOf (p .weights)) in
-    each-append Holds (headOf p) (counts ++ (weights ++ tailOf p)) (lit< tt, (clusters, (held, (lit< tt, (marks, tt)))))
+    each-append Holds (headWith form third p) (behindHead p) (small-form, (clusters, (held, (small-third, (lit< tt, (marks, tt))))))
     (each-append Holds counts (weights ++ tailOf p) (each-holds 4 (p .counts) (is .counts-u32))
     (each-append Holds weights (tailOf p) (each-holds 8 (bitsOf (p .weights)) (bits-small (p .weights) (is .weights .f64s)))
     (positions .0, (positions .1, (first, (second, (lit< tt, tt)))))))

@@ -20,15 +20,15 @@ use Rattle.trio_parts.specs.declared.part.Part.{Part}
 use Rattle.trio_parts.specs.Part.{weightAllowed}
 use Rattle.trio_parts.specs.Right.{noCount, noWeight, placesRight}
 use Rattle.trio_parts.specs.Typed.{TypedPart}
-use Rattle.trio_blocks_form.specs.Writing.{bitsOf, headOf, tailOf, layoutOf, bodyOf, blockOf}
+use Rattle.trio_blocks_form.specs.Writing.{bitsOf, headWith, tailOf, behindHead, layoutWith, bodyWith, blockWith}
 use Rattle.trio_blocks_form.specs.Reading.{clustersIn, heldIn, unusedRight}
 use Rattle.trio_blocks_form.proofs.Shape.{RightShape}
 
 -- ---- what stands in a block from a byte on
 
-module _ (p : Part) (is : TypedPart p) where
+module _ (form third : ℕ) (p : Part) (is : TypedPart p) where
   abbrev check : List ℕ
-  check = bytesOf 2 (checkOf (bodyOf p))
+  check = bytesOf 2 (checkOf (bodyWith form third p))
 
   abbrev counts : List ℕ
   counts = asBytes (fieldsOf 4 (p .counts))
@@ -46,32 +46,32 @@ module _ (p : Part) (is : TypedPart p) where
   many-weights =
       same-length 8 (bitsOf (p .weights)) ∙ ap (λ (n : ℕ). 8 * n) (length-map (p .weights) (toBits binary64) ∙ is .weights .places)
 
-  parts : bodyOf p ≡ asBytes (headOf p) ++ (counts ++ (weights ++ tail))
-  unfolding bodyOf layoutOf
+  parts : bodyWith form third p ≡ asBytes (headWith form third p) ++ (counts ++ (weights ++ tail))
+  unfolding bodyWith layoutWith
   parts =
       let b = fieldsOf 8 (bitsOf (p .weights)) in
       let a = fieldsOf 4 (p .counts) in
-      fields-append (headOf p) (a ++ (b ++ tailOf p))
-      ∙ ap (λ (l : List ℕ). asBytes (headOf p) ++ l)
+      fields-append (headWith form third p) (behindHead p)
+      ∙ ap (λ (l : List ℕ). asBytes (headWith form third p) ++ l)
       (fields-append a (b ++ tailOf p) ∙ ap (λ (l : List ℕ). counts ++ l) (fields-append b (tailOf p)))
 
-  pub long-body : length (bodyOf p) ≡ 510
+  pub long-body : length (bodyWith form third p) ≡ 510
   long-body =
       ap length parts ∙ rw (length-append counts (weights ++ tail), many-counts, length-append weights tail, many-weights)
 
-  from-16 : drop 16 (blockOf p) ≡ counts ++ (weights ++ (tail ++ check))
-  unfolding blockOf
+  from-16 : drop 16 (blockWith form third p) ≡ counts ++ (weights ++ (tail ++ check))
+  unfolding blockWith
   from-16 =
       ap (λ (l : List ℕ). drop 16 (l ++ check)) parts
       ∙ append-assoc counts (weights ++ tail) check
       ∙ ap (λ (l : List ℕ). counts ++ l) (append-assoc weights tail check)
 
-  from-112 : drop 112 (blockOf p) ≡ weights ++ (tail ++ check)
+  from-112 : drop 112 (blockWith form third p) ≡ weights ++ (tail ++ check)
   from-112 =
-      sym (drop-drop 96 16 (blockOf p)) ∙ ap (drop 96) from-16 ∙ drop-at counts (weights ++ (tail ++ check)) 96 many-counts
+      sym (drop-drop 96 16 (blockWith form third p)) ∙ ap (drop 96) from-16 ∙ drop-at counts (weights ++ (tail ++ check)) 96 many-counts
 
-  from-176 : drop 176 (blockOf p) ≡ tail ++ check
-  from-176 = sym (drop-drop 64 112 (blockOf p)) ∙ ap (drop 64) from-112 ∙ drop-at weights (tail ++ check) 64 many-weights
+  from-176 : drop 176 (blockWith form third p) ≡ tail ++ check
+  from-176 = sym (drop-drop 64 112 (blockWith form third p)) ∙ ap (drop 64) from-112 ∙ drop-at weights (tail ++ check) 64 many-weights
 
   abbrev positions : List ℕ
   positions = p .held .first .position ∷ p .held .second .position ∷ []
@@ -79,14 +79,14 @@ module _ (p : Part) (is : TypedPart p) where
   abbrev scores : List ℕ
   scores = toBits binary64 (p .held .first .score) ∷ toBits binary64 (p .held .second .score) ∷ []
 
-  from-184 : drop 184 (blockOf p) ≡ asBytes (fieldsOf 8 scores) ++ (bytesOf 310 0 ++ check)
-  from-184 = sym (drop-drop 8 176 (blockOf p)) ∙ ap (drop 8) from-176
+  from-184 : drop 184 (blockWith form third p) ≡ asBytes (fieldsOf 8 scores) ++ (bytesOf 310 0 ++ check)
+  from-184 = sym (drop-drop 8 176 (blockWith form third p)) ∙ ap (drop 8) from-176
 
-  from-200 : drop 200 (blockOf p) ≡ asBytes (fieldsOf 310 (0 ∷ [])) ++ check
-  from-200 = sym (drop-drop 16 184 (blockOf p)) ∙ ap (drop 16) from-184 ∙ ap (λ (l : List ℕ). l ++ check) (sym (append-nil (bytesOf 310 0)))
+  from-200 : drop 200 (blockWith form third p) ≡ asBytes (fieldsOf 310 (0 ∷ [])) ++ check
+  from-200 = sym (drop-drop 16 184 (blockWith form third p)) ∙ ap (drop 16) from-184 ∙ ap (λ (l : List ℕ). l ++ check) (sym (append-nil (bytesOf 310 0)))
 
-  pub last-zero : zeroIn 200 510 (blockOf p) ≡ true
-  last-zero = zero-part 200 310 0 310 (0 ∷ []) check (blockOf p) from-200 refl refl
+  pub last-zero : zeroIn 200 510 (blockWith form third p) ≡ true
+  last-zero = zero-part 200 310 0 310 (0 ∷ []) check (blockWith form third p) from-200 refl refl
 
 -- ---- the numbers of places that are not in use
 
@@ -120,9 +120,9 @@ held-zero f none (suc (suc n)) a b u = rw (drop-nil n)
 
 -- ---- their bytes
 
-module _ (p : Part) (is : TypedPart p) (right : RightShape p) where
+module _ (form third : ℕ) (p : Part) (is : TypedPart p) (right : RightShape p) where
   abbrev b : List ℕ
-  b = blockOf p
+  b = blockWith form third p
 
   abbrev n : ℕ
   n = p .clusters
@@ -134,7 +134,7 @@ module _ (p : Part) (is : TypedPart p) (right : RightShape p) where
   unused-counts =
       let zero = places-zero _ noCount (3 * n) (p .counts) (right .counts) in
       ap (λ (k : ℕ). zeroIn (16 + k) 112 b) (twelve n)
-      ∙ zero-part 16 4 (3 * n) 96 (p .counts) _ b (from-16 p is) (many-counts p is) zero
+      ∙ zero-part 16 4 (3 * n) 96 (p .counts) _ b (from-16 form third p is) (many-counts form third p is) zero
     where
       twelve : (n : ℕ) → 12 * n ≡ 4 * (3 * n)
       twelve n = omega arith
@@ -142,17 +142,17 @@ module _ (p : Part) (is : TypedPart p) (right : RightShape p) where
   unused-weights : zeroIn (112 + 8 * n) 176 b ≡ true
   unused-weights =
       let zero = zero-bits n (p .weights) (places-zero weightAllowed noWeight n (p .weights) (right .weights)) in
-      zero-part 112 8 n 64 (bitsOf (p .weights)) _ b (from-112 p is) (many-weights p is) zero
+      zero-part 112 8 n 64 (bitsOf (p .weights)) _ b (from-112 form third p is) (many-weights form third p is) zero
 
   unused-positions : zeroIn (176 + 4 * h) 184 b ≡ true
   unused-positions =
       let zero = held-zero (λ e. e .position) no-position h (p .held .first) (p .held .second) (right .unused) in
-      zero-part 176 4 h 8 (positions p is) _ b (from-176 p is) refl zero
+      zero-part 176 4 h 8 (positions form third p is) _ b (from-176 form third p is) refl zero
 
   unused-scores : zeroIn (184 + 8 * h) 200 b ≡ true
   unused-scores =
       let zero = held-zero (λ e. toBits binary64 (e .score)) no-score h (p .held .first) (p .held .second) (right .unused) in
-      zero-part 184 8 h 16 (scores p is) _ b (from-184 p is) refl zero
+      zero-part 184 8 h 16 (scores form third p is) _ b (from-184 form third p is) refl zero
 
   -- so the layout of the block is right, once its numbers of clusters and of triples are those of the part
   pub unused-zero : clustersIn b ≡ n → heldIn b ≡ h → unusedRight b ≡ true

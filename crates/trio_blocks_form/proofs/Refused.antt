@@ -1,14 +1,17 @@
--- When writing is refused, and what comes with it; zeros are no block; and numbers in a block that no sound part has. Assumes nothing.
+-- When writing is refused, and what comes with it; zeros are no block; forms that there are not; and numbers in a block that no sound part
+-- has. Assumes nothing.
 use Prim.Native.Nat.{ℕ, _<_}
-use mathlib.Core.Bool.{false}
+use mathlib.Core.Bool.{false, true≢false}
 use mathlib.Core.List.{List}
-use mathlib.Core.Logic.{_↔_}
-use mathlib.Core.Path.{_≡_, refl, ap}
+use mathlib.Core.Logic.{_↔_, _≢_, ⊎-elim}
+use mathlib.Core.Path.{_≡_, refl, sym, ap, _∙_}
 use native.Mathlib.Omega.{arith}
-use lib.ListN.{replicate}
+use borrow.Author.Tests.{eq-eqb}
+use lib.ListN.{length, replicate}
 use Rattle.blocks.specs.Check.{checkRight}
-use Rattle.refusals.specs.declared.Refusal.the-variants.{BadPart, Check}
+use Rattle.refusals.specs.declared.Refusal.the-variants.{BadPart, Check, Layout}
 use Rattle.refusals.specs.Refusals.{numberOf}
+use Rattle.trio_mendel.specs.Rules.{ruleAllowed}
 use Rattle.trio_parts.specs.declared.part.Part.{Part}
 use Rattle.trio_parts.specs.Part.{rowCount, emptyPart}
 use Rattle.trio_parts.specs.Right.{inputRight, rightPart}
@@ -17,8 +20,10 @@ use Rattle.trio_parts.proofs.RightLaws.{right-input, some-clusters}
 use Rattle.trio_parts.proofs.SoundLaws.{sound-right, wrong-unsound}
 use Rattle.trio_blocks_form.specs.declared.written.Written.{Written}
 use Rattle.trio_blocks_form.specs.Writing.{writtenOf}
-use Rattle.trio_blocks_form.specs.Reading.{clustersIn, heldIn, partIn, refuses, readOf}
+use Rattle.trio_blocks_form.specs.Reading.{clustersIn, heldIn, partIn, layoutRight, refuses, readOf}
+use Rattle.trio_blocks_form.specs.ReadWhen.{formByte, thirdByte, RightForm, WellSent}
 use Rattle.trio_blocks_form.proofs.Shape.{right-shape, held-at-most}
+use Rattle.trio_blocks_form.proofs.Accepted.{layout-exactly}
 use Rattle.trio_blocks_form.proofs.Changed.{only-false}
 
 -- ---- writing
@@ -42,12 +47,36 @@ pub empty-written : writtenOf emptyPart ≡ record { refusal = BadPart; block = 
 unfolding rightPart inputRight
 empty-written = bad-written emptyPart (wrong-unsound emptyPart refl)
 
+-- T13: so of one whose rule there is not
+pub no-rule-written : (p : Part) → ruleAllowed (p .rule) ≡ false → writtenOf p ≡ record { refusal = BadPart; block = replicate 512 0 }
+no-rule-written p h =
+    bad-written p (only-false (soundPart p) (λ e. true≢false (sym (right-shape p (sound-right p e) .rule) ∙ h)))
+
 -- ---- reading
 
 -- B3, B7: 512 zeros are no block
 pub zeros-refused : readOf (replicate 512 0) ≡ refuses Check
 unfolding readOf checkRight
 zeros-refused = refl
+
+module _ (b : List ℕ) (sent : WellSent b) where
+  wrong-layout : (RightForm (formByte b) (thirdByte b) → ⊥) → readOf b ≡ refuses Layout
+  unfolding readOf
+  wrong-layout never =
+      let wrong = only-false (layoutRight b) (λ e. never (layout-exactly b .0 e .form)) in
+      rw (eq-eqb (length b) 512 (sent .all-there), sent .checks, wrong)
+
+  -- B12, R15: byte 0 is 1 or 2 in every block that is read
+  pub other-form : formByte b ≢ 1 → formByte b ≢ 2 → readOf b ≡ refuses Layout
+  other-form one two = wrong-layout (λ w. ⊎-elim (λ f. one (f .one)) (λ s. two (s .two)) w)
+
+  -- B12, R15: form 1 has zero in byte 3
+  pub form-1-third : formByte b ≡ 1 → thirdByte b ≢ 0 → readOf b ≡ refuses Layout
+  form-1-third one set = wrong-layout (λ w. ⊎-elim (λ f. set (f .no-rule)) (λ s. omega (arith, one, s .two)) w)
+
+  -- B12, R15: form 2 has 1 or 2 there
+  pub form-2-third : formByte b ≡ 2 → thirdByte b ≢ 1 → thirdByte b ≢ 2 → readOf b ≡ refuses Layout
+  form-2-third two no-1 no-2 = wrong-layout (λ w. ⊎-elim (λ f. omega (arith, two, f .one)) (λ s. ⊎-elim no-1 no-2 (s .a-rule)) w)
 
 module _ (b : List ℕ) where
   -- B5, R12: more than 8 clusters are no sound part, whatever else stands in the block

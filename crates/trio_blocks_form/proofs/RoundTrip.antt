@@ -23,9 +23,10 @@ use Rattle.trio_parts.specs.Part.{gives}
 use Rattle.trio_parts.specs.Sound.{soundPart}
 use Rattle.trio_parts.specs.Typed.{TypedPart}
 use Rattle.trio_parts.proofs.SoundLaws.{sound-right, sound-true}
-use Rattle.trio_blocks_form.specs.Writing.{bitsOf, headOf, tailOf, layoutOf, bodyOf, blockOf, writtenOf}
-use Rattle.trio_blocks_form.specs.Reading.{weightsIn, partIn, fixedRight, readOf}
+use Rattle.trio_blocks_form.specs.Writing.{bitsOf, headWith, tailOf, behindHead, layoutWith, bodyWith, withCheck, blockWith, blockOf, writtenOf}
+use Rattle.trio_blocks_form.specs.Reading.{formIn, thirdIn, ruleBy, weightsIn, partIn, formRight, fixedRight, readOf}
 use Rattle.trio_blocks_form.specs.declared.written.Written.{Written}
+use Rattle.trio_blocks_form.proofs.Forms.{form-exactly, form-small, second-form, second-rule}
 use Rattle.trio_blocks_form.proofs.Shape.{RightShape, right-shape}
 use Rattle.trio_blocks_form.proofs.Widths.{layoutAt, fields-at, widths-are}
 use Rattle.trio_blocks_form.proofs.Fitting.{layout-holds}
@@ -33,32 +34,32 @@ use Rattle.trio_blocks_form.proofs.Places.{long-body, last-zero, unused
 
 -- ---- the block of a part
 
-module _ (p : Part) (is : TypedPart p) where
-  body-510 : length (bodyOf p) ≡ 510
-  body-510 = long-body p is
+module _ (form third : ℕ) (p : Part) (is : TypedPart p) where
+  body-510 : length (bodyWith form third p) ≡ 510
+  body-510 = long-body form third p is
 
-  block-512 : length (blockOf p) ≡ 512
-  unfolding blockOf
-  block-512 = length-append (bodyOf p) (bytesOf 2 (checkOf (bodyOf p))) ∙ rw body-510
+  block-512 : length (blockWith form third p) ≡ 512
+  unfolding blockWith
+  block-512 = length-append (bodyWith form third p) (bytesOf 2 (checkOf (bodyWith form third p))) ∙ rw body-510
 
   -- it has 512 bytes
-  pub block-bytes : BlockBytes (blockOf p)
-  unfolding blockOf bodyOf
+  pub block-bytes : BlockBytes (blockWith form third p)
+  unfolding blockWith bodyWith
   block-bytes =
       record {
         long = block-512;
-        bytes = bytes-append (bodyOf p) (bytesOf 2 (checkOf (bodyOf p))) (bytes-fields (layoutOf p)) (bytes-of 2 (checkOf (bodyOf p)));
+        bytes = bytes-append (bodyWith form third p) (bytesOf 2 (checkOf (bodyWith form third p))) (bytes-fields (layoutWith form third p)) (bytes-of 2 (checkOf (bodyWith form third p)));
       }
 
   -- and its check is right
-  pub block-checked : checkRight (blockOf p) ≡ true
-  unfolding checkRight blockOf
+  pub block-checked : checkRight (blockWith form third p) ≡ true
+  unfolding checkRight blockWith
   block-checked =
-      let check = checkOf (bodyOf p) in
-      let behind : drop 510 (blockOf p) ≡ bytesOf 2 check = drop-at (bodyOf p) (bytesOf 2 check) 510 body-510 in
-      let before : take 510 (blockOf p) ≡ bodyOf p = take-at (bodyOf p) (bytesOf 2 check) 510 body-510 in
-      let small = mod-lt (65535 + totalOf (wordsOf (bodyOf p))) (lit< tt) in
-      eq-eqb (wholeAt 510 2 (blockOf p)) (checkOf (take 510 (blockOf p)))
+      let check = checkOf (bodyWith form third p) in
+      let behind : drop 510 (blockWith form third p) ≡ bytesOf 2 check = drop-at (bodyWith form third p) (bytesOf 2 check) 510 body-510 in
+      let before : take 510 (blockWith form third p) ≡ bodyWith form third p = take-at (bodyWith form third p) (bytesOf 2 check) 510 body-510 in
+      let small = mod-lt (65535 + totalOf (wordsOf (bodyWith form third p))) (lit< tt) in
+      eq-eqb (wholeAt 510 2 (blockWith form third p)) (checkOf (take 510 (blockWith form third p)))
       (ap (λ (l : List ℕ). wholeOf (take 2 l)) behind ∙ whole-bytes 2 check small ∙ ap checkOf (sym before))
 
 -- ---- its numbers are those of the part
@@ -70,43 +71,49 @@ same-values : (w : ℕ) (vs : List ℕ) → valuesOf (fieldsOf w vs) ≡ vs
 same-values w [] = refl
 same-values w (v ∷ vs) = ap (λ (l : List ℕ). v ∷ l) (same-values w vs)
 
-module _ (p : Part) (is : TypedPart p) (right : RightShape p) where
+module _ (form third : ℕ) (p : Part) (is : TypedPart p) (right : RightShape p) (said : formRight form third ≡ true) where
   abbrev b : List ℕ
-  b = blockOf p
+  b = blockWith form third p
 
   abbrev bits : List ℕ
   bits = bitsOf (p .weights)
 
   -- the fields that stand in the block are those that were written
-  fields-back : layoutAt b ≡ layoutOf p
-  unfolding blockOf bodyOf
+  fields-back : layoutAt b ≡ layoutWith form third p
+  unfolding blockWith bodyWith
   fields-back =
+      let small = form-small form third (form-exactly form third .0 said) in
       sym (fields-at b)
-      ∙ ap (λ (ws : List ℕ). fieldsIn ws b) (sym (widths-are p is))
-      ∙ read-written (layoutOf p) (bytesOf 2 (checkOf (bodyOf p))) (layout-holds p is right)
+      ∙ ap (λ (ws : List ℕ). fieldsIn ws b) (sym (widths-are form third p is))
+      ∙ read-written (layoutWith form third p) (bytesOf 2 (checkOf (bodyWith form third p)))
+      (layout-holds form third p (small .0) (small .1) is right)
 
-  -- their numbers: behind five of the head the counts, the weights, and five more
-  values-back : valuesOf (layoutAt b) ≡ valuesOf (headOf p) ++ (p .counts ++ (bits ++ valuesOf (tailOf p)))
-  unfolding layoutOf
+  -- their numbers: behind six of the head the counts, the weights, and five more
+  values-back : valuesOf (layoutAt b) ≡ valuesOf (headWith form third p) ++ (p .counts ++ (bits ++ valuesOf (tailOf p)))
+  unfolding layoutWith
   values-back =
       let value : Field → ℕ = λ f. f .value in
       let counts = fieldsOf 4 (p .counts) in
       let weights = fieldsOf 8 bits in
       ap valuesOf fields-back
-      ∙ map-append value (headOf p) (counts ++ (weights ++ tailOf p))
-      ∙ ap (λ (l : List ℕ). valuesOf (headOf p) ++ l)
+      ∙ map-append value (headWith form third p) (behindHead p)
+      ∙ ap (λ (l : List ℕ). valuesOf (headWith form third p) ++ l)
       (map-append value counts (weights ++ tailOf p)
       ∙ rw (same-values 4 (p .counts), map-append value weights (tailOf p), same-values 8 bits))
 
   long-bits : length bits ≡ 8
   long-bits = length-map (p .weights) (toBits binary64) ∙ is .weights .places
 
-  head-back : (k : ℕ) → getD (valuesOf (layoutAt b)) k 0 ≡ getD (valuesOf (headOf p) ++ (p .counts ++ (bits ++ valuesOf (tailOf p)))) k 0
+  head-back : (k : ℕ) → getD (valuesOf (layoutAt b)) k 0 ≡ getD (valuesOf (headWith form third p) ++ (p .counts ++ (bits ++ valuesOf (tailOf p)))) k 0
   head-back k = ap (λ (l : List ℕ). getD l k 0) values-back
 
-  form-back : wholeAt 0 1 b ≡ 1
+  form-back : formIn b ≡ form
   unfolding layoutAt
   form-back = head-back 0
+
+  third-back : thirdIn b ≡ third
+  unfolding layoutAt
+  third-back = head-back 3
 
   clusters-back : wholeAt 1 1 b ≡ p .clusters
   unfolding layoutAt
@@ -118,24 +125,24 @@ module _ (p : Part) (is : TypedPart p) (right : RightShape p) where
 
   marks-back : wholeAt 8 8 b ≡ p .marks
   unfolding layoutAt
-  marks-back = head-back 4
+  marks-back = head-back 5
 
   counts-back : wholesAt 16 4 24 b ≡ p .counts
   unfolding layoutAt wholesAt
-  counts-back = ap (λ (l : List ℕ). take 24 (drop 5 l)) values-back ∙ take-at (p .counts) (bits ++ valuesOf (tailOf p)) 24 (is .counts-24)
+  counts-back = ap (λ (l : List ℕ). take 24 (drop 6 l)) values-back ∙ take-at (p .counts) (bits ++ valuesOf (tailOf p)) 24 (is .counts-24)
 
-  behind-counts : drop 29 (valuesOf (layoutAt b)) ≡ bits ++ valuesOf (tailOf p)
-  behind-counts = ap (drop 29) values-back ∙ drop-at (p .counts) (bits ++ valuesOf (tailOf p)) 24 (is .counts-24)
+  behind-counts : drop 30 (valuesOf (layoutAt b)) ≡ bits ++ valuesOf (tailOf p)
+  behind-counts = ap (drop 30) values-back ∙ drop-at (p .counts) (bits ++ valuesOf (tailOf p)) 24 (is .counts-24)
 
   weights-back : wholesAt 112 8 8 b ≡ bits
   unfolding layoutAt wholesAt
   weights-back = ap (take 8) behind-counts ∙ take-at bits (valuesOf (tailOf p)) 8 long-bits
 
-  tail-back : drop 37 (valuesOf (layoutAt b)) ≡ valuesOf (tailOf p)
+  tail-back : drop 38 (valuesOf (layoutAt b)) ≡ valuesOf (tailOf p)
   unfolding layoutAt wholesAt
   tail-back = ap (drop 8) behind-counts ∙ drop-at bits (valuesOf (tailOf p)) 8 long-bits
 
-  entry-back : (k : ℕ) → getD (drop 37 (valuesOf (layoutAt b))) k 0 ≡ getD (valuesOf (tailOf p)) k 0
+  entry-back : (k : ℕ) → getD (drop 38 (valuesOf (layoutAt b))) k 0 ≡ getD (valuesOf (tailOf p)) k 0
   entry-back k = ap (λ (l : List ℕ). getD l k 0) tail-back
 
   first-position : wholeAt 176 4 b ≡ p .held .first .position
@@ -165,21 +172,26 @@ module _ (p : Part) (is : TypedPart p) (right : RightShape p) where
 
   -- ---- so it is read as the part
 
-  five-zero : zeroIn 3 8 b ≡ true
-  unfolding blockOf bodyOf layoutOf
-  five-zero = refl
+  four-zero : zeroIn 4 8 b ≡ true
+  unfolding blockWith bodyWith layoutWith
+  four-zero = refl
 
   fixed-back : fixedRight b ≡ true
   unfolding fixedRight
-  fixed-back = and-intro (eq-eqb (wholeAt 0 1 b) 1 form-back) (and-intro five-zero (last-zero p is))
+  fixed-back =
+      let head : formRight (formIn b) (thirdIn b) ≡ true = rw (form-back, third-back) said in
+      and-intro head (and-intro four-zero (last-zero form third p is))
 
-  part-back : soundPart p ≡ true → partIn b ≡ p
+  part-back : soundPart p ≡ true → ruleBy form third ≡ p .rule → partIn b ≡ p
   unfolding partIn
-  part-back sound =
+  part-back sound rule =
       rw (
         clusters-back,
         counts-back,
         floats-there,
+        form-back,
+        third-back,
+        rule,
         marks-back,
         held-back,
         first-position,
@@ -189,20 +201,28 @@ module _ (p : Part) (is : TypedPart p) (right : RightShape p) where
         sym (sound-true p is sound .lists),
       )
 
--- a sound part that the types allow comes back from its block
-pub block-read-back : (p : Part) → TypedPart p → soundPart p ≡ true → readOf (blockOf p) ≡ gives Done p
+-- a sound part that the types allow comes back from its block of any right form that has its rule
+pub read-back-with : (form third : ℕ) (p : Part) → TypedPart p → soundPart p ≡ true → formRight form third ≡ true
+    → ruleBy form third ≡ p .rule → readOf (blockWith form third p) ≡ gives Done p
 unfolding readOf
-block-read-back p is sound =
+read-back-with form third p is sound said rule =
     let right = right-shape p (sound-right p sound) in
-    let unused = unused-zero p is right (clusters-back p is right) (held-back p is right) in
+    let clusters = clusters-back form third p is right said in
+    let held = held-back form third p is right said in
     rw (
-      eq-eqb (length (blockOf p)) 512 (block-bytes p is .long),
-      block-checked p is,
-      fixed-back p is right,
-      unused,
-      part-back p is right sound,
+      eq-eqb (length (blockWith form third p)) 512 (block-bytes form third p is .long),
+      block-checked form third p is,
+      fixed-back form third p is right said,
+      unused-zero form third p is right clusters held,
+      part-back form third p is right said sound rule,
       sound,
     )
+
+-- so from the one that is written
+pub block-read-back : (p : Part) → TypedPart p → soundPart p ≡ true → readOf (blockOf p) ≡ gives Done p
+block-read-back p is sound =
+    let rule = right-shape p (sound-right p sound) .rule in
+    read-back-with 2 (p .rule) p is sound (second-form (p .rule) rule) (second-rule 2 (p .rule) refl)
 
 -- B8: so writing and then reading is Done both times, and gives the part
 pub round-trip : (p : Part) → TypedPart p → soundPart p ≡ true

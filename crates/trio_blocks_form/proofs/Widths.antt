@@ -9,10 +9,10 @@ use Rattle.blocks.specs.Bytes.{Field, field, wholeAt, wholesAt, fieldsOf, field
 use Rattle.blocks.proofs.FieldLaws.{in-append, same-widths, same-fields}
 use Rattle.trio_parts.specs.declared.part.Part.{Part}
 use Rattle.trio_parts.specs.Typed.{TypedPart}
-use Rattle.trio_blocks_form.specs.Writing.{bitsOf, headOf, tailOf, layoutOf}
+use Rattle.trio_blocks_form.specs.Writing.{bitsOf, headWith, tailOf, behindHead, layoutWith}
 
 abbrev headWidths : List ℕ
-headWidths = 1 ∷ 1 ∷ 1 ∷ 5 ∷ 8 ∷ []
+headWidths = 1 ∷ 1 ∷ 1 ∷ 1 ∷ 4 ∷ 8 ∷ []
 
 abbrev tailWidths : List ℕ
 tailWidths = 4 ∷ 4 ∷ 8 ∷ 8 ∷ 310 ∷ []
@@ -23,7 +23,9 @@ widths = headWidths ++ (replicate 24 4 ++ (replicate 8 8 ++ tailWidths))
 -- ---- the fields of these widths, where they stand
 
 abbrev headAt : List ℕ → List Field
-headAt b = field 1 (wholeAt 0 1 b) ∷ field 1 (wholeAt 1 1 b) ∷ field 1 (wholeAt 2 1 b) ∷ field 5 (wholeAt 3 5 b) ∷ field 8 (wholeAt 8 8 b) ∷ []
+headAt b =
+    field 1 (wholeAt 0 1 b) ∷ field 1 (wholeAt 1 1 b) ∷ field 1 (wholeAt 2 1 b) ∷ field 1 (wholeAt 3 1 b) ∷ field 4 (wholeAt 4 4 b)
+    ∷ field 8 (wholeAt 8 8 b) ∷ []
 
 abbrev tailAt : List ℕ → List Field
 tailAt b =
@@ -33,7 +35,7 @@ unfoldable pub layoutAt : List ℕ → List Field
 layoutAt b = headAt b ++ (fieldsOf 4 (wholesAt 16 4 24 b) ++ (fieldsOf 8 (wholesAt 112 8 8 b) ++ tailAt b))
 
 head-at : (b : List ℕ) → fieldsIn headWidths b ≡ headAt b
-head-at b = rw (drop-drop 1 1 b, drop-drop 1 2 b, drop-drop 5 3 b)
+head-at b = rw (drop-drop 1 1 b, drop-drop 1 2 b, drop-drop 1 3 b, drop-drop 4 4 b)
 
 tail-at : (b : List ℕ) → fieldsIn tailWidths (drop 176 b) ≡ tailAt b
 tail-at b = rw (drop-drop 4 176 b, drop-drop 4 180 b, drop-drop 8 184 b, drop-drop 8 192 b)
@@ -53,14 +55,14 @@ fields-at b =
 
 -- ---- of every part that the types allow
 
-pub widths-are : (p : Part) → TypedPart p → widthsOf (layoutOf p) ≡ widths
-unfolding widths layoutOf
-widths-are p is =
+pub widths-are : (form third : ℕ) (p : Part) → TypedPart p → widthsOf (layoutWith form third p) ≡ widths
+unfolding widths layoutWith
+widths-are form third p is =
     let width : Field → ℕ = λ f. f .width in
     let counts = fieldsOf 4 (p .counts) in
     let weights = fieldsOf 8 (bitsOf (p .weights)) in
     let eight : length (bitsOf (p .weights)) ≡ 8 = length-map (p .weights) (toBits binary64) ∙ is .weights .places in
-    map-append width (headOf p) (counts ++ (weights ++ tailOf p))
+    map-append width (headWith form third p) (behindHead p)
     ∙ ap (λ (l : List ℕ). headWidths ++ l)
     (map-append width counts (weights ++ tailOf p)
     ∙ ap₂ _++_ (same-widths 4 (p .counts) ∙ ap (λ (n : ℕ). replicate n 4) (is .counts-24))

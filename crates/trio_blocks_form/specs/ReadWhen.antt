@@ -1,22 +1,43 @@
--- When the layout of a block is right, and when each refusal of a reading is given. Definitions only (RULES.md, R12 to R15, O1, B5, B7).
+-- When the layout of a block is right, and when each refusal of a reading is given. Definitions only (RULES.md, R12 to R15, O1, B5, B7, B12).
 use Prim.Native.Nat.{ℕ, _+_, _*_, _≤_, _<_}
 use mathlib.Core.Bool.{true, false}
 use mathlib.Core.List.{List}
-use mathlib.Core.Logic.{_≢_}
+use mathlib.Core.Logic.{_≢_, _⊎_}
 use mathlib.Core.Path.{_≡_}
 use lib.ListN.{length, getD}
 use Rattle.blocks.specs.Check.{checkRight}
 use Rattle.refusals.specs.declared.Refusal.{Refusal}
 use Rattle.refusals.specs.declared.Refusal.the-variants.{Done, NoCluster, TooMany, Shape, Count, Weight, Model, Table}
-use Rattle.refusals.specs.declared.Refusal.the-variants.{Row, OtherTrio, NotComplete, NoCall, BadPart, Block, Check, Layout}
+use Rattle.refusals.specs.declared.Refusal.the-variants.{Row, OtherTrio, NotComplete, NoCall, BadPart, Block, Check, Layout, Rule}
 use Rattle.trio_parts.specs.Sound.{soundPart}
 use Rattle.trio_blocks_form.specs.Reading.{partIn, layoutRight}
+
+-- B12: form 1, with zero in byte 3
+pub record FirstForm (form third : ℕ) : Type 0 where
+  pub one : form ≡ 1
+  pub no-rule : third ≡ 0
+
+-- B12: form 2, with a rule in byte 3
+pub record SecondForm (form third : ℕ) : Type 0 where
+  pub two : form ≡ 2
+  pub a-rule : (third ≡ 1) ⊎ (third ≡ 2)
+
+-- B5, B12: what a right form and a right byte 3 are
+abbrev pub RightForm : ℕ → ℕ → Type 0
+RightForm form third = FirstForm form third ⊎ SecondForm form third
 
 -- B5: what a right layout is, byte by byte. That `layoutRight` tells just that: `layout-exactly` (trio_blocks_form/proofs/Accepted.antt)
 module _ (b : List ℕ) where
   -- B5: the bytes from `from` to before `to` are zero
   abbrev pub Zeros : ℕ → ℕ → Type 0
   Zeros from to = (i : ℕ) → from ≤ i → i < to → getD b i 0 ≡ 0
+
+  -- B1, B12: the form of the block, and byte 3
+  abbrev pub formByte : ℕ
+  formByte = getD b 0 0
+
+  abbrev pub thirdByte : ℕ
+  thirdByte = getD b 3 0
 
   -- B1: the cluster number, and how many triples are held
   abbrev pub clusterByte : ℕ
@@ -26,8 +47,8 @@ module _ (b : List ℕ) where
   heldByte = getD b 2 0
 
   pub record RightLayout : Type 0 where
-    pub form : getD b 0 0 ≡ 1
-    pub behind-held : Zeros 3 8
+    pub form : RightForm formByte thirdByte
+    pub behind-third : Zeros 4 8
     pub behind-scores : Zeros 200 510
     pub counts-unused : Zeros (16 + 12 * clusterByte) 112
     pub weights-unused : Zeros (112 + 8 * clusterByte) 176
@@ -59,3 +80,4 @@ module _ (b : List ℕ) where
   ReadWhen OtherTrio = ⊥
   ReadWhen NotComplete = ⊥
   ReadWhen NoCall = ⊥
+  ReadWhen Rule = ⊥

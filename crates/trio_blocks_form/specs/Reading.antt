@@ -1,4 +1,4 @@
--- The part of a block, or why it has none. Definitions only (RULES.md, B1, B5 to B7).
+-- The part of a block, or why it has none. Definitions only (RULES.md, B1, B5 to B7, B12).
 use Prim.Native.Nat.{ℕ, _+_, _*_}
 use mathlib.Core.Bool.{Bool, cond, _&&_}
 use mathlib.Core.List.{List, map}
@@ -10,6 +10,7 @@ use Rattle.blocks.specs.Check.{checkRight}
 use Rattle.refusals.specs.declared.Refusal.{Refusal}
 use Rattle.refusals.specs.declared.Refusal.the-variants.{Done, BadPart, Block, Check, Layout}
 use Rattle.trio_entries.specs.declared.entry.Entry.{Entry}
+use Rattle.trio_mendel.specs.Rules.{ruleAllowed}
 use Rattle.trio_samples.specs.Scores.{listsOf}
 use Rattle.trio_parts.specs.declared.part.Part.{Part}
 use Rattle.trio_parts.specs.declared.part.Stepped.{Stepped}
@@ -17,6 +18,17 @@ use Rattle.trio_parts.specs.Part.{emptyPart, gives}
 use Rattle.trio_parts.specs.Sound.{soundPart}
 
 -- ---- the part
+
+-- B1, B12: the form of the block, and its byte 3
+abbrev pub formIn : List ℕ → ℕ
+formIn b = wholeAt 0 1 b
+
+abbrev pub thirdIn : List ℕ → ℕ
+thirdIn b = wholeAt 3 1 b
+
+-- B12: a block of form 1 is of rule 1, any other of the rule in its byte 3
+unfoldable pub ruleBy : ℕ → ℕ → ℕ
+ruleBy form third = cond (eqb form 1) 1 third
 
 -- B1: the cluster number, and how many triples are held
 abbrev pub clustersIn : List ℕ → ℕ
@@ -44,6 +56,7 @@ partIn b =
       clusters = clustersIn b;
       counts = countsIn b;
       weights = weightsIn b;
+      rule = ruleBy (formIn b) (thirdIn b);
       scores = listsOf (clustersIn b) (countsIn b) (weightsIn b);
       marks = wholeAt 8 8 b;
       held = record { count = heldIn b; first = entryIn 176 184 b; second = entryIn 180 192 b };
@@ -51,9 +64,13 @@ partIn b =
 
 -- ---- its layout
 
--- B5: byte 0 is 1, bytes 3 to 7 are zero, and so are bytes 200 to 509
+-- B5, B12: byte 3 is zero in form 1, and a rule in form 2; there is no other form
+unfoldable pub formRight : ℕ → ℕ → Bool
+formRight form third = cond (eqb form 1) (eqb third 0) (eqb form 2 && ruleAllowed third)
+
+-- B5: the form and byte 3 are right, bytes 4 to 7 are zero, and so are bytes 200 to 509
 unfoldable pub fixedRight : List ℕ → Bool
-fixedRight b = eqb (wholeAt 0 1 b) 1 && (zeroIn 3 8 b && zeroIn 200 510 b)
+fixedRight b = formRight (formIn b) (thirdIn b) && (zeroIn 4 8 b && zeroIn 200 510 b)
 
 -- B5: of n clusters 3·n counts and n weights are in use, of h held triples h positions and h scores; the places behind these are zero, up
 -- to the end of the counts, of the weights, of the positions and of the scores. More than 8 clusters leave none of the first two, more

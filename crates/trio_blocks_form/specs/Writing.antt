@@ -1,4 +1,4 @@
--- The block of a part. Definitions only (RULES.md, B1 to B4).
+-- The block of a part. Definitions only (RULES.md, B1 to B4, B12).
 use Prim.Native.Nat.{ℕ}
 use mathlib.Core.Bool.{cond}
 use mathlib.Core.List.{List, [], _∷_, _++_, map}
@@ -15,9 +15,10 @@ use Rattle.trio_blocks_form.specs.declared.written.Written.{Written}
 abbrev pub bitsOf : List Float → List ℕ
 bitsOf l = map (toBits binary64) l
 
--- B1: the form of the block, the cluster number, how many triples are held, five zero bytes, and the marks: bytes 0 to 15
-abbrev pub headOf : Part → List Field
-headOf p = field 1 1 ∷ field 1 (p .clusters) ∷ field 1 (p .held .count) ∷ field 5 0 ∷ field 8 (p .marks) ∷ []
+-- B1, B12: the form of the block, the cluster number, how many triples are held, byte 3, four zero bytes, and the marks: bytes 0 to 15
+abbrev pub headWith : ℕ → ℕ → Part → List Field
+headWith form third p =
+    field 1 form ∷ field 1 (p .clusters) ∷ field 1 (p .held .count) ∷ field 1 third ∷ field 4 0 ∷ field 8 (p .marks) ∷ []
 
 -- B1: the two positions, then the two scores: bytes 176 to 199; and zeros to byte 509
 abbrev pub tailOf : Part → List Field
@@ -29,17 +30,29 @@ tailOf p =
     ∷ field 310 0
     ∷ []
 
--- B1: all that stands before the check; between head and tail the 24 counts, bytes 16 to 111, and the eight weights, bytes 112 to 175
-unfoldable pub layoutOf : Part → List Field
-layoutOf p = headOf p ++ (fieldsOf 4 (p .counts) ++ (fieldsOf 8 (bitsOf (p .weights)) ++ tailOf p))
+-- B1: between head and tail the 24 counts, bytes 16 to 111, and the eight weights, bytes 112 to 175
+abbrev pub behindHead : Part → List Field
+behindHead p = fieldsOf 4 (p .counts) ++ (fieldsOf 8 (bitsOf (p .weights)) ++ tailOf p)
+
+-- B1: all that stands before the check
+unfoldable pub layoutWith : ℕ → ℕ → Part → List Field
+layoutWith form third p = headWith form third p ++ behindHead p
 
 -- B1, B2: the same as bytes
-unfoldable pub bodyOf : Part → List ℕ
-bodyOf p = asBytes (layoutOf p)
+unfoldable pub bodyWith : ℕ → ℕ → Part → List ℕ
+bodyWith form third p = asBytes (layoutWith form third p)
 
--- B1, B3: and behind it the check of it, in two bytes
-unfoldable pub blockOf : Part → List ℕ
-blockOf p = bodyOf p ++ bytesOf 2 (checkOf (bodyOf p))
+-- B1, B3: bytes, and behind them their check, in two bytes
+abbrev pub withCheck : List ℕ → List ℕ
+withCheck body = body ++ bytesOf 2 (checkOf body)
+
+-- B1, B3: the block of this form, with this byte 3
+unfoldable pub blockWith : ℕ → ℕ → Part → List ℕ
+blockWith form third p = withCheck (bodyWith form third p)
+
+-- B1, B12: the block of a part is of form 2, with the rule in byte 3
+abbrev pub blockOf : Part → List ℕ
+blockOf p = blockWith 2 (p .rule) p
 
 -- B4: what writing gives: the block of a sound part; of any other part 12 and zeros
 unfoldable pub writtenOf : Part → Written
