@@ -11,6 +11,8 @@ pub const TAB: u8 = b'\t';
 // The names of the kinds, as `packed` has them: their bytes in ASCII.
 const TRIO: u64 = 0x7472696f;
 
+const TRIO2: u64 = 0x7472696f32;
+
 const DIPLOID: u64 = 0x6469706c6f6964;
 
 const MOSAIC: u64 = 0x6d6f73616963;
@@ -30,7 +32,8 @@ pub fn answer(line: &[u8], text: &mut [u8], at: usize) -> End {
         return End::Unreadable;
     }
     match kind {
-        TRIO => trio(line, site, text, at),
+        TRIO => trio(line, site, text, at, 1),
+        TRIO2 => trio(line, site, text, at, 2),
         DIPLOID => diploid(line, site, text, at),
         MOSAIC => mosaic(line, site, text, at),
         _ => End::Unreadable,

@@ -1,4 +1,4 @@
-// A trio: `trio SITE N`, then 3·N counts and N weights.
+// A trio: `trio SITE N`, then 3·N counts and N weights; under rule 2 `trio2`.
 ghost use Prim.Native.Nat.{_≤_};
 use crate::answers;
 use crate::numbers::Many;
@@ -120,15 +120,23 @@ fn closed(line: &[u8], site: usize, text: &mut [u8], at: usize, n: u64, c: Close
 }
 
 // The refusal of a cluster number that is not allowed, or of the wrong number of counts and weights.
-fn refused(line: &[u8], site: usize, text: &mut [u8], at: usize, n: u64) -> usize {
+fn refused(line: &[u8], site: usize, text: &mut [u8], at: usize, n: u64, rule: u64) -> usize {
     let counts = [0u32; 1];
     let weights = [0.0f64; 1];
-    let c = call(n, &counts[..0], &weights[..0]);
+    let c = call(n, &counts[..0], &weights[..0], rule);
     closed(line, site, text, at, n, c)
 }
 
 // The answer to n clusters whose numbers, as many as they must be, start at a place of the line.
-fn counted(line: &[u8], site: usize, start: usize, text: &mut [u8], at: usize, n: u64) -> End
+fn counted(
+    line: &[u8],
+    site: usize,
+    start: usize,
+    text: &mut [u8],
+    at: usize,
+    n: u64,
+    rule: u64,
+) -> End
     requires { ⌜ n ≤ 8 ⌝ }
 {
     let mut counts = [0u32; 24];
@@ -141,11 +149,12 @@ fn counted(line: &[u8], site: usize, start: usize, text: &mut [u8], at: usize, n
     let Read::To(_) = read_weights(line, to_weights, clusters, &mut weights) else {
         return End::Unreadable;
     };
-    let c = call(n, &counts[..places], &weights[..clusters]);
+    let c = call(n, &counts[..places], &weights[..clusters], rule);
     End::At(closed(line, site, text, at, n, c))
 }
 
-pub fn trio(line: &[u8], site: usize, text: &mut [u8], at: usize) -> End {
+// The answer to a line under a rule.
+pub fn trio(line: &[u8], site: usize, text: &mut [u8], at: usize, rule: u64) -> End {
     let first = next_field(line, site, TAB);
     let Whole::Is(n) = short_whole(field(line, first, TAB)) else {
         return End::Unreadable;
@@ -155,10 +164,10 @@ pub fn trio(line: &[u8], site: usize, text: &mut [u8], at: usize) -> End {
         return End::Unreadable;
     };
     if n > 8 {
-        return End::At(refused(line, site, text, at, n));
+        return End::At(refused(line, site, text, at, n, rule));
     }
     if many as u64 != 4 * n {
-        return End::At(refused(line, site, text, at, n));
+        return End::At(refused(line, site, text, at, n, rule));
     }
-    counted(line, site, start, text, at, n)
+    counted(line, site, start, text, at, n, rule)
 }

@@ -87,7 +87,7 @@ pub(crate) fn hand_out(
     refusals::number(refusal)
 }
 
-// Each cluster has three counts, of child, father and mother. What is returned and written is said at `hand_out`.
+// Each cluster has three counts, of child, father and mother. The rule is 1, as in kanpig. What is returned and written is said at `hand_out`.
 #[no_mangle]
 pub extern "C" fn admulfas_trio(
     clusters: u64,
@@ -102,11 +102,45 @@ pub extern "C" fn admulfas_trio(
     quality: &mut u32,
     read: &mut [u32; 6],
 ) -> u32
-    ensures { λ r. ⌜ IsCall (callOf «clusters» (now (counts .entry)) (now (weights .entry)))
+    ensures { λ r. ⌜ IsCall (callOf «clusters» (now (counts .entry)) (now (weights .entry)) 1)
         r (now (pairs .exit)) (now (score .exit)) (now (ground .exit)) (now (runner .exit)) (now (position .exit)) (now (second .exit))
         (now (quality .exit)) (now (read .exit)) ⌝ }
 {
-    let answer = trio_desks::call::call(clusters, counts, weights);
+    let answer = trio_desks::call::call(clusters, counts, weights, 1);
+    hand_out(
+        answer,
+        pairs,
+        score,
+        ground,
+        runner,
+        position,
+        second,
+        quality,
+        read,
+    )
+}
+
+// The same under a rule.
+#[no_mangle]
+pub extern "C" fn admulfas_trio_by(
+    clusters: u64,
+    counts: &[u32],
+    weights: &[f64],
+    rule: u64,
+    pairs: &mut [u64; 6],
+    score: &mut f64,
+    ground: &mut u32,
+    runner: &mut u32,
+    position: &mut u64,
+    second: &mut f64,
+    quality: &mut u32,
+    read: &mut [u32; 6],
+) -> u32
+    ensures { λ r. ⌜ IsCall (callOf «clusters» (now (counts .entry)) (now (weights .entry)) rule)
+        r (now (pairs .exit)) (now (score .exit)) (now (ground .exit)) (now (runner .exit)) (now (position .exit)) (now (second .exit))
+        (now (quality .exit)) (now (read .exit)) ⌝ }
+{
+    let answer = trio_desks::call::call(clusters, counts, weights, rule);
     hand_out(
         answer,
         pairs,

@@ -9,7 +9,7 @@ ghost use Rattle.trio_c.specs.Steps.{IsStep};
 use crate::hand_out;
 use trio_parts::part::Part;
 
-// Opens a trio.
+// Opens a trio under rule 1, as in kanpig.
 #[no_mangle]
 pub extern "C" fn admulfas_open(
     clusters: u64,
@@ -17,9 +17,26 @@ pub extern "C" fn admulfas_open(
     weights: &[f64],
     refusal: &mut u32,
 ) -> Part
-    ensures { λ r. ⌜ IsStep (openStep «clusters» (now (counts .entry)) (now (weights .entry))) (now (refusal .exit)) r ⌝ }
+    ensures { λ r. ⌜ IsStep (openStep «clusters» (now (counts .entry)) (now (weights .entry)) 1) (now (refusal .exit)) r ⌝ }
 {
-    let opened = trio_opening::opening::open_part(clusters, counts, weights);
+    let opened = trio_opening::opening::open_part(clusters, counts, weights, 1);
+    let given = opened.refusal;
+    *refusal = refusals::number(given);
+    opened.part
+}
+
+// Opens a trio under a rule.
+#[no_mangle]
+pub extern "C" fn admulfas_open_by(
+    clusters: u64,
+    counts: &[u32],
+    weights: &[f64],
+    rule: u64,
+    refusal: &mut u32,
+) -> Part
+    ensures { λ r. ⌜ IsStep (openStep «clusters» (now (counts .entry)) (now (weights .entry)) rule) (now (refusal .exit)) r ⌝ }
+{
+    let opened = trio_opening::opening::open_part(clusters, counts, weights, rule);
     let given = opened.refusal;
     *refusal = refusals::number(given);
     opened.part

@@ -71,6 +71,14 @@ const WRITE: u64 = 0x7772697465;
 
 const READ: u64 = 0x72656164;
 
+const OPENBY: u64 = 0x6f70656e6279;
+
+const CALLBY: u64 = 0x63616c6c6279;
+
+const MENDELBY: u64 = 0x6d656e64656c6279;
+
+const RULE: u64 = 0x72756c65;
+
 // The words of a question, a hexadecimal digit for each: 4 and 8 a whole number of so many bytes, f a float, 9 a register, c a cluster,
 // 2 a mode or a sample, 5 a place of a sample's list, 1 a flag; 3 three floats, d a part; a a list of u32 and b one of floats, at most one
 // each, a first; 7 bytes, where the list of u32 would be. 0 is no kind.
@@ -88,9 +96,12 @@ fn digits(name: u64) -> u64 {
         PART => 0x9d00_0000,
         FORGE => 0x925f_0000,
         COPY | MERGE => 0x9900_0000,
-        ROW => 0x9400_0000,
+        ROW | RULE => 0x9400_0000,
         CLOSE | SHOW | SCORES | WRITE => 0x9000_0000,
         READ => 0x9700_0000,
+        OPENBY => 0x944a_b000,
+        CALLBY => 0x44ab_0000,
+        MENDELBY => 0x4ccc_ccc0,
         _ => 0,
     }
 }
@@ -127,6 +138,8 @@ fn of_lists(name: u64, words: &mut Words, us: &[u32], fs: &[f64]) -> Answer {
         DIPLOID => animal_cases::diploid(words, fs),
         SAMPLE => trio_cases::sample(words, us, fs),
         OPEN => trio_cases::open(words, us, fs),
+        OPENBY => trio_cases::open_by(words, us, fs),
+        CALLBY => trio_cases::called_by(words, us, fs),
         _ => trio_cases::called(words, us, fs),
     }
 }
@@ -144,6 +157,8 @@ fn listed(name: u64, words: &mut Words) -> Answer {
 fn as_numbers(name: u64, words: &mut Words) -> Answer {
     match name {
         MENDEL => trio_cases::mendel(words),
+        MENDELBY => trio_cases::mendel_by(words),
+        RULE => trio_cases::ruled(words),
         PART => trio_cases::part(words),
         FORGE => trio_cases::forged(words),
         COPY => trio_cases::copied(words),
@@ -152,7 +167,7 @@ fn as_numbers(name: u64, words: &mut Words) -> Answer {
         CLOSE => trio_cases::closing(words),
         QUALITY => trio_cases::quality(words),
         READ => block_cases::read(words),
-        DIPLOID | SAMPLE | OPEN | CALL => listed(name, words),
+        DIPLOID | SAMPLE | OPEN | CALL | OPENBY | CALLBY => listed(name, words),
         _ => write::float(kernel(name, words)),
     }
 }

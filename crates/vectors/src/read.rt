@@ -47,12 +47,12 @@ fn value(digit: u64, word: &[u8]) -> Whole {
     read_up_to(word, highest(digit))
 }
 
-// The digit of a word of several: those of a part differ.
+// The digit of a word of several: those of a part differ. Behind the 39 of a line stands the rule, which is shown and not read.
 pub fn digit_at(digit: u64, i: usize) -> u64 {
     if digit != 0xd {
         return digit;
     }
-    if i > 30 {
+    if i > 30 && i < 39 {
         return 0xf;
     }
     match i {

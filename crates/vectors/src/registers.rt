@@ -1,4 +1,4 @@
-// Ten registers, each of which holds the numbers of a part: the 39 that a line has, and behind them those of its lists of scores.
+// Ten registers, each of which holds the numbers of a part: the 39 that a line has, the rule, and behind them those of its lists of scores.
 ghost use Prim.Native.Nat.{_≤_};
 use crate::read::digit_at;
 use crate::words;
@@ -13,9 +13,9 @@ use trio_parts::part::Part;
 
 // Where the register that a word names starts.
 fn start(words: &Words, at: usize) -> usize
-    ensures { λ r. ⌜ r ≤ 305217 ⌝ }
+    ensures { λ r. ⌜ r ≤ 307265 ⌝ }
 {
-    words::REGISTERS + 147 * words::many(words, at)
+    words::REGISTERS + 148 * words::many(words, at)
 }
 
 // The part in the register that a word names.
@@ -32,7 +32,7 @@ pub fn set(words: &mut Words, part: Part) {
 // Puts the float of the fourth word into the register that the first names: into the list of a sample, the second word, at a place, the
 // third.
 pub fn forge(words: &mut Words) {
-    let list = start(words, 0) + 39 + 36 * words::many(words, 4);
+    let list = start(words, 0) + 40 + 36 * words::many(words, 4);
     let to = list + words::many(words, 8);
     let x = words::whole(words, 12);
     words::put(words, to, x);
@@ -49,7 +49,14 @@ fn show_numbers(text: &mut Text, at: usize, digit: u64, numbers: &[u64]) -> usiz
     end
 }
 
-// The part in the register that the first word names, as a line has it.
+// Puts the second word as the rule into the register that the first names.
+pub fn rule(words: &mut Words) {
+    let mut ruled = part(words, 0);
+    ruled.rule = words::whole(words, 4);
+    set(words, ruled);
+}
+
+// The part in the register that the first word names, as a line has it, and its rule.
 pub fn show(words: &Words, text: &mut Text, at: usize) -> usize {
     let numbers = numbers_of(part(words, 0));
     show_numbers(text, at, 0xd, &numbers)

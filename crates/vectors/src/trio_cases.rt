@@ -14,6 +14,8 @@ use trio_closings::closing::close;
 use trio_desks::call::call;
 use trio_family::pair::Pair;
 use trio_family::sample::Sample;
+use trio_mendel::gametes::mendelian_term;
+use trio_mendel::gametes::rule_allowed;
 use trio_mendel::mendel::distinct_pairs;
 use trio_mendel::mendel::mendelian_prior;
 use trio_numbers::numbers::line_part;
@@ -48,6 +50,25 @@ pub fn mendel(words: &Words) -> Answer {
     write::unreadable()
 }
 
+// The term alone, under the rule of the first word.
+fn term(words: &Words) -> f64 {
+    mendelian_term(
+        words::whole(words, 0),
+        pair(words, 4, 8),
+        pair(words, 12, 16),
+        pair(words, 20, 24),
+    )
+}
+
+// Nor is what is no rule.
+pub fn mendel_by(words: &Words) -> Answer {
+    let genotypes = is_genotype(words, 4, 8) && is_genotype(words, 12, 16) && is_genotype(words, 20, 24);
+    if genotypes && rule_allowed(words::whole(words, 0)) {
+        return write::float(term(words));
+    }
+    write::unreadable()
+}
+
 fn animal(n: u64) -> Sample {
     match n {
         0 => Sample::Child,
@@ -69,7 +90,7 @@ fn score(words: &Words, opened: Stepped) -> Answer {
 
 // The score of an animal of a part.
 pub fn sample(words: &Words, us: &[u32], fs: &[f64]) -> Answer {
-    score(words, open_part(words::whole(words, 0), us, fs))
+    score(words, open_part(words::whole(words, 0), us, fs, 1))
 }
 
 fn flag(b: bool) -> u64
@@ -128,8 +149,9 @@ fn put(words: &mut Words, part: Part) -> Answer {
     write::ok()
 }
 
-// A line has no lists of scores: they are worked out.
+// A line has no lists of scores: they are worked out. Nor has it a rule: it is 1, behind the 39 numbers.
 pub fn part(words: &mut Words) -> Answer {
+    words::put(words, 43, 1);
     let part = line_part(words, 4);
     put(words, part)
 }
@@ -153,7 +175,18 @@ pub fn stepped(words: &mut Words, step: Stepped) -> Answer {
 
 pub fn open(words: &mut Words, us: &[u32], fs: &[f64]) -> Answer {
     let n = words::whole(words, 4);
-    stepped(words, open_part(n, us, fs))
+    stepped(words, open_part(n, us, fs, 1))
+}
+
+pub fn open_by(words: &mut Words, us: &[u32], fs: &[f64]) -> Answer {
+    let n = words::whole(words, 8);
+    let rule = words::whole(words, 4);
+    stepped(words, open_part(n, us, fs, rule))
+}
+
+pub fn ruled(words: &mut Words) -> Answer {
+    registers::rule(words);
+    write::ok()
 }
 
 // A row of the first register's part is worked.
@@ -169,7 +202,11 @@ pub fn merged(words: &mut Words) -> Answer {
 }
 
 pub fn called(words: &Words, us: &[u32], fs: &[f64]) -> Answer {
-    closed(call(words::whole(words, 0), us, fs))
+    closed(call(words::whole(words, 0), us, fs, 1))
+}
+
+pub fn called_by(words: &Words, us: &[u32], fs: &[f64]) -> Answer {
+    closed(call(words::whole(words, 4), us, fs, words::whole(words, 0)))
 }
 
 pub fn closing(words: &mut Words) -> Answer {

@@ -11,19 +11,19 @@ pub const COUNTS: usize = 63;
 
 pub const FLOATS: usize = 2112;
 
-// Where the words of a line end and the registers start: ten, of 147 numbers each.
+// Where the words of a line end and the registers start: ten, of 148 numbers each.
 pub const REGISTERS: usize = 4161;
 
-pub type Words = [u64; 5631];
+pub type Words = [u64; 5641];
 
 // The word at a place; 0 where there is no such place.
 pub fn whole(words: &Words, at: usize) -> u64 {
-    if at < 5631 { words[at] } else { 0 }
+    if at < 5641 { words[at] } else { 0 }
 }
 
 // Sets the word at a place, if there is one.
 pub fn put(words: &mut Words, at: usize, x: u64) {
-    if at < 5631 {
+    if at < 5641 {
         words[at] = x;
     }
 }
@@ -54,7 +54,7 @@ pub fn float(words: &Words, at: usize) -> f64 {
 
 // The n words from a place on, into the first n places.
 pub fn counts(words: &Words, at: usize, n: usize, counts: &mut [u32])
-    requires { ⌜ (at ≤ 5631) × (n ≤ length (now counts)) ⌝ }
+    requires { ⌜ (at ≤ 5641) × (n ≤ length (now counts)) ⌝ }
 {
     let mut i = 0;
     while i < n {
@@ -64,7 +64,7 @@ pub fn counts(words: &Words, at: usize, n: usize, counts: &mut [u32])
 }
 
 pub fn floats(words: &Words, at: usize, n: usize, floats: &mut [f64])
-    requires { ⌜ (at ≤ 5631) × (n ≤ length (now floats)) ⌝ }
+    requires { ⌜ (at ≤ 5641) × (n ≤ length (now floats)) ⌝ }
 {
     let mut i = 0;
     while i < n {
@@ -74,7 +74,7 @@ pub fn floats(words: &Words, at: usize, n: usize, floats: &mut [f64])
 }
 
 pub fn bytes(words: &Words, at: usize, n: usize, bytes: &mut [u8])
-    requires { ⌜ (at ≤ 5631) × (n ≤ length (now bytes)) ⌝ }
+    requires { ⌜ (at ≤ 5641) × (n ≤ length (now bytes)) ⌝ }
 {
     let mut i = 0;
     while i < n {
