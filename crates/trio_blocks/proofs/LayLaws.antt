@@ -34,10 +34,11 @@ run-behind : (front l : List ℕ) (o k n : ℕ) → length front ≡ o → lengt
 run-behind front l o k n ef el h =
     let all = front ++ zeroBytes n in
     let long : length all ≡ o + n = length-append front (zeroBytes n) ∙ rw (ef, length-replicate {A = ℕ} n 0) in
-    let rest : drop (o + k) all ≡ zeroBytes (n - k) = sym (drop-drop k o all) ∙ ap (drop k) (drop-at front (zeroBytes n) o ef) ∙ drop-zeros k n in
+    let rest : drop (o + k) all ≡ zeroBytes (n - k) =
+    sym (drop-drop k o all) ∙ ap (drop k) (drop-at front (zeroBytes n) o ef) ∙ drop-zeros k n in
     sets-eq l all o (omega arith) ∙ rw (take-at front (zeroBytes n) o ef, el, rest)
 
-module _ (n : List ℕ) (long : length n ≡ 39) where
+module _ (n : List ℕ) (long : length n ≡ 40) where
   abbrev head : List ℕ
   head = asBytes (headBy n)
 
@@ -53,7 +54,7 @@ module _ (n : List ℕ) (long : length n ≡ 39) where
   abbrev scores : List ℕ
   scores = asBytes (fieldsOf 8 (run 5 2 n))
 
-  run-length : (w f k : ℕ) → f + k ≤ 39 → length (asBytes (fieldsOf w (run f k n))) ≡ w * k
+  run-length : (w f k : ℕ) → f + k ≤ 40 → length (asBytes (fieldsOf w (run f k n))) ≡ w * k
   run-length w f k h =
       same-length w (run f k n) ∙ ap (λ (m : ℕ). w * m) (length-take-le k (drop f n) (omega (arith, length-drop f n)))
 

@@ -1,4 +1,4 @@
-// A block read as a part, or refused (docs/RULES.md, B1, B5 to B7).
+// A block read as a part, or refused (docs/RULES.md, B1, B5 to B7, B12).
 ghost use mathlib.Core.Path.{_≡_};
 ghost use mathlib.Core.Bool.{cond, _&&_};
 ghost use lib.ListN.{length};
@@ -7,19 +7,20 @@ ghost use Rattle.blocks.specs.Bytes.{wholesAt};
 ghost use Rattle.refusals.specs.declared.Refusal.the-variants.{Done, BadPart};
 ghost use Rattle.trio_parts.specs.Part.{gives};
 ghost use Rattle.trio_parts.specs.Sound.{soundPart};
-ghost use Rattle.trio_blocks_form.specs.Reading.{partIn, fixedRight, unusedRight, refuses, readOf};
+ghost use Rattle.trio_blocks_form.specs.Reading.{ruleBy, partIn, formRight, fixedRight, unusedRight, refuses, readOf};
 ghost use Rattle.trio_blocks.specs.Inner.{IsRun, numbersIn};
 use blocks::bytes::get;
 use blocks::bytes::zeros;
 use blocks::check::check_of;
 use refusals::Refusal;
+use trio_mendel::gametes::rule_allowed;
 use trio_numbers::numbers::line_part;
 use trio_parts::part::Part;
 use trio_parts::part::Stepped;
 use trio_parts::sound::sound_over;
 
 // `count` numbers of `width` bytes each, from byte `start` on, as those from number `from` on.
-fn get_run(b: &[u8], start: u16, width: u8, numbers: &mut [u64; 39], from: usize, count: usize)
+fn get_run(b: &[u8], start: u16, width: u8, numbers: &mut [u64; 40], from: usize, count: usize)
     requires { ⌜ IsRun start width from count ⌝ }
     ensures { λ _. ⌜ now (numbers .exit) ≡ sets (now (numbers .entry)) from (wholesAt start width count (now (b .entry))) ⌝ }
 {
@@ -32,11 +33,21 @@ fn get_run(b: &[u8], start: u16, width: u8, numbers: &mut [u64; 39], from: usize
     }
 }
 
-// The 39 numbers of the part that a block holds.
-fn numbers_in(b: &[u8]) -> [u64; 39]
+// The rule of a block of this form with this byte 3.
+fn rule_by(form: u64, third: u64) -> u64
+    ensures { λ r. ⌜ r ≡ ruleBy form third ⌝ }
+{
+    if form == 1 {
+        return 1;
+    }
+    third
+}
+
+// The 40 numbers of the part that a block holds.
+fn numbers_in(b: &[u8]) -> [u64; 40]
     ensures { λ r. ⌜ r ≡ numbersIn (now (b .entry)) ⌝ }
 {
-    let mut numbers = [0u64; 39];
+    let mut numbers = [0u64; 40];
     numbers[0] = get(b, 1, 1);
     numbers[1] = get(b, 8, 8);
     numbers[2] = get(b, 2, 1);
@@ -44,6 +55,7 @@ fn numbers_in(b: &[u8]) -> [u64; 39]
     get_run(b, 184, 8, &mut numbers, 5, 2);
     get_run(b, 16, 4, &mut numbers, 7, 24);
     get_run(b, 112, 8, &mut numbers, 31, 8);
+    numbers[39] = rule_by(get(b, 0, 1), get(b, 3, 1));
     numbers
 }
 
@@ -54,11 +66,24 @@ fn both(x: bool, y: bool) -> bool
     if x { y } else { false }
 }
 
-// Are the bytes right that are the same in every block?
+// Is byte 3 right in a block of this form?
+fn form_right(form: u64, third: u64) -> bool
+    ensures { λ r. ⌜ r ≡ formRight form third ⌝ }
+{
+    if form == 1 {
+        return third == 0;
+    }
+    both(form == 2, rule_allowed(third))
+}
+
+// Are the form, its byte 3 and the bytes right that are the same in every block?
 fn fixed_right(b: &[u8]) -> bool
     ensures { λ r. ⌜ r ≡ fixedRight (now (b .entry)) ⌝ }
 {
-    both(get(b, 0, 1) == 1, both(zeros(b, 3, 8), zeros(b, 200, 510)))
+    both(
+        form_right(get(b, 0, 1), get(b, 3, 1)),
+        both(zeros(b, 4, 8), zeros(b, 200, 510)),
+    )
 }
 
 // Are the places zero that are not in use?

@@ -1,4 +1,4 @@
-// A part written as a block (docs/RULES.md, B1 to B4).
+// A part written as a block (docs/RULES.md, B1 to B4, B12).
 ghost use mathlib.Core.Path.{_≡_};
 ghost use mathlib.Core.List.{[], _∷_, _++_};
 ghost use Prim.Native.Nat.{_+_, _*_, _≤_};
@@ -30,19 +30,20 @@ fn put_run(b: &mut [u8; 512], start: u16, width: u8, run: &[u64])
 }
 
 // The first sixteen bytes, and zeros.
-fn head(numbers: [u64; 39]) -> [u8; 512]
+fn head(numbers: [u64; 40]) -> [u8; 512]
     ensures { λ r. ⌜ r ≡ asBytes (headBy numbers) ++ replicate 496 0 ⌝ }
 {
     let mut b = [0u8; 512];
-    put(&mut b, 0, 1, 1);
+    put(&mut b, 0, 1, 2);
     put(&mut b, 1, 1, numbers[0]);
     put(&mut b, 2, 1, numbers[2]);
+    put(&mut b, 3, 1, numbers[39]);
     put(&mut b, 8, 8, numbers[1]);
     b
 }
 
 // All but the check.
-fn lay(numbers: [u64; 39]) -> [u8; 512]
+fn lay(numbers: [u64; 40]) -> [u8; 512]
     ensures { λ r. ⌜ r ≡ asBytes (layoutBy numbers) ++ (0 ∷ 0 ∷ []) ⌝ }
 {
     let mut b = head(numbers);

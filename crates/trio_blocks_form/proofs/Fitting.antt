@@ -64,7 +64,8 @@ module _ (rows marks : ℕ) (few : rows ≤ 36) (below : marks < 2 ^ rows) where
 
 -- ---- all of them
 
-pub layout-holds : (form third : ℕ) (p : Part) → form < 256 → third < 256 → TypedPart p → RightShape p → Each Holds (layoutWith form third p)
+pub layout-holds : (form third : ℕ) (p : Part) → form < 256 → third < 256 → TypedPart p → RightShape p
+    → Each Holds (layoutWith form third p)
 unfolding layoutWith
 layout-holds form third p small-form small-third is right =
     let rows = genotypes-few (p .clusters) (right .few) in

@@ -1,4 +1,4 @@
--- A block that is read is the block, of its form, of what was read; so that of form 2, which is written, no two blocks are read as one part.
+-- A block that is read is the block, of its form, of what was read; so of form 2, which is written, no two blocks are read as one part.
 -- Assumes nothing.
 use Prim.Native.Nat.{ℕ, _+_, _≤_}
 use mathlib.Core.Bool.{true, _&&_}

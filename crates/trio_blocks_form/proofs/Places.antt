@@ -27,8 +27,14 @@ use Rattle.trio_blocks_form.proofs.Shape.{RightShape}
 -- ---- what stands in a block from a byte on
 
 module _ (form third : ℕ) (p : Part) (is : TypedPart p) where
+  abbrev body : List ℕ
+  body = bodyWith form third p
+
+  abbrev block : List ℕ
+  block = blockWith form third p
+
   abbrev check : List ℕ
-  check = bytesOf 2 (checkOf (bodyWith form third p))
+  check = bytesOf 2 (checkOf body)
 
   abbrev counts : List ℕ
   counts = asBytes (fieldsOf 4 (p .counts))
@@ -46,32 +52,32 @@ module _ (form third : ℕ) (p : Part) (is : TypedPart p) where
   many-weights =
       same-length 8 (bitsOf (p .weights)) ∙ ap (λ (n : ℕ). 8 * n) (length-map (p .weights) (toBits binary64) ∙ is .weights .places)
 
-  parts : bodyWith form third p ≡ asBytes (headWith form third p) ++ (counts ++ (weights ++ tail))
+  parts : body ≡ asBytes (headWith form third p) ++ (counts ++ (weights ++ tail))
   unfolding bodyWith layoutWith
   parts =
-      let b = fieldsOf 8 (bitsOf (p .weights)) in
-      let a = fieldsOf 4 (p .counts) in
+      let w = fieldsOf 8 (bitsOf (p .weights)) in
+      let c = fieldsOf 4 (p .counts) in
       fields-append (headWith form third p) (behindHead p)
       ∙ ap (λ (l : List ℕ). asBytes (headWith form third p) ++ l)
-      (fields-append a (b ++ tailOf p) ∙ ap (λ (l : List ℕ). counts ++ l) (fields-append b (tailOf p)))
+      (fields-append c (w ++ tailOf p) ∙ ap (λ (l : List ℕ). counts ++ l) (fields-append w (tailOf p)))
 
-  pub long-body : length (bodyWith form third p) ≡ 510
+  pub long-body : length body ≡ 510
   long-body =
       ap length parts ∙ rw (length-append counts (weights ++ tail), many-counts, length-append weights tail, many-weights)
 
-  from-16 : drop 16 (blockWith form third p) ≡ counts ++ (weights ++ (tail ++ check))
+  from-16 : drop 16 block ≡ counts ++ (weights ++ (tail ++ check))
   unfolding blockWith
   from-16 =
       ap (λ (l : List ℕ). drop 16 (l ++ check)) parts
       ∙ append-assoc counts (weights ++ tail) check
       ∙ ap (λ (l : List ℕ). counts ++ l) (append-assoc weights tail check)
 
-  from-112 : drop 112 (blockWith form third p) ≡ weights ++ (tail ++ check)
+  from-112 : drop 112 block ≡ weights ++ (tail ++ check)
   from-112 =
-      sym (drop-drop 96 16 (blockWith form third p)) ∙ ap (drop 96) from-16 ∙ drop-at counts (weights ++ (tail ++ check)) 96 many-counts
+      sym (drop-drop 96 16 block) ∙ ap (drop 96) from-16 ∙ drop-at counts (weights ++ (tail ++ check)) 96 many-counts
 
-  from-176 : drop 176 (blockWith form third p) ≡ tail ++ check
-  from-176 = sym (drop-drop 64 112 (blockWith form third p)) ∙ ap (drop 64) from-112 ∙ drop-at weights (tail ++ check) 64 many-weights
+  from-176 : drop 176 block ≡ tail ++ check
+  from-176 = sym (drop-drop 64 112 block) ∙ ap (drop 64) from-112 ∙ drop-at weights (tail ++ check) 64 many-weights
 
   abbrev positions : List ℕ
   positions = p .held .first .position ∷ p .held .second .position ∷ []
@@ -79,14 +85,14 @@ module _ (form third : ℕ) (p : Part) (is : TypedPart p) where
   abbrev scores : List ℕ
   scores = toBits binary64 (p .held .first .score) ∷ toBits binary64 (p .held .second .score) ∷ []
 
-  from-184 : drop 184 (blockWith form third p) ≡ asBytes (fieldsOf 8 scores) ++ (bytesOf 310 0 ++ check)
-  from-184 = sym (drop-drop 8 176 (blockWith form third p)) ∙ ap (drop 8) from-176
+  from-184 : drop 184 block ≡ asBytes (fieldsOf 8 scores) ++ (bytesOf 310 0 ++ check)
+  from-184 = sym (drop-drop 8 176 block) ∙ ap (drop 8) from-176
 
-  from-200 : drop 200 (blockWith form third p) ≡ asBytes (fieldsOf 310 (0 ∷ [])) ++ check
-  from-200 = sym (drop-drop 16 184 (blockWith form third p)) ∙ ap (drop 16) from-184 ∙ ap (λ (l : List ℕ). l ++ check) (sym (append-nil (bytesOf 310 0)))
+  from-200 : drop 200 block ≡ asBytes (fieldsOf 310 (0 ∷ [])) ++ check
+  from-200 = sym (drop-drop 16 184 block) ∙ ap (drop 16) from-184 ∙ ap (λ (l : List ℕ). l ++ check) (sym (append-nil (bytesOf 310 0)))
 
-  pub last-zero : zeroIn 200 510 (blockWith form third p) ≡ true
-  last-zero = zero-part 200 310 0 310 (0 ∷ []) check (blockWith form third p) from-200 refl refl
+  pub last-zero : zeroIn 200 510 block ≡ true
+  last-zero = zero-part 200 310 0 310 (0 ∷ []) check block from-200 refl refl
 
 -- ---- the numbers of places that are not in use
 

@@ -23,7 +23,7 @@ use Rattle.trio_parts.specs.Part.{gives}
 use Rattle.trio_parts.specs.Sound.{soundPart}
 use Rattle.trio_parts.specs.Typed.{TypedPart}
 use Rattle.trio_parts.proofs.SoundLaws.{sound-right, sound-true}
-use Rattle.trio_blocks_form.specs.Writing.{bitsOf, headWith, tailOf, behindHead, layoutWith, bodyWith, withCheck, blockWith, blockOf, writtenOf}
+use Rattle.trio_blocks_form.specs.Writing.{bitsOf, headWith, tailOf, behindHead, layoutWith, bodyWith, blockWith, blockOf, writtenOf}
 use Rattle.trio_blocks_form.specs.Reading.{formIn, thirdIn, ruleBy, weightsIn, partIn, formRight, fixedRight, readOf}
 use Rattle.trio_blocks_form.specs.declared.written.Written.{Written}
 use Rattle.trio_blocks_form.proofs.Forms.{form-exactly, form-small, second-form, second-rule}
@@ -35,31 +35,37 @@ use Rattle.trio_blocks_form.proofs.Places.{long-body, last-zero, unused
 -- ---- the block of a part
 
 module _ (form third : ℕ) (p : Part) (is : TypedPart p) where
-  body-510 : length (bodyWith form third p) ≡ 510
+  abbrev body : List ℕ
+  body = bodyWith form third p
+
+  abbrev block : List ℕ
+  block = blockWith form third p
+
+  body-510 : length body ≡ 510
   body-510 = long-body form third p is
 
-  block-512 : length (blockWith form third p) ≡ 512
+  block-512 : length block ≡ 512
   unfolding blockWith
-  block-512 = length-append (bodyWith form third p) (bytesOf 2 (checkOf (bodyWith form third p))) ∙ rw body-510
+  block-512 = length-append body (bytesOf 2 (checkOf body)) ∙ rw body-510
 
   -- it has 512 bytes
-  pub block-bytes : BlockBytes (blockWith form third p)
+  pub block-bytes : BlockBytes block
   unfolding blockWith bodyWith
   block-bytes =
       record {
         long = block-512;
-        bytes = bytes-append (bodyWith form third p) (bytesOf 2 (checkOf (bodyWith form third p))) (bytes-fields (layoutWith form third p)) (bytes-of 2 (checkOf (bodyWith form third p)));
+        bytes = bytes-append body (bytesOf 2 (checkOf body)) (bytes-fields (layoutWith form third p)) (bytes-of 2 (checkOf body));
       }
 
   -- and its check is right
-  pub block-checked : checkRight (blockWith form third p) ≡ true
+  pub block-checked : checkRight block ≡ true
   unfolding checkRight blockWith
   block-checked =
-      let check = checkOf (bodyWith form third p) in
-      let behind : drop 510 (blockWith form third p) ≡ bytesOf 2 check = drop-at (bodyWith form third p) (bytesOf 2 check) 510 body-510 in
-      let before : take 510 (blockWith form third p) ≡ bodyWith form third p = take-at (bodyWith form third p) (bytesOf 2 check) 510 body-510 in
-      let small = mod-lt (65535 + totalOf (wordsOf (bodyWith form third p))) (lit< tt) in
-      eq-eqb (wholeAt 510 2 (blockWith form third p)) (checkOf (take 510 (blockWith form third p)))
+      let check = checkOf body in
+      let behind : drop 510 block ≡ bytesOf 2 check = drop-at body (bytesOf 2 check) 510 body-510 in
+      let before : take 510 block ≡ body = take-at body (bytesOf 2 check) 510 body-510 in
+      let small = mod-lt (65535 + totalOf (wordsOf body)) (lit< tt) in
+      eq-eqb (wholeAt 510 2 block) (checkOf (take 510 block))
       (ap (λ (l : List ℕ). wholeOf (take 2 l)) behind ∙ whole-bytes 2 check small ∙ ap checkOf (sym before))
 
 -- ---- its numbers are those of the part
@@ -89,7 +95,10 @@ module _ (form third : ℕ) (p : Part) (is : TypedPart p) (right : RightShape p)
       (layout-holds form third p (small .0) (small .1) is right)
 
   -- their numbers: behind six of the head the counts, the weights, and five more
-  values-back : valuesOf (layoutAt b) ≡ valuesOf (headWith form third p) ++ (p .counts ++ (bits ++ valuesOf (tailOf p)))
+  abbrev written : List ℕ
+  written = valuesOf (headWith form third p) ++ (p .counts ++ (bits ++ valuesOf (tailOf p)))
+
+  values-back : valuesOf (layoutAt b) ≡ written
   unfolding layoutWith
   values-back =
       let value : Field → ℕ = λ f. f .value in
@@ -104,7 +113,7 @@ module _ (form third : ℕ) (p : Part) (is : TypedPart p) (right : RightShape p)
   long-bits : length bits ≡ 8
   long-bits = length-map (p .weights) (toBits binary64) ∙ is .weights .places
 
-  head-back : (k : ℕ) → getD (valuesOf (layoutAt b)) k 0 ≡ getD (valuesOf (headWith form third p) ++ (p .counts ++ (bits ++ valuesOf (tailOf p)))) k 0
+  head-back : (k : ℕ) → getD (valuesOf (layoutAt b)) k 0 ≡ getD written k 0
   head-back k = ap (λ (l : List ℕ). getD l k 0) values-back
 
   form-back : formIn b ≡ form

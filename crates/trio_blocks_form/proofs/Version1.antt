@@ -39,8 +39,7 @@ pub version-1-only : (b : List ℕ) (p : Part) → BlockBytes b → formByte b �
 version-1-only b p is one e =
     let form : formIn b ≡ 1 = at-byte 0 b ∙ one in
     let third : thirdIn b ≡ 0 =
-    at-byte 3 b ∙ ⊎-elim (λ f. f .no-rule) (λ s. absurd (omega (arith, s .two))) (layout-exactly b .0 (accepted b p e .laid-out) .form) in
-    (
+    at-byte 3 b ∙ ⊎-elim (λ f. f .no-rule) (λ s. absurd (omega (arith, s .two))) (layout-exactly b .0 (accepted b p e .laid-out) .form) in (
       sym (rule-in b p e) ∙ first-rule (formIn b) (thirdIn b) form,
       first-with p ∙ ap₂ (λ (f r : ℕ). blockWith f r p) (sym form) (sym third) ∙ same-form b p is e,
     )

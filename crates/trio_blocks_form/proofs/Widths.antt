@@ -29,7 +29,8 @@ headAt b =
 
 abbrev tailAt : List ℕ → List Field
 tailAt b =
-    field 4 (wholeAt 176 4 b) ∷ field 4 (wholeAt 180 4 b) ∷ field 8 (wholeAt 184 8 b) ∷ field 8 (wholeAt 192 8 b) ∷ field 310 (wholeAt 200 310 b) ∷ []
+    field 4 (wholeAt 176 4 b) ∷ field 4 (wholeAt 180 4 b) ∷ field 8 (wholeAt 184 8 b) ∷ field 8 (wholeAt 192 8 b)
+    ∷ field 310 (wholeAt 200 310 b) ∷ []
 
 unfoldable pub layoutAt : List ℕ → List Field
 layoutAt b = headAt b ++ (fieldsOf 4 (wholesAt 16 4 24 b) ++ (fieldsOf 8 (wholesAt 112 8 8 b) ++ tailAt b))

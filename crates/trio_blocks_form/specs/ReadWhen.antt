@@ -1,4 +1,5 @@
--- When the layout of a block is right, and when each refusal of a reading is given. Definitions only (RULES.md, R12 to R15, O1, B5, B7, B12).
+-- When the layout of a block is right, and when each refusal of a reading is given. Definitions only (RULES.md, R12 to R15, O1, B5, B7,
+-- B12).
 use Prim.Native.Nat.{ℕ, _+_, _*_, _≤_, _<_}
 use mathlib.Core.Bool.{true, false}
 use mathlib.Core.List.{List}

@@ -7,6 +7,12 @@ use Rattle.trio_blocks.proofs.read.fixed_right.Tie as tie
 get-requires : tie.Need-get-requires
 get-requires c κs = search needs
 
+get-requires-2 : tie.Need-get-requires-2
+get-requires-2 c κs = search needs
+
+form-right-requires : tie.Need-form-right-requires
+form-right-requires c κs = search needs
+
 zeros-requires : tie.Need-zeros-requires
 zeros-requires c κs = search needs
 
@@ -25,9 +31,27 @@ returns c =
     let inner = c .before in
     let last = inner .before in
     let first = last .before in
-    rw (c .both2 .ensures, inner .both .ensures, last .zeros2 .ensures, first .zeros .ensures, first .before .get .ensures)
+    let form = first .before in
+    let third = form .before in
+    rw (
+      c .both2 .ensures,
+      inner .both .ensures,
+      last .zeros2 .ensures,
+      first .zeros .ensures,
+      form .form-right .ensures,
+      third .get2 .ensures,
+      third .before .get .ensures,
+    )
 
 pub fixed-right-spec : {M : Type 1} → statement M
 fixed-right-spec =
     tie.close
-    (tie.spec get-requires zeros-requires zeros-requires-2 both-requires both-requires-2 returns)
+    (tie.spec
+    get-requires
+    get-requires-2
+    form-right-requires
+    zeros-requires
+    zeros-requires-2
+    both-requires
+    both-requires-2
+    returns)

@@ -35,17 +35,35 @@ get-run-requires-3 c κs = search needs
 get-run-requires-4 : tie.Need-get-run-requires-4
 get-run-requires-4 c κs = search needs
 
+get-requires-4 : tie.Need-get-requires-4
+get-requires-4 c κs = search needs
+
+get-requires-5 : tie.Need-get-requires-5
+get-requires-5 c κs = search needs
+
+rule-by-requires : tie.Need-rule-by-requires
+rule-by-requires c κs = search needs
+
+array-write-numbers-4 : tie.Need-array-write-numbers-4
+array-write-numbers-4 c = search needs
+
 returns : tie.Need-returns
 unfolding wholesAt numbersIn
 returns c =
-    let third = c .before .before in
+    let byte = c .before in
+    let form = byte .before in
+    let fourth = form .before in
+    let third = fourth .before .before in
     let second = third .before .before in
     let first = second .before .before in
     let held = first .before .before in
     let marks = held .before in
     let clusters = marks .before in
     rw (
-      c .get-run4 .ensures,
+      c .rule-by .ensures,
+      byte .get5 .ensures,
+      form .get4 .ensures,
+      fourth .get-run4 .ensures,
       third .get-run3 .ensures,
       second .get-run2 .ensures,
       first .get-run .ensures,
@@ -68,4 +86,8 @@ numbers-in-spec =
     get-run-requires-2
     get-run-requires-3
     get-run-requires-4
+    get-requires-4
+    get-requires-5
+    rule-by-requires
+    array-write-numbers-4
     returns)

@@ -2,7 +2,7 @@
 use mathlib.Core.List.{_++_}
 use mathlib.Core.Path.{_≡_, _∙_}
 use lib.ListN.{length}
-use Rattle.trio_blocks_form.specs.Writing.{bodyOf, blockOf}
+use Rattle.trio_blocks_form.specs.Writing.{bodyWith, blockWith}
 use Rattle.trio_blocks.proofs.LayLaws.{zeroBytes, checked}
 use Rattle.trio_blocks.proofs.NumbersLaws.{layout-by, long-body}
 use borrow.Author.Needs.{needs}
@@ -34,7 +34,7 @@ put-requires : tie.Need-put-requires
 put-requires c κs = search needs
 
 returns : tie.Need-returns
-unfolding bodyOf blockOf
+unfolding bodyWith blockWith
 returns c =
     let stored = c .before in
     let check = stored .before .before in
@@ -43,9 +43,10 @@ returns c =
     let p = numbers .before .args .p in
     let few = long (numbers .before) .0 in
     let eight = long (numbers .before) .1 in
-    let body : lay .lay .result ≡ bodyOf p ++ zeroBytes 2 =
+    let whole = bodyWith 2 (p .rule) p in
+    let body : lay .lay .result ≡ whole ++ zeroBytes 2 =
     lay .lay .ensures ∙ rw (numbers .numbers-of .ensures, layout-by p few eight) in
-    rw (stored .put .ensures, check .check-of .ensures, body) (checked (bodyOf p) (long-body p few eight))
+    rw (stored .put .ensures, check .check-of .ensures, body) (checked whole (long-body p few eight))
 
 pub block-of-spec : {M : Type 1} → statement M
 block-of-spec =

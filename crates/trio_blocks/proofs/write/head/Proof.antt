@@ -1,4 +1,4 @@
--- `trio_blocks::write::head` meets its contract: four stores into zeros. Assumes nothing.
+-- `trio_blocks::write::head` meets its contract: five stores into zeros. Assumes nothing.
 
 use borrow.Author.Needs.{needs}
 use Rattle.trio_blocks.proofs.write.head.Statement.{statement}
@@ -37,13 +37,23 @@ array-read-put-3 c = search needs
 put-requires-4 : tie.Need-put-requires-4
 put-requires-4 c κs = search needs
 
+slice-aggregate-put-5 : tie.Need-slice-aggregate-put-5
+slice-aggregate-put-5 c = search needs
+
+array-read-put-4 : tie.Need-array-read-put-4
+array-read-put-4 c = search needs
+
+put-requires-5 : tie.Need-put-requires-5
+put-requires-5 c κs = search needs
+
 returns : tie.Need-returns
 returns c =
     let marks = c .before in
-    let held = marks .before .before .before in
+    let third = marks .before .before .before in
+    let held = third .before .before .before in
     let clusters = held .before .before .before in
     let form = clusters .before .before .before in
-    rw (marks .put4 .ensures, held .put3 .ensures, clusters .put2 .ensures, form .put .ensures)
+    rw (marks .put5 .ensures, third .put4 .ensures, held .put3 .ensures, clusters .put2 .ensures, form .put .ensures)
 
 pub head-spec : {M : Type 1} → statement M
 head-spec =
@@ -60,4 +70,7 @@ head-spec =
     slice-aggregate-put-4
     array-read-put-3
     put-requires-4
+    slice-aggregate-put-5
+    array-read-put-4
+    put-requires-5
     returns)

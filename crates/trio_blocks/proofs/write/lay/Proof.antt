@@ -64,7 +64,7 @@ returns c =
     let first = second .before .before .before .before in
     let made = first .before .before .before .before in
     let start = made .before in
-    let n : length (start .args .t1) ≡ 39 = search needs in
+    let n : length (start .args .t1) ≡ 40 = search needs in
     rw (c .put-run4 .ensures, third .put-run3 .ensures, second .put-run2 .ensures, first .put-run .ensures, made .head .ensures)
     (stored-behind-head (start .args .t1) n)
 
