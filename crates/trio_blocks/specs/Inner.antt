@@ -4,7 +4,7 @@ use Prim.Native.Nat.{ℕ, _+_, _*_, _≤_}
 use mathlib.Core.List.{List, [], _∷_, _++_}
 use lib.ListN.{getD, take, drop}
 use Rattle.blocks.specs.Bytes.{Field, field, wholeAt, wholesAt, fieldsOf}
-use Rattle.trio_blocks_form.specs.Reading.{formIn, thirdIn, ruleBy}
+use Rattle.trio_blocks_form.specs.Reading.{formIn, byte3In, ruleBy}
 
 -- k of the numbers, from number f on
 abbrev pub run : ℕ → ℕ → List ℕ → List ℕ
@@ -28,7 +28,7 @@ numbersIn b =
     wholeAt 1 1 b ∷ wholeAt 8 8 b ∷ wholeAt 2 1 b
     ∷ (wholesAt 176 4 2 b
     ++ (wholesAt 184 8 2 b
-    ++ (wholesAt 16 4 24 b ++ (wholesAt 112 8 8 b ++ (ruleBy (formIn b) (thirdIn b) ∷ [])))))
+    ++ (wholesAt 16 4 24 b ++ (wholesAt 112 8 8 b ++ (ruleBy (formIn b) (byte3In b) ∷ [])))))
 
 -- a run of them: so many bytes each that a word holds it, inside the block and among the numbers
 pub record IsRun (start width from count : ℕ) : Type 0 where

@@ -34,13 +34,13 @@ fn get_run(b: &[u8], start: u16, width: u8, numbers: &mut [u64; 40], from: usize
 }
 
 // The rule of a block of this form with this byte 3.
-fn rule_by(form: u64, third: u64) -> u64
-    ensures { λ r. ⌜ r ≡ ruleBy form third ⌝ }
+fn rule_by(form: u64, byte3: u64) -> u64
+    ensures { λ r. ⌜ r ≡ ruleBy form byte3 ⌝ }
 {
     if form == 1 {
         return 1;
     }
-    third
+    byte3
 }
 
 // The 40 numbers of the part that a block holds.
@@ -67,13 +67,13 @@ fn both(x: bool, y: bool) -> bool
 }
 
 // Is byte 3 right in a block of this form?
-fn form_right(form: u64, third: u64) -> bool
-    ensures { λ r. ⌜ r ≡ formRight form third ⌝ }
+fn form_right(form: u64, byte3: u64) -> bool
+    ensures { λ r. ⌜ r ≡ formRight form byte3 ⌝ }
 {
     if form == 1 {
-        return third == 0;
+        return byte3 == 0;
     }
-    both(form == 2, rule_allowed(third))
+    both(form == 2, rule_allowed(byte3))
 }
 
 // Are the form, its byte 3 and the bytes right that are the same in every block?

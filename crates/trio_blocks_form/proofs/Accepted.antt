@@ -20,9 +20,9 @@ use Rattle.trio_parts.specs.declared.part.Part.{Part}
 use Rattle.trio_parts.specs.declared.part.Stepped.{Stepped}
 use Rattle.trio_parts.specs.Part.{emptyPart, gives}
 use Rattle.trio_parts.specs.Sound.{soundPart}
-use Rattle.trio_blocks_form.specs.Reading.{formIn, thirdIn, clustersIn, heldIn, partIn}
+use Rattle.trio_blocks_form.specs.Reading.{formIn, byte3In, clustersIn, heldIn, partIn}
 use Rattle.trio_blocks_form.specs.Reading.{formRight, fixedRight, unusedRight, layoutRight, refuses, readOf}
-use Rattle.trio_blocks_form.specs.ReadWhen.{formByte, thirdByte, clusterByte, heldByte, RightLayout, WellSent, ReadWhen}
+use Rattle.trio_blocks_form.specs.ReadWhen.{formByte, ruleByte, clusterByte, heldByte, RightLayout, WellSent, ReadWhen}
 use Rattle.trio_blocks_form.proofs.Forms.{form-exactly}
 
 module _ (b : List ℕ) where
@@ -33,7 +33,7 @@ module _ (b : List ℕ) where
 
   -- ---- exactly when
 
-  form-are : formRight (formIn b) (thirdIn b) ≡ formRight (formByte b) (thirdByte b)
+  form-are : formRight (formIn b) (byte3In b) ≡ formRight (formByte b) (ruleByte b)
   form-are = ap₂ formRight (at-byte 0 b) (at-byte 3 b)
 
   clusters-are : clustersIn b ≡ clusterByte b
@@ -47,8 +47,8 @@ module _ (b : List ℕ) where
   layout-means h =
       let fixed = and-elim-left (fixedRight b) (unusedRight b) h in
       let unused = rw (clusters-are, held-are) at (and-elim-right (fixedRight b) (unusedRight b) h) in
-      let form = and-elim-left (formRight (formIn b) (thirdIn b)) (zeroIn 4 8 b && zeroIn 200 510 b) fixed in
-      let zeros = and-elim-right (formRight (formIn b) (thirdIn b)) (zeroIn 4 8 b && zeroIn 200 510 b) fixed in
+      let form = and-elim-left (formRight (formIn b) (byte3In b)) (zeroIn 4 8 b && zeroIn 200 510 b) fixed in
+      let zeros = and-elim-right (formRight (formIn b) (byte3In b)) (zeroIn 4 8 b && zeroIn 200 510 b) fixed in
       let counts = zeroIn (16 + 12 * clusterByte b) 112 b in
       let weights = zeroIn (112 + 8 * clusterByte b) 176 b in
       let positions = zeroIn (176 + 4 * heldByte b) 184 b in
@@ -56,8 +56,8 @@ module _ (b : List ℕ) where
       let behind-counts = and-elim-right counts (weights && (positions && scores)) unused in
       let entries = and-elim-right weights (positions && scores) behind-counts in
       record {
-        form = form-exactly (formByte b) (thirdByte b) .0 (sym form-are ∙ form);
-        behind-third = zero-exactly b 4 8 .0 (and-elim-left (zeroIn 4 8 b) (zeroIn 200 510 b) zeros);
+        form = form-exactly (formByte b) (ruleByte b) .0 (sym form-are ∙ form);
+        behind-rule-byte = zero-exactly b 4 8 .0 (and-elim-left (zeroIn 4 8 b) (zeroIn 200 510 b) zeros);
         behind-scores = zero-exactly b 200 510 .0 (and-elim-right (zeroIn 4 8 b) (zeroIn 200 510 b) zeros);
         counts-unused = zero-exactly b _ 112 .0 (and-elim-left counts (weights && (positions && scores)) unused);
         weights-unused = zero-exactly b _ 176 .0 (and-elim-left weights (positions && scores) behind-counts);
@@ -68,8 +68,8 @@ module _ (b : List ℕ) where
   means-layout : RightLayout b → layoutRight b ≡ true
   unfolding fixedRight unusedRight
   means-layout r =
-      let form = form-are ∙ form-exactly (formByte b) (thirdByte b) .1 (r .form) in
-      let four = zero-exactly b 4 8 .1 (r .behind-third) in
+      let form = form-are ∙ form-exactly (formByte b) (ruleByte b) .1 (r .form) in
+      let four = zero-exactly b 4 8 .1 (r .behind-rule-byte) in
       let rest = zero-exactly b 200 510 .1 (r .behind-scores) in
       let counts = zero-exactly b (16 + 12 * clusterByte b) 112 .1 (r .counts-unused) in
       let weights = zero-exactly b (112 + 8 * clusterByte b) 176 .1 (r .weights-unused) in

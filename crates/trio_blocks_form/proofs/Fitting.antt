@@ -64,10 +64,10 @@ module _ (rows marks : ℕ) (few : rows ≤ 36) (below : marks < 2 ^ rows) where
 
 -- ---- all of them
 
-pub layout-holds : (form third : ℕ) (p : Part) → form < 256 → third < 256 → TypedPart p → RightShape p
-    → Each Holds (layoutWith form third p)
+pub layout-holds : (form byte3 : ℕ) (p : Part) → form < 256 → byte3 < 256 → TypedPart p → RightShape p
+    → Each Holds (layoutWith form byte3 p)
 unfolding layoutWith
-layout-holds form third p small-form small-third is right =
+layout-holds form byte3 p small-form small-byte3 is right =
     let rows = genotypes-few (p .clusters) (right .few) in
     let clusters : p .clusters < 256 = omega (arith, right .few) in
     let held : p .held .count < 256 = omega (arith, right .held, held-at-most (rowCount p) (p .marks)) in
@@ -78,7 +78,7 @@ layout-holds form third p small-form small-third is right =
     let second = toBits-lt binary64 (p .held .second .score) (is .second-f64) in
     let counts = fieldsOf 4 (p .counts) in
     let weights = fieldsOf 8 (bitsOf (p .weights)) in
-    each-append Holds (headWith form third p) (behindHead p) (small-form, (clusters, (held, (small-third, (lit< tt, (marks, tt))))))
+    each-append Holds (headWith form byte3 p) (behindHead p) (small-form, (clusters, (held, (small-byte3, (lit< tt, (marks, tt))))))
     (each-append Holds counts (weights ++ tailOf p) (each-holds 4 (p .counts) (is .counts-u32))
     (each-append Holds weights (tailOf p) (each-holds 8 (bitsOf (p .weights)) (bits-small (p .weights) (is .weights .f64s)))
     (positions .0, (positions .1, (first, (second, (lit< tt, tt)))))))

@@ -24,27 +24,27 @@ says-allowed : (r : ℕ) → (r ≡ 1) ⊎ (r ≡ 2) → ruleAllowed r ≡ true
 unfolding ruleAllowed
 says-allowed r w = ⊎-elim (λ e. rw e) (λ e. rw e) w
 
-module _ (form third : ℕ) where
-  form-means : formRight form third ≡ true → RightForm form third
+module _ (form byte3 : ℕ) where
+  form-means : formRight form byte3 ≡ true → RightForm form byte3
   unfolding formRight
   form-means = go (eqb form 1) refl
     where
-      go : (a : Bool) → eqb form 1 ≡ a → cond a (eqb third 0) (eqb form 2 && ruleAllowed third) ≡ true → RightForm form third
-      go true e h = inl (record { one = eqb-true form 1 e; no-rule = eqb-true third 0 h })
+      go : (a : Bool) → eqb form 1 ≡ a → cond a (eqb byte3 0) (eqb form 2 && ruleAllowed byte3) ≡ true → RightForm form byte3
+      go true e h = inl (record { one = eqb-true form 1 e; no-rule = eqb-true byte3 0 h })
       go false e h =
-          let rule = allowed-says third (and-elim-right (eqb form 2) (ruleAllowed third) h) in
-          inr (record { two = eqb-true form 2 (and-elim-left (eqb form 2) (ruleAllowed third) h); a-rule = rule })
+          let rule = allowed-says byte3 (and-elim-right (eqb form 2) (ruleAllowed byte3) h) in
+          inr (record { two = eqb-true form 2 (and-elim-left (eqb form 2) (ruleAllowed byte3) h); a-rule = rule })
 
-  means-form : RightForm form third → formRight form third ≡ true
+  means-form : RightForm form byte3 → formRight form byte3 ≡ true
   unfolding formRight
-  means-form w = ⊎-elim (λ f. rw (f .one, f .no-rule)) (λ s. rw (s .two) (says-allowed third (s .a-rule))) w
+  means-form w = ⊎-elim (λ f. rw (f .one, f .no-rule)) (λ s. rw (s .two) (says-allowed byte3 (s .a-rule))) w
 
   -- a form and its byte 3 are right exactly where they are form 1 with zero, or form 2 with a rule
-  pub form-exactly : (formRight form third ≡ true) ↔ RightForm form third
+  pub form-exactly : (formRight form byte3 ≡ true) ↔ RightForm form byte3
   form-exactly = (form-means, means-form)
 
   -- so both are bytes
-  pub form-small : RightForm form third → (form < 256) × (third < 256)
+  pub form-small : RightForm form byte3 → (form < 256) × (byte3 < 256)
   form-small w =
       ⊎-elim (λ f. (omega (arith, f .one), omega (arith, f .no-rule)))
       (λ s. (omega (arith, s .two), ⊎-elim (λ e. omega arith) (λ e. omega arith) (s .a-rule))) w
@@ -55,11 +55,11 @@ unfolding formRight
 second-form rule h = h
 
 -- and has it in its byte 3
-pub second-rule : (form third : ℕ) → form ≡ 2 → ruleBy form third ≡ third
+pub second-rule : (form byte3 : ℕ) → form ≡ 2 → ruleBy form byte3 ≡ byte3
 unfolding ruleBy
-second-rule form third e = rw e
+second-rule form byte3 e = rw e
 
 -- form 1 has rule 1
-pub first-rule : (form third : ℕ) → form ≡ 1 → ruleBy form third ≡ 1
+pub first-rule : (form byte3 : ℕ) → form ≡ 1 → ruleBy form byte3 ≡ 1
 unfolding ruleBy
-first-rule form third e = rw e
+first-rule form byte3 e = rw e

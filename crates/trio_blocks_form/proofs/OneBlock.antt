@@ -21,7 +21,7 @@ use Rattle.trio_parts.specs.Part.{rowCount, gives}
 use Rattle.trio_parts.specs.Sound.{soundPart}
 use Rattle.trio_parts.proofs.SoundLaws.{sound-right}
 use Rattle.trio_blocks_form.specs.Writing.{layoutWith, bodyWith, withCheck, blockWith, blockOf, writtenOf}
-use Rattle.trio_blocks_form.specs.Reading.{formIn, thirdIn, ruleBy, partIn, formRight, fixedRight, unusedRight, readOf}
+use Rattle.trio_blocks_form.specs.Reading.{formIn, byte3In, ruleBy, partIn, formRight, fixedRight, unusedRight, readOf}
 use Rattle.trio_blocks_form.specs.ReadWhen.{formByte}
 use Rattle.trio_blocks_form.specs.declared.written.Written.{Written}
 use Rattle.trio_blocks_form.proofs.Forms.{second-rule}
@@ -46,7 +46,7 @@ joined f n h k m c q r ez ew es et ee = rw (ez, ew, es, et, ee)
 module _ (b : List ℕ) (is : BlockBytes b) (fixed : fixedRight b ≡ true) (shape : RightShape (partIn b)) where
   zeros : (zeroIn 4 8 b && zeroIn 200 510 b) ≡ true
   unfolding fixedRight
-  zeros = and-elim-right (formRight (formIn b) (thirdIn b)) (zeroIn 4 8 b && zeroIn 200 510 b) fixed
+  zeros = and-elim-right (formRight (formIn b) (byte3In b)) (zeroIn 4 8 b && zeroIn 200 510 b) fixed
 
   first-zeros : wholeAt 4 4 b ≡ 0
   first-zeros = zero-at 4 4 b (and-elim-left (zeroIn 4 8 b) (zeroIn 200 510 b) zeros)
@@ -54,7 +54,7 @@ module _ (b : List ℕ) (is : BlockBytes b) (fixed : fixedRight b ≡ true) (sha
   last-zeros : wholeAt 200 310 b ≡ 0
   last-zeros = zero-at 200 310 b (and-elim-right (zeroIn 4 8 b) (zeroIn 200 510 b) zeros)
 
-  layout-same : layoutWith (formIn b) (thirdIn b) (partIn b) ≡ layoutAt b
+  layout-same : layoutWith (formIn b) (byte3In b) (partIn b) ≡ layoutAt b
   unfolding layoutWith partIn layoutAt
   layout-same =
       let held = partIn b .held in
@@ -68,13 +68,13 @@ module _ (b : List ℕ) (is : BlockBytes b) (fixed : fixedRight b ≡ true) (sha
 
   -- ---- and so are the bytes
 
-  body-same : bodyWith (formIn b) (thirdIn b) (partIn b) ≡ take 510 b
+  body-same : bodyWith (formIn b) (byte3In b) (partIn b) ≡ take 510 b
   unfolding bodyWith widths
   body-same =
       let room : 510 ≤ length b = omega (arith, is .long) in
       ap asBytes (layout-same ∙ sym (fields-at b)) ∙ written-read widths b (is .bytes) room
 
-  block-same : checkRight b ≡ true → blockWith (formIn b) (thirdIn b) (partIn b) ≡ b
+  block-same : checkRight b ≡ true → blockWith (formIn b) (byte3In b) (partIn b) ≡ b
   unfolding blockWith checkRight
   block-same right =
       let last = drop 510 b in
@@ -88,15 +88,15 @@ module _ (b : List ℕ) (is : BlockBytes b) (fixed : fixedRight b ≡ true) (sha
       ∙ take-append-drop 510 b
 
 -- B9: bytes that are read as a part are its block of their form
-pub same-form : (b : List ℕ) (p : Part) → BlockBytes b → readOf b ≡ gives Done p → blockWith (formIn b) (thirdIn b) p ≡ b
+pub same-form : (b : List ℕ) (p : Part) → BlockBytes b → readOf b ≡ gives Done p → blockWith (formIn b) (byte3In b) p ≡ b
 same-form b p is e =
     let a = accepted b p e in
     let shape = right-shape (partIn b) (sound-right (partIn b) (ap soundPart (a .same) ∙ a .sound)) in
     let fixed = and-elim-left (fixedRight b) (unusedRight b) (a .laid-out) in
-    ap (blockWith (formIn b) (thirdIn b)) (sym (a .same)) ∙ block-same b is fixed shape (a .sent .checks)
+    ap (blockWith (formIn b) (byte3In b)) (sym (a .same)) ∙ block-same b is fixed shape (a .sent .checks)
 
 -- B12: and the rule that it has is that of the part
-pub rule-in : (b : List ℕ) (p : Part) → readOf b ≡ gives Done p → ruleBy (formIn b) (thirdIn b) ≡ p .rule
+pub rule-in : (b : List ℕ) (p : Part) → readOf b ≡ gives Done p → ruleBy (formIn b) (byte3In b) ≡ p .rule
 unfolding partIn
 rule-in b p e = ap (λ (q : Part). q .rule) (accepted b p e .same)
 
@@ -106,7 +106,7 @@ pub one-block : (b : List ℕ) (p : Part) → BlockBytes b → formByte b ≡ 2 
 unfolding writtenOf
 one-block b p is two e =
     let form : formIn b ≡ 2 = at-byte 0 b ∙ two in
-    let rule : p .rule ≡ thirdIn b = sym (rule-in b p e) ∙ second-rule (formIn b) (thirdIn b) form in
+    let rule : p .rule ≡ byte3In b = sym (rule-in b p e) ∙ second-rule (formIn b) (byte3In b) form in
     let block : blockOf p ≡ b = ap₂ (λ (f r : ℕ). blockWith f r p) (sym form) rule ∙ same-form b p is e in
     rw (accepted b p e .sound, block)
 

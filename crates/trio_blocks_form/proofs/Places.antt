@@ -26,12 +26,12 @@ use Rattle.trio_blocks_form.proofs.Shape.{RightShape}
 
 -- ---- what stands in a block from a byte on
 
-module _ (form third : ℕ) (p : Part) (is : TypedPart p) where
+module _ (form byte3 : ℕ) (p : Part) (is : TypedPart p) where
   abbrev body : List ℕ
-  body = bodyWith form third p
+  body = bodyWith form byte3 p
 
   abbrev block : List ℕ
-  block = blockWith form third p
+  block = blockWith form byte3 p
 
   abbrev check : List ℕ
   check = bytesOf 2 (checkOf body)
@@ -52,13 +52,13 @@ module _ (form third : ℕ) (p : Part) (is : TypedPart p) where
   many-weights =
       same-length 8 (bitsOf (p .weights)) ∙ ap (λ (n : ℕ). 8 * n) (length-map (p .weights) (toBits binary64) ∙ is .weights .places)
 
-  parts : body ≡ asBytes (headWith form third p) ++ (counts ++ (weights ++ tail))
+  parts : body ≡ asBytes (headWith form byte3 p) ++ (counts ++ (weights ++ tail))
   unfolding bodyWith layoutWith
   parts =
       let w = fieldsOf 8 (bitsOf (p .weights)) in
       let c = fieldsOf 4 (p .counts) in
-      fields-append (headWith form third p) (behindHead p)
-      ∙ ap (λ (l : List ℕ). asBytes (headWith form third p) ++ l)
+      fields-append (headWith form byte3 p) (behindHead p)
+      ∙ ap (λ (l : List ℕ). asBytes (headWith form byte3 p) ++ l)
       (fields-append c (w ++ tailOf p) ∙ ap (λ (l : List ℕ). counts ++ l) (fields-append w (tailOf p)))
 
   pub long-body : length body ≡ 510
@@ -126,9 +126,9 @@ held-zero f none (suc (suc n)) a b u = rw (drop-nil n)
 
 -- ---- their bytes
 
-module _ (form third : ℕ) (p : Part) (is : TypedPart p) (right : RightShape p) where
+module _ (form byte3 : ℕ) (p : Part) (is : TypedPart p) (right : RightShape p) where
   abbrev b : List ℕ
-  b = blockWith form third p
+  b = blockWith form byte3 p
 
   abbrev n : ℕ
   n = p .clusters
@@ -140,7 +140,7 @@ module _ (form third : ℕ) (p : Part) (is : TypedPart p) (right : RightShape p)
   unused-counts =
       let zero = places-zero _ noCount (3 * n) (p .counts) (right .counts) in
       ap (λ (k : ℕ). zeroIn (16 + k) 112 b) (twelve n)
-      ∙ zero-part 16 4 (3 * n) 96 (p .counts) _ b (from-16 form third p is) (many-counts form third p is) zero
+      ∙ zero-part 16 4 (3 * n) 96 (p .counts) _ b (from-16 form byte3 p is) (many-counts form byte3 p is) zero
     where
       twelve : (n : ℕ) → 12 * n ≡ 4 * (3 * n)
       twelve n = omega arith
@@ -148,17 +148,17 @@ module _ (form third : ℕ) (p : Part) (is : TypedPart p) (right : RightShape p)
   unused-weights : zeroIn (112 + 8 * n) 176 b ≡ true
   unused-weights =
       let zero = zero-bits n (p .weights) (places-zero weightAllowed noWeight n (p .weights) (right .weights)) in
-      zero-part 112 8 n 64 (bitsOf (p .weights)) _ b (from-112 form third p is) (many-weights form third p is) zero
+      zero-part 112 8 n 64 (bitsOf (p .weights)) _ b (from-112 form byte3 p is) (many-weights form byte3 p is) zero
 
   unused-positions : zeroIn (176 + 4 * h) 184 b ≡ true
   unused-positions =
       let zero = held-zero (λ e. e .position) no-position h (p .held .first) (p .held .second) (right .unused) in
-      zero-part 176 4 h 8 (positions form third p is) _ b (from-176 form third p is) refl zero
+      zero-part 176 4 h 8 (positions form byte3 p is) _ b (from-176 form byte3 p is) refl zero
 
   unused-scores : zeroIn (184 + 8 * h) 200 b ≡ true
   unused-scores =
       let zero = held-zero (λ e. toBits binary64 (e .score)) no-score h (p .held .first) (p .held .second) (right .unused) in
-      zero-part 184 8 h 16 (scores form third p is) _ b (from-184 form third p is) refl zero
+      zero-part 184 8 h 16 (scores form byte3 p is) _ b (from-184 form byte3 p is) refl zero
 
   -- so the layout of the block is right, once its numbers of clusters and of triples are those of the part
   pub unused-zero : clustersIn b ≡ n → heldIn b ≡ h → unusedRight b ≡ true

@@ -21,7 +21,7 @@ use Rattle.trio_parts.proofs.SoundLaws.{sound-right, wrong-unsound}
 use Rattle.trio_blocks_form.specs.declared.written.Written.{Written}
 use Rattle.trio_blocks_form.specs.Writing.{writtenOf}
 use Rattle.trio_blocks_form.specs.Reading.{clustersIn, heldIn, partIn, layoutRight, refuses, readOf}
-use Rattle.trio_blocks_form.specs.ReadWhen.{formByte, thirdByte, RightForm, WellSent}
+use Rattle.trio_blocks_form.specs.ReadWhen.{formByte, ruleByte, RightForm, WellSent}
 use Rattle.trio_blocks_form.proofs.Shape.{right-shape, held-at-most}
 use Rattle.trio_blocks_form.proofs.Accepted.{layout-exactly}
 use Rattle.trio_blocks_form.proofs.Changed.{only-false}
@@ -47,7 +47,7 @@ pub empty-written : writtenOf emptyPart ≡ record { refusal = BadPart; block = 
 unfolding rightPart inputRight
 empty-written = bad-written emptyPart (wrong-unsound emptyPart refl)
 
--- T13: so of one whose rule there is not
+-- T13, R12: and of one whose rule is no rule
 pub no-rule-written : (p : Part) → ruleAllowed (p .rule) ≡ false → writtenOf p ≡ record { refusal = BadPart; block = replicate 512 0 }
 no-rule-written p h =
     bad-written p (only-false (soundPart p) (λ e. true≢false (sym (right-shape p (sound-right p e) .rule) ∙ h)))
@@ -60,7 +60,7 @@ unfolding readOf checkRight
 zeros-refused = refl
 
 module _ (b : List ℕ) (sent : WellSent b) where
-  wrong-layout : (RightForm (formByte b) (thirdByte b) → ⊥) → readOf b ≡ refuses Layout
+  wrong-layout : (RightForm (formByte b) (ruleByte b) → ⊥) → readOf b ≡ refuses Layout
   unfolding readOf
   wrong-layout never =
       let wrong = only-false (layoutRight b) (λ e. never (layout-exactly b .0 e .form)) in
@@ -71,12 +71,12 @@ module _ (b : List ℕ) (sent : WellSent b) where
   other-form one two = wrong-layout (λ w. ⊎-elim (λ f. one (f .one)) (λ s. two (s .two)) w)
 
   -- B12, R15: form 1 has zero in byte 3
-  pub form-1-third : formByte b ≡ 1 → thirdByte b ≢ 0 → readOf b ≡ refuses Layout
-  form-1-third one set = wrong-layout (λ w. ⊎-elim (λ f. set (f .no-rule)) (λ s. omega (arith, one, s .two)) w)
+  pub form-1-rule-byte : formByte b ≡ 1 → ruleByte b ≢ 0 → readOf b ≡ refuses Layout
+  form-1-rule-byte one set = wrong-layout (λ w. ⊎-elim (λ f. set (f .no-rule)) (λ s. omega (arith, one, s .two)) w)
 
   -- B12, R15: form 2 has 1 or 2 there
-  pub form-2-third : formByte b ≡ 2 → thirdByte b ≢ 1 → thirdByte b ≢ 2 → readOf b ≡ refuses Layout
-  form-2-third two no-1 no-2 = wrong-layout (λ w. ⊎-elim (λ f. omega (arith, two, f .one)) (λ s. ⊎-elim no-1 no-2 (s .a-rule)) w)
+  pub form-2-rule-byte : formByte b ≡ 2 → ruleByte b ≢ 1 → ruleByte b ≢ 2 → readOf b ≡ refuses Layout
+  form-2-rule-byte two no-1 no-2 = wrong-layout (λ w. ⊎-elim (λ f. omega (arith, two, f .one)) (λ s. ⊎-elim no-1 no-2 (s .a-rule)) w)
 
 module _ (b : List ℕ) where
   -- B5, R12: more than 8 clusters are no sound part, whatever else stands in the block

@@ -24,7 +24,7 @@ use Rattle.trio_parts.specs.Sound.{soundPart}
 use Rattle.trio_parts.specs.Typed.{TypedPart}
 use Rattle.trio_parts.proofs.SoundLaws.{sound-right, sound-true}
 use Rattle.trio_blocks_form.specs.Writing.{bitsOf, headWith, tailOf, behindHead, layoutWith, bodyWith, blockWith, blockOf, writtenOf}
-use Rattle.trio_blocks_form.specs.Reading.{formIn, thirdIn, ruleBy, weightsIn, partIn, formRight, fixedRight, readOf}
+use Rattle.trio_blocks_form.specs.Reading.{formIn, byte3In, ruleBy, weightsIn, partIn, formRight, fixedRight, readOf}
 use Rattle.trio_blocks_form.specs.declared.written.Written.{Written}
 use Rattle.trio_blocks_form.proofs.Forms.{form-exactly, form-small, second-form, second-rule}
 use Rattle.trio_blocks_form.proofs.Shape.{RightShape, right-shape}
@@ -34,15 +34,15 @@ use Rattle.trio_blocks_form.proofs.Places.{long-body, last-zero, unused
 
 -- ---- the block of a part
 
-module _ (form third : ℕ) (p : Part) (is : TypedPart p) where
+module _ (form byte3 : ℕ) (p : Part) (is : TypedPart p) where
   abbrev body : List ℕ
-  body = bodyWith form third p
+  body = bodyWith form byte3 p
 
   abbrev block : List ℕ
-  block = blockWith form third p
+  block = blockWith form byte3 p
 
   body-510 : length body ≡ 510
-  body-510 = long-body form third p is
+  body-510 = long-body form byte3 p is
 
   block-512 : length block ≡ 512
   unfolding blockWith
@@ -54,7 +54,7 @@ module _ (form third : ℕ) (p : Part) (is : TypedPart p) where
   block-bytes =
       record {
         long = block-512;
-        bytes = bytes-append body (bytesOf 2 (checkOf body)) (bytes-fields (layoutWith form third p)) (bytes-of 2 (checkOf body));
+        bytes = bytes-append body (bytesOf 2 (checkOf body)) (bytes-fields (layoutWith form byte3 p)) (bytes-of 2 (checkOf body));
       }
 
   -- and its check is right
@@ -77,26 +77,26 @@ same-values : (w : ℕ) (vs : List ℕ) → valuesOf (fieldsOf w vs) ≡ vs
 same-values w [] = refl
 same-values w (v ∷ vs) = ap (λ (l : List ℕ). v ∷ l) (same-values w vs)
 
-module _ (form third : ℕ) (p : Part) (is : TypedPart p) (right : RightShape p) (said : formRight form third ≡ true) where
+module _ (form byte3 : ℕ) (p : Part) (is : TypedPart p) (right : RightShape p) (said : formRight form byte3 ≡ true) where
   abbrev b : List ℕ
-  b = blockWith form third p
+  b = blockWith form byte3 p
 
   abbrev bits : List ℕ
   bits = bitsOf (p .weights)
 
   -- the fields that stand in the block are those that were written
-  fields-back : layoutAt b ≡ layoutWith form third p
+  fields-back : layoutAt b ≡ layoutWith form byte3 p
   unfolding blockWith bodyWith
   fields-back =
-      let small = form-small form third (form-exactly form third .0 said) in
+      let small = form-small form byte3 (form-exactly form byte3 .0 said) in
       sym (fields-at b)
-      ∙ ap (λ (ws : List ℕ). fieldsIn ws b) (sym (widths-are form third p is))
-      ∙ read-written (layoutWith form third p) (bytesOf 2 (checkOf (bodyWith form third p)))
-      (layout-holds form third p (small .0) (small .1) is right)
+      ∙ ap (λ (ws : List ℕ). fieldsIn ws b) (sym (widths-are form byte3 p is))
+      ∙ read-written (layoutWith form byte3 p) (bytesOf 2 (checkOf (bodyWith form byte3 p)))
+      (layout-holds form byte3 p (small .0) (small .1) is right)
 
   -- their numbers: behind six of the head the counts, the weights, and five more
   abbrev written : List ℕ
-  written = valuesOf (headWith form third p) ++ (p .counts ++ (bits ++ valuesOf (tailOf p)))
+  written = valuesOf (headWith form byte3 p) ++ (p .counts ++ (bits ++ valuesOf (tailOf p)))
 
   values-back : valuesOf (layoutAt b) ≡ written
   unfolding layoutWith
@@ -105,8 +105,8 @@ module _ (form third : ℕ) (p : Part) (is : TypedPart p) (right : RightShape p)
       let counts = fieldsOf 4 (p .counts) in
       let weights = fieldsOf 8 bits in
       ap valuesOf fields-back
-      ∙ map-append value (headWith form third p) (behindHead p)
-      ∙ ap (λ (l : List ℕ). valuesOf (headWith form third p) ++ l)
+      ∙ map-append value (headWith form byte3 p) (behindHead p)
+      ∙ ap (λ (l : List ℕ). valuesOf (headWith form byte3 p) ++ l)
       (map-append value counts (weights ++ tailOf p)
       ∙ rw (same-values 4 (p .counts), map-append value weights (tailOf p), same-values 8 bits))
 
@@ -120,9 +120,9 @@ module _ (form third : ℕ) (p : Part) (is : TypedPart p) (right : RightShape p)
   unfolding layoutAt
   form-back = head-back 0
 
-  third-back : thirdIn b ≡ third
+  byte3-back : byte3In b ≡ byte3
   unfolding layoutAt
-  third-back = head-back 3
+  byte3-back = head-back 3
 
   clusters-back : wholeAt 1 1 b ≡ p .clusters
   unfolding layoutAt
@@ -188,10 +188,10 @@ module _ (form third : ℕ) (p : Part) (is : TypedPart p) (right : RightShape p)
   fixed-back : fixedRight b ≡ true
   unfolding fixedRight
   fixed-back =
-      let head : formRight (formIn b) (thirdIn b) ≡ true = rw (form-back, third-back) said in
-      and-intro head (and-intro four-zero (last-zero form third p is))
+      let head : formRight (formIn b) (byte3In b) ≡ true = rw (form-back, byte3-back) said in
+      and-intro head (and-intro four-zero (last-zero form byte3 p is))
 
-  part-back : soundPart p ≡ true → ruleBy form third ≡ p .rule → partIn b ≡ p
+  part-back : soundPart p ≡ true → ruleBy form byte3 ≡ p .rule → partIn b ≡ p
   unfolding partIn
   part-back sound rule =
       rw (
@@ -199,7 +199,7 @@ module _ (form third : ℕ) (p : Part) (is : TypedPart p) (right : RightShape p)
         counts-back,
         floats-there,
         form-back,
-        third-back,
+        byte3-back,
         rule,
         marks-back,
         held-back,
@@ -211,19 +211,19 @@ module _ (form third : ℕ) (p : Part) (is : TypedPart p) (right : RightShape p)
       )
 
 -- a sound part that the types allow comes back from its block of any right form that has its rule
-pub read-back-with : (form third : ℕ) (p : Part) → TypedPart p → soundPart p ≡ true → formRight form third ≡ true
-    → ruleBy form third ≡ p .rule → readOf (blockWith form third p) ≡ gives Done p
+pub read-back-with : (form byte3 : ℕ) (p : Part) → TypedPart p → soundPart p ≡ true → formRight form byte3 ≡ true
+    → ruleBy form byte3 ≡ p .rule → readOf (blockWith form byte3 p) ≡ gives Done p
 unfolding readOf
-read-back-with form third p is sound said rule =
+read-back-with form byte3 p is sound said rule =
     let right = right-shape p (sound-right p sound) in
-    let clusters = clusters-back form third p is right said in
-    let held = held-back form third p is right said in
+    let clusters = clusters-back form byte3 p is right said in
+    let held = held-back form byte3 p is right said in
     rw (
-      eq-eqb (length (blockWith form third p)) 512 (block-bytes form third p is .long),
-      block-checked form third p is,
-      fixed-back form third p is right said,
-      unused-zero form third p is right clusters held,
-      part-back form third p is right said sound rule,
+      eq-eqb (length (blockWith form byte3 p)) 512 (block-bytes form byte3 p is .long),
+      block-checked form byte3 p is,
+      fixed-back form byte3 p is right said,
+      unused-zero form byte3 p is right clusters held,
+      part-back form byte3 p is right said sound rule,
       sound,
     )
 

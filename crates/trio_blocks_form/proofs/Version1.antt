@@ -16,7 +16,7 @@ use Rattle.trio_parts.specs.Sound.{soundPart}
 use Rattle.trio_parts.specs.Typed.{TypedPart}
 use Rattle.trio_blocks_form.specs.Writing.{layoutWith, bodyWith, blockWith, blockOf}
 use Rattle.trio_blocks_form.specs.Version1.{blockOf1}
-use Rattle.trio_blocks_form.specs.Reading.{formIn, thirdIn, readOf}
+use Rattle.trio_blocks_form.specs.Reading.{formIn, byte3In, readOf}
 use Rattle.trio_blocks_form.specs.ReadWhen.{formByte}
 use Rattle.trio_blocks_form.proofs.Forms.{form-exactly, first-rule}
 use Rattle.trio_blocks_form.proofs.RoundTrip.{read-back-with, block-read-back}
@@ -38,15 +38,15 @@ version-1-read p is sound rule =
 pub version-1-only : (b : List ℕ) (p : Part) → BlockBytes b → formByte b ≡ 1 → readOf b ≡ gives Done p → (p .rule ≡ 1) × (blockOf1 p ≡ b)
 version-1-only b p is one e =
     let form : formIn b ≡ 1 = at-byte 0 b ∙ one in
-    let third : thirdIn b ≡ 0 =
+    let byte3 : byte3In b ≡ 0 =
     at-byte 3 b ∙ ⊎-elim (λ f. f .no-rule) (λ s. absurd (omega (arith, s .two))) (layout-exactly b .0 (accepted b p e .laid-out) .form) in (
-      sym (rule-in b p e) ∙ first-rule (formIn b) (thirdIn b) form,
-      first-with p ∙ ap₂ (λ (f r : ℕ). blockWith f r p) (sym form) (sym third) ∙ same-form b p is e,
+      sym (rule-in b p e) ∙ first-rule (formIn b) (byte3In b) form,
+      first-with p ∙ ap₂ (λ (f r : ℕ). blockWith f r p) (sym form) (sym byte3) ∙ same-form b p is e,
     )
 
-first-byte : (form third : ℕ) (p : Part) → getD (blockWith form third p) 0 0 ≡ form % 256
+first-byte : (form byte3 : ℕ) (p : Part) → getD (blockWith form byte3 p) 0 0 ≡ form % 256
 unfolding blockWith bodyWith layoutWith
-first-byte form third p = refl
+first-byte form byte3 p = refl
 
 -- B9, B12: so a part under rule 1 has a block of each form, and these are two
 pub two-blocks : (p : Part) → TypedPart p → soundPart p ≡ true → p .rule ≡ 1

@@ -56,14 +56,14 @@ fields-at b =
 
 -- ---- of every part that the types allow
 
-pub widths-are : (form third : ℕ) (p : Part) → TypedPart p → widthsOf (layoutWith form third p) ≡ widths
+pub widths-are : (form byte3 : ℕ) (p : Part) → TypedPart p → widthsOf (layoutWith form byte3 p) ≡ widths
 unfolding widths layoutWith
-widths-are form third p is =
+widths-are form byte3 p is =
     let width : Field → ℕ = λ f. f .width in
     let counts = fieldsOf 4 (p .counts) in
     let weights = fieldsOf 8 (bitsOf (p .weights)) in
     let eight : length (bitsOf (p .weights)) ≡ 8 = length-map (p .weights) (toBits binary64) ∙ is .weights .places in
-    map-append width (headWith form third p) (behindHead p)
+    map-append width (headWith form byte3 p) (behindHead p)
     ∙ ap (λ (l : List ℕ). headWidths ++ l)
     (map-append width counts (weights ++ tailOf p)
     ∙ ap₂ _++_ (same-widths 4 (p .counts) ∙ ap (λ (n : ℕ). replicate n 4) (is .counts-24))

@@ -14,18 +14,18 @@ use Rattle.trio_parts.specs.Sound.{soundPart}
 use Rattle.trio_blocks_form.specs.Reading.{partIn, layoutRight}
 
 -- B12: form 1, with zero in byte 3
-pub record FirstForm (form third : ℕ) : Type 0 where
+pub record FirstForm (form byte3 : ℕ) : Type 0 where
   pub one : form ≡ 1
-  pub no-rule : third ≡ 0
+  pub no-rule : byte3 ≡ 0
 
 -- B12: form 2, with a rule in byte 3
-pub record SecondForm (form third : ℕ) : Type 0 where
+pub record SecondForm (form byte3 : ℕ) : Type 0 where
   pub two : form ≡ 2
-  pub a-rule : (third ≡ 1) ⊎ (third ≡ 2)
+  pub a-rule : (byte3 ≡ 1) ⊎ (byte3 ≡ 2)
 
 -- B5, B12: what a right form and a right byte 3 are
 abbrev pub RightForm : ℕ → ℕ → Type 0
-RightForm form third = FirstForm form third ⊎ SecondForm form third
+RightForm form byte3 = FirstForm form byte3 ⊎ SecondForm form byte3
 
 -- B5: what a right layout is, byte by byte. That `layoutRight` tells just that: `layout-exactly` (trio_blocks_form/proofs/Accepted.antt)
 module _ (b : List ℕ) where
@@ -37,8 +37,8 @@ module _ (b : List ℕ) where
   abbrev pub formByte : ℕ
   formByte = getD b 0 0
 
-  abbrev pub thirdByte : ℕ
-  thirdByte = getD b 3 0
+  abbrev pub ruleByte : ℕ
+  ruleByte = getD b 3 0
 
   -- B1: the cluster number, and how many triples are held
   abbrev pub clusterByte : ℕ
@@ -48,8 +48,8 @@ module _ (b : List ℕ) where
   heldByte = getD b 2 0
 
   pub record RightLayout : Type 0 where
-    pub form : RightForm formByte thirdByte
-    pub behind-third : Zeros 4 8
+    pub form : RightForm formByte ruleByte
+    pub behind-rule-byte : Zeros 4 8
     pub behind-scores : Zeros 200 510
     pub counts-unused : Zeros (16 + 12 * clusterByte) 112
     pub weights-unused : Zeros (112 + 8 * clusterByte) 176

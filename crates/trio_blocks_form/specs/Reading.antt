@@ -23,12 +23,12 @@ use Rattle.trio_parts.specs.Sound.{soundPart}
 abbrev pub formIn : List ℕ → ℕ
 formIn b = wholeAt 0 1 b
 
-abbrev pub thirdIn : List ℕ → ℕ
-thirdIn b = wholeAt 3 1 b
+abbrev pub byte3In : List ℕ → ℕ
+byte3In b = wholeAt 3 1 b
 
 -- B12: a block of form 1 is of rule 1, any other of the rule in its byte 3
 unfoldable pub ruleBy : ℕ → ℕ → ℕ
-ruleBy form third = cond (eqb form 1) 1 third
+ruleBy form byte3 = cond (eqb form 1) 1 byte3
 
 -- B1: the cluster number, and how many triples are held
 abbrev pub clustersIn : List ℕ → ℕ
@@ -56,7 +56,7 @@ partIn b =
       clusters = clustersIn b;
       counts = countsIn b;
       weights = weightsIn b;
-      rule = ruleBy (formIn b) (thirdIn b);
+      rule = ruleBy (formIn b) (byte3In b);
       scores = listsOf (clustersIn b) (countsIn b) (weightsIn b);
       marks = wholeAt 8 8 b;
       held = record { count = heldIn b; first = entryIn 176 184 b; second = entryIn 180 192 b };
@@ -66,11 +66,11 @@ partIn b =
 
 -- B5, B12: byte 3 is zero in form 1, and a rule in form 2; there is no other form
 unfoldable pub formRight : ℕ → ℕ → Bool
-formRight form third = cond (eqb form 1) (eqb third 0) (eqb form 2 && ruleAllowed third)
+formRight form byte3 = cond (eqb form 1) (eqb byte3 0) (eqb form 2 && ruleAllowed byte3)
 
 -- B5: the form and byte 3 are right, bytes 4 to 7 are zero, and so are bytes 200 to 509
 unfoldable pub fixedRight : List ℕ → Bool
-fixedRight b = formRight (formIn b) (thirdIn b) && (zeroIn 4 8 b && zeroIn 200 510 b)
+fixedRight b = formRight (formIn b) (byte3In b) && (zeroIn 4 8 b && zeroIn 200 510 b)
 
 -- B5: of n clusters 3·n counts and n weights are in use, of h held triples h positions and h scores; the places behind these are zero, up
 -- to the end of the counts, of the weights, of the positions and of the scores. More than 8 clusters leave none of the first two, more

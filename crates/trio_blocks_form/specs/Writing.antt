@@ -17,8 +17,8 @@ bitsOf l = map (toBits binary64) l
 
 -- B1, B12: the form of the block, the cluster number, how many triples are held, byte 3, four zero bytes, and the marks: bytes 0 to 15
 abbrev pub headWith : ℕ → ℕ → Part → List Field
-headWith form third p =
-    field 1 form ∷ field 1 (p .clusters) ∷ field 1 (p .held .count) ∷ field 1 third ∷ field 4 0 ∷ field 8 (p .marks) ∷ []
+headWith form byte3 p =
+    field 1 form ∷ field 1 (p .clusters) ∷ field 1 (p .held .count) ∷ field 1 byte3 ∷ field 4 0 ∷ field 8 (p .marks) ∷ []
 
 -- B1: the two positions, then the two scores: bytes 176 to 199; and zeros to byte 509
 abbrev pub tailOf : Part → List Field
@@ -36,11 +36,11 @@ behindHead p = fieldsOf 4 (p .counts) ++ (fieldsOf 8 (bitsOf (p .weights)) ++ ta
 
 -- B1: all that stands before the check
 unfoldable pub layoutWith : ℕ → ℕ → Part → List Field
-layoutWith form third p = headWith form third p ++ behindHead p
+layoutWith form byte3 p = headWith form byte3 p ++ behindHead p
 
 -- B1, B2: the same as bytes
 unfoldable pub bodyWith : ℕ → ℕ → Part → List ℕ
-bodyWith form third p = asBytes (layoutWith form third p)
+bodyWith form byte3 p = asBytes (layoutWith form byte3 p)
 
 -- B1, B3: bytes, and behind them their check, in two bytes
 abbrev pub withCheck : List ℕ → List ℕ
@@ -48,7 +48,7 @@ withCheck body = body ++ bytesOf 2 (checkOf body)
 
 -- B1, B3: the block of this form, with this byte 3
 unfoldable pub blockWith : ℕ → ℕ → Part → List ℕ
-blockWith form third p = withCheck (bodyWith form third p)
+blockWith form byte3 p = withCheck (bodyWith form byte3 p)
 
 -- B1, B12: the block of a part is of form 2, with the rule in byte 3
 abbrev pub blockOf : Part → List ℕ

@@ -32,15 +32,15 @@ returns c =
     let last = inner .before in
     let first = last .before in
     let form = first .before in
-    let third = form .before in
+    let byte3 = form .before in
     rw (
       c .both2 .ensures,
       inner .both .ensures,
       last .zeros2 .ensures,
       first .zeros .ensures,
       form .form-right .ensures,
-      third .get2 .ensures,
-      third .before .get .ensures,
+      byte3 .get2 .ensures,
+      byte3 .before .get .ensures,
     )
 
 pub fixed-right-spec : {M : Type 1} → statement M

@@ -49,11 +49,11 @@ put-requires-5 c κs = search needs
 returns : tie.Need-returns
 returns c =
     let marks = c .before in
-    let third = marks .before .before .before in
-    let held = third .before .before .before in
+    let byte3 = marks .before .before .before in
+    let held = byte3 .before .before .before in
     let clusters = held .before .before .before in
     let form = clusters .before .before .before in
-    rw (marks .put5 .ensures, third .put4 .ensures, held .put3 .ensures, clusters .put2 .ensures, form .put .ensures)
+    rw (marks .put5 .ensures, byte3 .put4 .ensures, held .put3 .ensures, clusters .put2 .ensures, form .put .ensures)
 
 pub head-spec : {M : Type 1} → statement M
 head-spec =
