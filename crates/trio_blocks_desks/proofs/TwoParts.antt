@@ -25,13 +25,14 @@ use Rattle.trio_search.specs.Shape.{isNoEntry, workRight}
 use Rattle.trio_family.specs.Genotypes.{genotypeCount}
 use Rattle.trio_samples.specs.Scores.{listsOf}
 use Rattle.trio_samples.proofs.ScoresLaws.{ListsFit, lists-fit}
+use Rattle.trio_mendel.specs.Rules.{ruleAllowed}
 use Rattle.trio_parts.specs.declared.part.Part.{Part}
 use Rattle.trio_parts.specs.Part.{weightAllowed, freshPart, gives}
 use Rattle.trio_parts.specs.Right.{inputRight, rightPart}
 use Rattle.trio_parts.specs.Sound.{soundPart}
 use Rattle.trio_parts.specs.Typed.{TypedPart}
 use Rattle.trio_parts.proofs.SoundLaws.{true-sound}
-use Rattle.trio_blocks_form.specs.Writing.{layoutOf, bodyOf, blockOf, writtenOf}
+use Rattle.trio_blocks_form.specs.Writing.{layoutWith, bodyWith, blockWith, blockOf, writtenOf}
 use Rattle.trio_blocks_form.specs.Reading.{readOf}
 use Rattle.trio_blocks_form.specs.Changed.{wordIn, Exchanged}
 use Rattle.trio_blocks_form.proofs.RoundTrip.{block-bytes, round-trip}
@@ -40,11 +41,11 @@ use Rattle.trio_blocks_desks.specs.TwoParts.{calfRead, sireRead}
 -- ---- both are sound
 
 calf-right : rightPart calfRead ≡ true
-unfolding rightPart inputRight weightAllowed workRight isMarked markCount isNoEntry genotypeCount le toBits ofBits ofInt isNan calfRead
+unfolding rightPart inputRight ruleAllowed weightAllowed workRight isMarked markCount isNoEntry genotypeCount le toBits ofBits ofInt isNan calfRead
 calf-right = refl
 
 sire-right : rightPart sireRead ≡ true
-unfolding rightPart inputRight weightAllowed workRight isMarked markCount isNoEntry genotypeCount le toBits ofBits ofInt isNan sireRead
+unfolding rightPart inputRight ruleAllowed weightAllowed workRight isMarked markCount isNoEntry genotypeCount le toBits ofBits ofInt isNan sireRead
 sire-right = refl
 
 calf-sound : soundPart calfRead ≡ true
@@ -71,7 +72,7 @@ two-small (c ∷ l) h (suc i) = two-small l (and-elim-right (leb c 2) _ h) i
 -- an opened trio of one cluster with such counts and a weight of 0 is a part as the types have them
 module _ (counts : List ℕ) (many : length (padded 24 0 counts) ≡ 24) (small : every (λ c. leb c 2) (padded 24 0 counts) ≡ true) where
   abbrev opened : Part
-  opened = freshPart 1 counts (nat 0 ∷ [])
+  opened = freshPart 1 counts (nat 0 ∷ []) 1
 
   fit : ListsFit (opened .scores)
   fit = lists-fit 1 (padded 24 0 counts) (padded 8 (nat 0) (nat 0 ∷ []))
@@ -106,15 +107,15 @@ alike i = eqb i 8 || (eqb i 10 || eqb (wordIn i (blockOf sireRead)) (wordIn i (b
 
 -- each of the 256 compared
 same-words : T (every alike (numbers 0 256))
-unfolding blockOf bodyOf layoutOf calfRead sireRead toBits ofBits ofInt
+unfolding blockWith bodyWith layoutWith calfRead sireRead toBits ofBits ofInt
 same-words = tt
 
 first-word : wordIn 8 (blockOf sireRead) ≡ wordIn 10 (blockOf calfRead)
-unfolding blockOf bodyOf layoutOf calfRead sireRead
+unfolding blockWith bodyWith layoutWith calfRead sireRead
 first-word = refl
 
 second-word : wordIn 10 (blockOf sireRead) ≡ wordIn 8 (blockOf calfRead)
-unfolding blockOf bodyOf layoutOf calfRead sireRead
+unfolding blockWith bodyWith layoutWith calfRead sireRead
 second-word = refl
 
 -- behind the last byte there is none
@@ -131,8 +132,8 @@ words-exchanged = record { first = first-word; second = second-word; others = λ
     go i h g true e = let near = ltb-true i 256 e in tested i _ _ (every-between alike 0 256 i same-words zero-le (omega arith)) h g
     go i h g false e =
         let far = ltb-false i 256 e in
-        no-word (blockOf sireRead) i (block-bytes sireRead sire-typed .long) far
-        ∙ sym (no-word (blockOf calfRead) i (block-bytes calfRead calf-typed .long) far)
+        no-word (blockOf sireRead) i (block-bytes 2 (sireRead .rule) sireRead sire-typed .long) far
+        ∙ sym (no-word (blockOf calfRead) i (block-bytes 2 (calfRead .rule) calfRead calf-typed .long) far)
 
 reads-of : Part → ℕ
 reads-of p = getD (p .counts) 0 0

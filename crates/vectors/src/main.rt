@@ -89,7 +89,7 @@ fn main() {
     let mut input = io::large_buffer();
     let mut line = io::buffer();
     let mut text = io::large_buffer();
-    let mut words: Words = [0; 5631];
+    let mut words: Words = [0; 5641];
     let mut carried = Carried {
         count: 0,
         well: true,
