@@ -30,11 +30,11 @@ use Rattle.trio_desks.proofs.UnreadCalls.{unread-of, unread-call}
 use Rattle.examples.specs.Examples.{LastOfTwo, Examples}
 
 -- X2: the law of unread trios at two clusters, with its numbers worked out
-unread-mother : (counts : List ℕ) (weights : List Float) → numberOf (openStep 2 counts weights .refusal) ≡ 0
-    → columnTotal 2 counts Mother ≡ 0 → LastOfTwo (callOf 2 counts weights)
+unread-mother : (counts : List ℕ) (weights : List Float) (rule : ℕ) → numberOf (openStep 2 counts weights rule .refusal) ≡ 0
+    → columnTotal 2 counts Mother ≡ 0 → LastOfTwo (callOf 2 counts weights rule)
 unfolding genotypeCount
-unread-mother counts weights accepted none =
-    let l = unread-call 2 counts weights accepted (lit≤ tt) (unread-of 2 counts none) in
+unread-mother counts weights rule accepted none =
+    let l = unread-call 2 counts weights rule accepted (lit≤ tt) (unread-of 2 counts none) in
     record { done = l .is-done; at = l .at; pairs = l .triple-is; ground-is = l .ground-is; quality-is = l .quality-is }
 
 -- X11

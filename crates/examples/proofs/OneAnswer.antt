@@ -49,6 +49,8 @@ use Rattle.trio_family.proofs.genotypes.genotype_count.Reads as genotype-count
 use Rattle.trio_family.proofs.genotypes.genotype_at.Reads as genotype-at
 use Rattle.trio_mendel.proofs.mendel.distinct_pairs.Reads as distinct-pairs
 use Rattle.trio_mendel.proofs.mendel.mendelian_prior.Reads as mendelian-prior
+use Rattle.trio_mendel.proofs.gametes.mendelian_term.Reads as mendelian-term
+use Rattle.trio_mendel.proofs.gametes.rule_allowed.Reads as rule-allowed
 use Rattle.trio_family.proofs.sample.sample_number.Reads as sample-number
 use Rattle.trio_samples.proofs.samples.column_total.Reads as column-total
 use Rattle.trio_samples.proofs.samples.compute_log_likelihood.Reads as compute-log-likelihood
@@ -111,8 +113,10 @@ use Rattle.kernels_c.proofs.admulfas_key.Reads as c-key
 use Rattle.kernels_c.proofs.admulfas_stirling.Reads as c-stirling
 use Rattle.diploid_c.proofs.admulfas_diploid.Reads as c-diploid
 use Rattle.trio_c.proofs.admulfas_trio.Reads as c-trio
+use Rattle.trio_c.proofs.admulfas_trio_by.Reads as c-trio-by
 use Rattle.trio_c.proofs.admulfas_trio_quality.Reads as c-trio-quality
 use Rattle.trio_c.proofs.steps.admulfas_open.Reads as c-open
+use Rattle.trio_c.proofs.steps.admulfas_open_by.Reads as c-open-by
 use Rattle.trio_c.proofs.steps.admulfas_work_row.Reads as c-work-row
 use Rattle.trio_c.proofs.steps.admulfas_merge.Reads as c-merge
 use Rattle.trio_c.proofs.steps.admulfas_close.Reads as c-close
@@ -305,6 +309,12 @@ distinct-pairs-once κ a v w e f = only
 
 pub mendelian-prior-once : OneAnswer mendelian-prior.Post
 mendelian-prior-once κ a v w e f = only
+
+pub mendelian-term-once : OneAnswer mendelian-term.Post
+mendelian-term-once κ a v w e f = only
+
+pub rule-allowed-once : OneAnswer rule-allowed.Post
+rule-allowed-once κ a v w e f = only
 
 pub sample-number-once : OneAnswer sample-number.Post
 sample-number-once κ a v w e f = only
@@ -546,11 +556,38 @@ c-trio-ends κ a v w e f p q = (
   only (p .read-are) (q .read-are),
 )
 
+-- the same under a rule, its fourth parameter
+pub c-trio-by-once : OneAnswer c-trio-by.Post
+c-trio-by-once κ a v w e f p q = only (p .refusal-is) (q .refusal-is)
+
+pub c-trio-by-ends : (κ : _) (a : _) (v w : _) (e f : _) → c-trio-by.Post κ a v e → c-trio-by.Post κ a w f
+    → (e .1 .1 .1 .1 .0 .now ≡ f .1 .1 .1 .1 .0 .now)
+    × (e .1 .1 .1 .1 .1 .0 .now ≡ f .1 .1 .1 .1 .1 .0 .now)
+    × (e .1 .1 .1 .1 .1 .1 .0 .now ≡ f .1 .1 .1 .1 .1 .1 .0 .now)
+    × (e .1 .1 .1 .1 .1 .1 .1 .0 .now ≡ f .1 .1 .1 .1 .1 .1 .1 .0 .now)
+    × (e .1 .1 .1 .1 .1 .1 .1 .1 .0 .now ≡ f .1 .1 .1 .1 .1 .1 .1 .1 .0 .now)
+    × (e .1 .1 .1 .1 .1 .1 .1 .1 .1 .0 .now ≡ f .1 .1 .1 .1 .1 .1 .1 .1 .1 .0 .now)
+    × (e .1 .1 .1 .1 .1 .1 .1 .1 .1 .1 .0 .now ≡ f .1 .1 .1 .1 .1 .1 .1 .1 .1 .1 .0 .now)
+    × (e .1 .1 .1 .1 .1 .1 .1 .1 .1 .1 .1 .0 .now ≡ f .1 .1 .1 .1 .1 .1 .1 .1 .1 .1 .1 .0 .now)
+c-trio-by-ends κ a v w e f p q = (
+  only (p .pairs-are) (q .pairs-are),
+  only (p .score-is) (q .score-is),
+  only (p .ground-is) (q .ground-is),
+  only (p .runner-is) (q .runner-is),
+  only (p .position-is) (q .position-is),
+  only (p .second-is) (q .second-is),
+  only (p .quality-is) (q .quality-is),
+  only (p .read-are) (q .read-are),
+)
+
 pub c-trio-quality-once : OneAnswer c-trio-quality.Post
 c-trio-quality-once κ a v w e f = only
 
 pub c-open-once : OneAnswer c-open.Post
 c-open-once κ a v w e f p q = only (p .part-is) (q .part-is)
+
+pub c-open-by-once : OneAnswer c-open-by.Post
+c-open-by-once κ a v w e f p q = only (p .part-is) (q .part-is)
 
 pub c-work-row-once : OneAnswer c-work-row.Post
 c-work-row-once κ a v w e f p q = only (p .part-is) (q .part-is)
@@ -561,6 +598,10 @@ c-merge-once κ a v w e f p q = only (p .part-is) (q .part-is)
 -- and so is the refusal's number that each leaves behind its `&mut`, its last parameter
 pub c-open-ends : (κ : _) (a : _) (v w : _) (e f : _) → c-open.Post κ a v e → c-open.Post κ a w f → e .1 .1 .1 .0 .now ≡ f .1 .1 .1 .0 .now
 c-open-ends κ a v w e f p q = only (p .refusal-is) (q .refusal-is)
+
+pub c-open-by-ends : (κ : _) (a : _) (v w : _) (e f : _) → c-open-by.Post κ a v e → c-open-by.Post κ a w f
+    → e .1 .1 .1 .1 .0 .now ≡ f .1 .1 .1 .1 .0 .now
+c-open-by-ends κ a v w e f p q = only (p .refusal-is) (q .refusal-is)
 
 pub c-work-row-ends : (κ : _) (a : _) (v w : _) (e f : _) → c-work-row.Post κ a v e → c-work-row.Post κ a w f
     → e .1 .1 .0 .now ≡ f .1 .1 .0 .now

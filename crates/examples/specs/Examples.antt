@@ -41,10 +41,10 @@ pub record Examples : Type 0 where
   -- X1: genotypes and triples of 1, 2, 3 and 8 clusters, counted from their lists
   pub genotypes-number : (genotypeCount 1 ≡ 1) × (genotypeCount 2 ≡ 3) × (genotypeCount 3 ≡ 6) × (genotypeCount 8 ≡ 36)
   pub triples-number : (length (triples 1) ≡ 1) × (length (triples 2) ≡ 27) × (length (triples 3) ≡ 216) × (length (triples 8) ≡ 46656)
-  -- X2: over all accepted counts and weights of two clusters whose mother has no reads
-  pub unread-mother : (counts : List ℕ) (weights : List Float) → numberOf (openStep 2 counts weights .refusal) ≡ 0
+  -- X2: over all accepted counts, weights and rules of two clusters whose mother has no reads
+  pub unread-mother : (counts : List ℕ) (weights : List Float) (rule : ℕ) → numberOf (openStep 2 counts weights rule .refusal) ≡ 0
       → columnTotal 2 counts Mother ≡ 0
-      → LastOfTwo (callOf 2 counts weights)
+      → LastOfTwo (callOf 2 counts weights rule)
   -- X3 to X6: how many different pairs the parents can make
   pub one-pair : length (childPairs (pair 0 0) (pair 1 1)) ≡ 1
   pub three-pairs : length (childPairs (pair 0 1) (pair 0 1)) ≡ 3

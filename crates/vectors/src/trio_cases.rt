@@ -62,7 +62,9 @@ fn term(words: &Words) -> f64 {
 
 // Nor is what is no rule.
 pub fn mendel_by(words: &Words) -> Answer {
-    let genotypes = is_genotype(words, 4, 8) && is_genotype(words, 12, 16) && is_genotype(words, 20, 24);
+    let genotypes = is_genotype(words, 4, 8)
+        && is_genotype(words, 12, 16)
+        && is_genotype(words, 20, 24);
     if genotypes && rule_allowed(words::whole(words, 0)) {
         return write::float(term(words));
     }
