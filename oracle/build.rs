@@ -1,5 +1,6 @@
 //! Links the port, which `rt staticlib` writes to target/staticlib of the repository, and takes kanpig's text into the build: each
-//! of its files, or the same with `.txt` behind its name, from anywhere below the folder that KANPIG_SRC names, with some names changed.
+//! of its files, or the same with `.txt` behind its name, from anywhere below the folder that KANPIG_SRC names, with some names changed; the
+//! trio's a second time, with nothing but its Mendelian prior exchanged.
 use std::path::{Path, PathBuf};
 use std::{env, fs};
 
@@ -31,7 +32,7 @@ const SOURCES: [Source; 3] = [
         ],
     },
     Source {
-        name: "trio_genotyper.rs",
+        name: TRIO,
         crates: &["use ndarray::"],
         renamed: &[(".ln()", ".kernel_ln()"), (".exp()", ".kernel_exp()"), (".log10()", ".kernel_log10()")],
     },
@@ -41,6 +42,12 @@ const SOURCES: [Source; 3] = [
         renamed: &[(".ln()", ".kernel_ln()"), (".log10()", ".kernel_log10()"), ("10.0_f64.powf(", "kernel_pow10(")],
     },
 ];
+
+/// The trio's text under rule 2: the file that it goes to, and the one call of the prior, with what stands in its place.
+const TRIO: &str = "trio_genotyper.rs";
+const TRIO_BY_GAMETES: &str = "trio_genotyper_by_gametes.rs";
+const PRIOR: &str = "let lp = mendelian_prior(gt_p, gt_f, gt_m);";
+const PRIOR_BY_GAMETES: &str = "let lp = gamete_prior(gt_p, gt_f, gt_m);";
 
 fn found(folder: &Path, name: &str) -> Option<PathBuf> {
     let mut entries: Vec<PathBuf> = fs::read_dir(folder).ok()?.flatten().map(|entry| entry.path()).collect();
@@ -62,6 +69,13 @@ fn bound(source: &Source, text: &str) -> String {
         text = text.replace(old, new);
     }
     text
+}
+
+/// The trio's text with its prior exchanged, and not a byte besides.
+fn by_gametes(text: &str) -> String {
+    assert_eq!(text.matches(PRIOR).count(), 1, "not one `{PRIOR}` in kanpig's text: is it another version?");
+    assert_eq!(text.matches("mendelian_prior").count(), 2, "the prior has its definition and one call: is it another version?");
+    text.replace(PRIOR, PRIOR_BY_GAMETES)
 }
 
 /// All of kanpig's files, in the order of `SOURCES`; none where one is missing.
@@ -89,7 +103,8 @@ fn main() {
     println!("cargo:rustc-check-cfg=cfg(kanpig)");
     let folder = env::var("KANPIG_SRC").map_or(repository.join(DEFAULT_SOURCE), PathBuf::from);
     let texts = texts(&folder);
-    if texts.is_some() {
+    let is_found = texts.is_some();
+    if is_found {
         println!("cargo:rustc-cfg=kanpig");
     } else {
         println!("cargo:rerun-if-changed={}", folder.display());
@@ -97,7 +112,12 @@ fn main() {
     let missing = |source: &Source| fs::read_to_string(here.join("missing").join(source.name)).expect("the stand-in is there");
     let texts = texts.unwrap_or_else(|| SOURCES.iter().map(missing).collect());
     let out = PathBuf::from(env::var("OUT_DIR").expect("cargo sets OUT_DIR"));
+    let write = |name: &str, text: &str| fs::write(out.join(name), text).expect("OUT_DIR can be written");
     for (source, text) in SOURCES.iter().zip(texts) {
-        fs::write(out.join(source.name), text).expect("OUT_DIR can be written");
+        write(source.name, &text);
+        if source.name == TRIO {
+            let second = if is_found { by_gametes(&text) } else { text };
+            write(TRIO_BY_GAMETES, &second);
+        }
     }
 }

@@ -42,6 +42,7 @@ mod trio {
     pub mod block_cases;
     pub mod block_compare;
     pub mod block_damage;
+    pub mod block_forms;
     pub mod block_numbers;
     pub mod block_parts;
     pub mod cases;
@@ -55,6 +56,7 @@ mod trio {
     pub mod flat;
     pub mod forged;
     pub mod forged_cases;
+    pub mod gametes;
     pub mod golden;
     pub mod grounds;
     pub mod halves;
@@ -74,6 +76,10 @@ mod trio {
     pub mod quality;
     pub mod quality_cases;
     pub mod quality_inputs;
+    pub mod rule_block_cases;
+    pub mod rule_cases;
+    pub mod rule_compare;
+    pub mod rule_steps;
     pub mod step;
     pub mod steps;
     pub mod types;

@@ -1,11 +1,10 @@
-//! Damaged blocks for the port's reader in C, beside the codec: the same number and the same part, every bit, and of what is read the same
-//! block written.
+//! Damaged blocks of both forms for the port's reader in C, beside the codec: the same number and the same part, every bit, and of what is
+//! read the same block written, in form 2.
 use crate::floor::random::{pick, Random};
 use crate::floor::source;
-use crate::trio::block::laid_out;
 use crate::trio::block_compare::Compared;
-use crate::trio::block_damage::damaged;
-use crate::trio::block_parts::of_one_trio;
+use crate::trio::block_damage::damaged_form;
+use crate::trio::block_parts::{block_of, of_one_trio};
 use std::fs;
 use std::path::Path;
 use std::time::Instant;
@@ -37,8 +36,8 @@ pub fn run(seconds: u64) -> bool {
         let kept = compared.differences.len();
         for part in &parts {
             for _ in 0..OF_A_PART {
-                let other = laid_out(&pick(random, &parts));
-                compared.read_and_write(&damaged(random, &laid_out(part), &other));
+                let [own, other] = [*part, pick(random, &parts)].map(|part| block_of(random, &part));
+                compared.read_and_write(&damaged_form(random, &own, &other));
             }
         }
         keep(&compared, kept);

@@ -73,7 +73,7 @@ fn qualities() -> Vec<String> {
         let most = 2 + random.below(20);
         let counts: Vec<u32> = (0..6).map(|_| random.below(most) as u32).collect();
         let numbers: Vec<String> = [2].iter().chain(&counts).chain(&[1, 1]).map(u32::to_string).collect();
-        let answer = trio::pass::expected(&trio::types::Input { n: 2, counts, weights: vec![1.0; 2] });
+        let answer = trio::pass::expected(&trio::types::Input::new(2, counts, vec![1.0; 2]));
         let told = known.insert((answer.ground, answer.quality));
         if known_flags.insert(answer.read) || told {
             lines.push(joined("trio", "quality", &numbers));

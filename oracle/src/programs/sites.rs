@@ -5,9 +5,9 @@ use crate::floor::exchange::Exchange;
 use crate::{diploid, mosaic, trio};
 
 #[rustfmt::skip]
-const REFUSALS: [&str; 16] = [
+const REFUSALS: [&str; 17] = [
     "done", "NoCluster", "TooMany", "Shape", "Count", "Weight", "Model", "Table", "Row", "OtherTrio", "NotComplete", "NoCall", "BadPart",
-    "Block", "Check", "Layout",
+    "Block", "Check", "Layout", "Rule",
 ];
 const GROUNDS: [&str; 5] = ["-", "Won", "Tied", "Unread", "Inferred"];
 
@@ -65,11 +65,11 @@ fn unread_alleles(pairs: [u32; 6], read: [u32; 6]) -> String {
     unread.join(",")
 }
 
-fn trio_answer(site: &str, fields: &[&str]) -> Option<String> {
+fn trio_answer(site: &str, fields: &[&str], rule: u32) -> Option<String> {
     let (first, numbers) = fields.split_first()?;
     let n = whole(first)?;
     let decimals: Vec<f64> = numbers.iter().map(decimal).collect::<Option<_>>()?;
-    let mut input = trio::types::Input { n: n.min(9) as u32, counts: vec![], weights: vec![] };
+    let mut input = trio::types::Input { n: n.min(9) as u32, counts: vec![], weights: vec![], rule };
     let counted = 3 * input.n as usize;
     if (1..=8).contains(&n) && numbers.len() == counted + input.n as usize {
         input.counts = numbers[..counted].iter().map(count).collect::<Option<_>>()?;
@@ -110,7 +110,8 @@ fn answer(line: &str) -> Option<String> {
         return None;
     }
     match *kind {
-        "trio" => trio_answer(site, numbers),
+        "trio" => trio_answer(site, numbers, 1),
+        "trio2" => trio_answer(site, numbers, 2),
         "diploid" => diploid_answer(site, numbers),
         "mosaic" => mosaic_answer(site, numbers),
         _ => None,

@@ -15,6 +15,7 @@ fn genotypers(xs: &[f64]) -> Vec<Tally> {
     }
     let mut all = vec![mosaic::compare::short_log_gamma(xs), diploid::compare::run()];
     all.extend(trio::compare::run());
+    all.extend(trio::rule_compare::run());
     all.extend(trio::histories::run());
     all.extend(trio::block_compare::run());
     all.extend([mosaic::compare::run(), calls::compare()]);

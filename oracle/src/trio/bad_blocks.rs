@@ -1,6 +1,7 @@
 //! Blocks with something wrong or odd in them, each with the number that it has to get (docs/RULES.md, B): places that are not in use,
-//! numbers past their ends, every kind of float, fixed bytes, lengths, checks, and several of these at once.
-use super::block::{check_of, laid_out, put, sealed, Block, CHECK, CLUSTERS, COUNTS, HELD, MARKS, POSITIONS, SCORES, SIZE, WEIGHTS};
+//! numbers past their ends, every kind of float, fixed bytes, forms and rules, lengths, checks, and several of these at once.
+use super::block::{check_of, laid_out, laid_out_first, put, sealed, Block};
+use super::block::{CHECK, CLUSTERS, COUNTS, FORM, HELD, MARKS, POSITIONS, RULE, SCORES, SIZE, WEIGHTS};
 use super::block_damage::{of_length, with_check, wrong_checks};
 use super::block_parts::worked;
 use super::cases::{input, plain};
@@ -18,29 +19,64 @@ const MINUS_ZERO: u64 = 1 << 63;
 const INFINITY: u64 = 0x7ff0_0000_0000_0000;
 const MINUS_INFINITY: u64 = 0xfff0_0000_0000_0000;
 
-/// What the others are made of: two clusters, opened and complete, with a weight of zero too; a lone cluster; an unread trio.
+/// The form of the blocks, and of form 2 the rule.
+#[derive(Clone, Copy, PartialEq)]
+pub enum Form {
+    First,
+    Second(u32),
+}
+
+impl Form {
+    fn base(self, input: &Input, marks: u64) -> Block {
+        let part = |rule: u32| worked(&Known::default().trio(&input.by(rule)), marks);
+        match self {
+            Form::First => laid_out_first(&part(1)),
+            Form::Second(rule) => laid_out(&part(rule)),
+        }
+    }
+}
+
+/// What the others are made of: two clusters, opened, without the row of the heterozygous father, whose scores alone depend on the rule, and
+/// complete, with a weight of zero too; a lone cluster; an unread trio; a trio with heterozygous parents; and the block of a part of all
+/// zeros but for the rule, if it had one.
 struct Bases {
+    form: Form,
     opened: Block,
+    half: Block,
     complete: Block,
     weightless: Block,
     one: Block,
     unread: Block,
-}
-
-fn base(input: &Input, marks: u64) -> Block {
-    laid_out(&worked(&Known::default().trio(input), marks))
+    square: Block,
+    bare: Block,
 }
 
 impl Bases {
-    fn new() -> Bases {
+    fn new(form: Form) -> Bases {
         let two = plain(2, &[9, 7, 1, 0, 0, 8]);
+        let mut bare = [0; SIZE];
+        (bare[FORM], bare[RULE]) = match form {
+            Form::First => (1, 0),
+            Form::Second(rule) => (2, rule as u8),
+        };
         Bases {
-            opened: base(&two, 0),
-            complete: base(&two, 7),
-            weightless: base(&input(2, &two.counts, &[0.0, 1.0]), 7),
-            one: base(&plain(1, &[21, 18, 16]), 1),
-            unread: base(&plain(2, &[5, 4, 0, 3, 6, 0]), 7),
+            form,
+            opened: form.base(&two, 0),
+            half: form.base(&two, 5),
+            complete: form.base(&two, 7),
+            weightless: form.base(&input(2, &two.counts, &[0.0, 1.0]), 7),
+            one: form.base(&plain(1, &[21, 18, 16]), 1),
+            unread: form.base(&plain(2, &[5, 4, 0, 3, 6, 0]), 7),
+            square: form.base(&plain(2, &[4, 4, 4, 3, 3, 3]), 7),
+            bare: sealed(bare),
         }
+    }
+
+    /// So many clusters, with something in the places of eight.
+    fn filled(&self, n: u8) -> Block {
+        let counted = (0..24).fold(self.bare, |block, i| with_count(&block, i, i as u32 + 1));
+        let weighed = (0..8).fold(counted, |block, i| with_weight(&block, i, 1.0f64.to_bits()));
+        with_byte(&weighed, CLUSTERS, n)
     }
 }
 
@@ -83,27 +119,16 @@ fn score(block: &Block, i: usize) -> u64 {
     u64::from_le_bytes(block[SCORES + 8 * i..][..8].try_into().expect("eight bytes"))
 }
 
-/// The block of a part of all zeros, if it had one.
-fn bare() -> Block {
-    with_byte(&[0; SIZE], 0, 1)
-}
-
-/// So many clusters, with something in the places of eight.
-fn filled(n: u8) -> Block {
-    let counted = (0..24).fold(bare(), |block, i| with_count(&block, i, i as u32 + 1));
-    let weighed = (0..8).fold(counted, |block, i| with_weight(&block, i, 1.0f64.to_bits()));
-    with_byte(&weighed, CLUSTERS, n)
-}
-
 /// No cluster leaves no count and no weight in use, more than eight leave none out of use; a part can have neither.
 fn cluster_numbers(bases: &Bases) -> Vec<(u32, Block)> {
-    let Bases { opened, complete, .. } = bases;
-    let mut all = vec![(12, bare()), (15, filled(0)), (15, filled(7)), (0, filled(8)), (12, filled(9)), (12, filled(255))];
-    all.extend([0, 23].map(|i| (15, with_count(&bare(), i, 1))));
-    all.extend([0, 7].map(|i| (15, with_weight(&bare(), i, MINUS_ZERO))));
-    all.push((12, with_marks(&bare(), 1)));
-    all.push((12, with_byte(&bare(), HELD, 2)));
-    all.extend([9, 255].map(|n| (12, with_byte(&bare(), CLUSTERS, n))));
+    let Bases { opened, complete, bare, .. } = bases;
+    let filled = |n: u8| bases.filled(n);
+    let mut all = vec![(12, *bare), (15, filled(0)), (15, filled(7)), (0, filled(8)), (12, filled(9)), (12, filled(255))];
+    all.extend([0, 23].map(|i| (15, with_count(bare, i, 1))));
+    all.extend([0, 7].map(|i| (15, with_weight(bare, i, MINUS_ZERO))));
+    all.push((12, with_marks(bare, 1)));
+    all.push((12, with_byte(bare, HELD, 2)));
+    all.extend([9, 255].map(|n| (12, with_byte(bare, CLUSTERS, n))));
     all.push((12, with_weight(&filled(9), 7, SIGNALLING)));
     all.push((15, with_positions(&filled(9), [1, 0])));
     all.push((12, with_score(&with_byte(&filled(9), HELD, 3), 1, NAN)));
@@ -178,11 +203,36 @@ fn triples(bases: &Bases) -> Vec<(u32, Block)> {
     all
 }
 
-/// Bytes that every block has.
+/// Bytes that every block of one form has.
 fn fixed(bases: &Bases) -> Vec<(u32, Block)> {
-    let mut all: Vec<(u32, Block)> = [0, 2, 255].map(|byte| (15, with_byte(&bases.opened, 0, byte))).to_vec();
+    let others = match bases.form {
+        Form::First => [0, 2, 255],
+        Form::Second(_) => [0, 1, 255],
+    };
+    let mut all: Vec<(u32, Block)> = others.map(|byte| (15, with_byte(&bases.opened, FORM, byte))).to_vec();
     all.extend((3..8).map(|at| (15, with_byte(&bases.complete, at, 1 << at))));
     all.extend([200, 201, 207, 256, 383, 508, 509].map(|at| (15, with_byte(&bases.complete, at, 0x80))));
+    all
+}
+
+/// Every kind of byte in the places of form and rule of form 2. A part that holds nothing, or only what scores alike under both rules, is
+/// sound under the other one too; else that rule is not the one of its scores.
+fn forms(bases: &Bases) -> Vec<(u32, Block)> {
+    let Form::Second(rule) = bases.form else {
+        return vec![];
+    };
+    let Bases { opened, half, complete, one, unread, square, .. } = bases;
+    let odd = [0, 1, 3, 4, 5, 7, 8, 16, 64, 127, 128, 129, 130, 254, 255];
+    let mut all: Vec<(u32, Block)> = odd.map(|byte| (15, with_byte(square, FORM, byte))).to_vec();
+    all.extend(odd.iter().filter(|&&byte| byte != 1).map(|&byte| (15, with_byte(square, RULE, byte))));
+    let other = |block: &Block| with_byte(block, RULE, 3 - rule as u8);
+    all.extend([opened, half, one, unread].map(|block| (0, other(block))));
+    all.extend([(0, *square), (12, other(square)), (12, other(complete))]);
+    let first = |block: &Block| with_byte(&with_byte(block, FORM, 1), RULE, 0);
+    all.extend([opened, half, one, unread].map(|block| (0, first(block))));
+    all.extend([square, complete].map(|block| (if rule == 1 { 0 } else { 12 }, first(block))));
+    all.extend([0, 3, 255].map(|form| (15, with_byte(&first(square), FORM, form))));
+    all.extend([1, 2].map(|byte| (15, with_byte(&first(square), RULE, byte))));
     all
 }
 
@@ -213,12 +263,13 @@ fn checks(bases: &Bases) -> Vec<(u32, Block)> {
 /// Several faults at once get the first number of the order.
 fn several(bases: &Bases) -> Vec<Bad> {
     let Bases { opened, complete, .. } = bases;
-    let worst = with_byte(&with_byte(&with_weight(&with_count(opened, 0, u32::MAX), 1, NAN), 0, 2), HELD, 3);
+    let other_form = if bases.form == Form::First { 2 } else { 1 };
+    let worst = with_byte(&with_byte(&with_weight(&with_count(opened, 0, u32::MAX), 1, NAN), FORM, other_form), HELD, 3);
     let unsealed = with_check(worst, check_of(&worst) ^ 1);
     let mut all = vec![(15, worst.to_vec()), (14, unsealed.to_vec()), (13, unsealed[..511].to_vec()), (13, worst[1..].to_vec())];
-    all.push((14, with_check(filled(9), 0).to_vec()));
+    all.push((14, with_check(bases.filled(9), 0).to_vec()));
     all.push((15, with_weight(&with_count(opened, 23, 1), 0, NAN).to_vec()));
-    all.push((15, with_byte(&filled(255), 7, 1).to_vec()));
+    all.push((15, with_byte(&bases.filled(255), 7, 1).to_vec()));
     all.push((15, with_marks(&with_byte(complete, 509, 1), u64::MAX).to_vec()));
     all.push((15, with_score(&with_byte(opened, 4, 1), 0, NAN).to_vec()));
     all
@@ -230,9 +281,9 @@ fn lengths(bases: &Bases) -> Vec<Bad> {
     lengths.map(|length| (13, of_length(&bases.complete, length))).to_vec()
 }
 
-pub fn all() -> Vec<Bad> {
-    let bases = &Bases::new();
-    let blocks = [cluster_numbers, held_numbers, inputs, marks, triples, fixed, checks].map(|group| group(bases)).concat();
+pub fn all(form: Form) -> Vec<Bad> {
+    let bases = &Bases::new(form);
+    let blocks = [cluster_numbers, held_numbers, inputs, marks, triples, fixed, checks, forms].map(|group| group(bases)).concat();
     let mut all: Vec<Bad> = blocks.into_iter().map(|(number, block)| (number, block.to_vec())).collect();
     all.extend(several(bases));
     all.extend(lengths(bases));

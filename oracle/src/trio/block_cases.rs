@@ -1,11 +1,12 @@
 //! The stored cases of blocks (docs/VECTORS.md, `write` and `read`): parts of every number of clusters in all stages, parts that are not
 //! sound, blocks that are wrong or odd, work that goes on in another register, the stored blocks of docs/blocks, lines that cannot be read,
-//! and some histories. Answers by the plain model of desks.rs.
-use super::bad_blocks;
-use super::block::laid_out;
+//! and some histories. They were made before there were rules: what is read here is of form 1, and what is written of form 2. Blocks under
+//! both rules are in rule_block_cases.rs. Answers by the plain model of desks.rs.
+use super::bad_blocks::{self, Form};
+use super::block::laid_out_first;
 use super::cases::plain;
 use super::dialogue::Dialogue;
-use super::draws::ALL;
+use super::draws::BEFORE_RULES;
 use super::forged_cases::with;
 use super::golden::Golden;
 use super::inputs::usual_trio;
@@ -15,9 +16,9 @@ use super::types::Input;
 use crate::floor::floats::moved;
 use crate::floor::random::Random;
 
-/// The bytes of a register's part.
+/// The bytes of a register's part, in form 1.
 fn bytes(dialogue: &Dialogue, r: usize) -> Vec<u8> {
-    laid_out(&dialogue.part(r)).to_vec()
+    laid_out_first(&dialogue.part(r)).to_vec()
 }
 
 /// A register's part written, read into another register, and looked at there.
@@ -74,9 +75,9 @@ fn not_written(dialogue: &mut Dialogue) {
     dialogue.all([Step::Write(1), Step::Show(1), Step::Scores(1)]);
 }
 
-/// Each wrong or odd block: nothing is kept of one that is refused, and of what is read the same block is written.
-fn bad(dialogue: &mut Dialogue) {
-    for (i, (number, bytes)) in bad_blocks::all().into_iter().enumerate() {
+/// Each wrong or odd block: nothing is kept of one that is refused, and of what is read a block is written, of form 2 the same.
+pub fn bad(dialogue: &mut Dialogue, form: Form) {
+    for (i, (number, bytes)) in bad_blocks::all(form).into_iter().enumerate() {
         dialogue.take(Step::Read(1, bytes));
         let given = dialogue.cases.answers.last().expect("an answer").clone();
         assert_eq!(given, number.to_string(), "a block gets another number than its rule says: {:?}", dialogue.cases.questions.last());
@@ -91,7 +92,7 @@ fn bad(dialogue: &mut Dialogue) {
 /// Each refusal over a register with a sound part, which is gone then.
 fn nothing_kept(dialogue: &mut Dialogue) {
     dialogue.worked(0, &plain(2, &[9, 7, 1, 0, 0, 8]));
-    let all = bad_blocks::all();
+    let all = bad_blocks::all(Form::First);
     for number in [12, 13, 14, 15] {
         let (_, bytes) = all.iter().rev().find(|(given, _)| *given == number).expect("one of each number");
         dialogue.all([Step::Copy(1, 0), Step::Read(1, bytes.clone()), Step::Show(1), Step::Scores(1), Step::Write(1)]);
@@ -152,13 +153,13 @@ fn unreadable(dialogue: &mut Dialogue) {
 pub fn write(dialogue: &mut Dialogue, golden: &[Golden]) {
     stages(dialogue);
     not_written(dialogue);
-    bad(dialogue);
+    bad(dialogue, Form::First);
     nothing_kept(dialogue);
     two_buildings(dialogue);
     stored(dialogue, golden);
     unreadable(dialogue);
     let random = &mut Random::new(66);
     for _ in 0..2 {
-        dialogue.history(random, ALL);
+        dialogue.history(random, BEFORE_RULES);
     }
 }

@@ -1,17 +1,17 @@
-//! The fastest plain Rust for a trio: each animal scored once under each genotype, the Mendelian terms of all triples in a table made
-//! beforehand, and one rising pass that keeps the best two (docs/RULES.md, T2 to T5). With the kernels of the rules, and answers to the bit
+//! The fastest plain Rust for a trio: each animal scored once under each genotype, the Mendelian terms of all triples in a table for each
+//! rule made beforehand, and one rising pass that keeps the best two (docs/RULES.md, T2 to T5). With the kernels of the rules, and answers to the bit
 //! the same.
-use super::kanpig::OURS;
+use super::kanpig::ours;
 use super::lists::{Lists, PLACES};
 use super::part::Entry;
-use super::types::{genotypes, Input, Pair};
+use super::types::{genotypes, Input, Pair, RULES};
 use crate::kernels::plain::ln;
 
 /// What trios of n clusters have in common.
 pub struct Flat {
     genotypes: Vec<Pair>,
-    /// By position.
-    terms: Vec<f64>,
+    /// By rule, then by position.
+    terms: [Vec<f64>; 2],
 }
 
 /// A probability with the two logarithms that its log probability takes.
@@ -48,21 +48,27 @@ fn expectation((low, high): Pair, cluster: usize) -> f64 {
     }
 }
 
+/// The Mendelian terms of all triples under a rule.
+fn terms(genotypes: &[Pair], rule: u32) -> Vec<f64> {
+    let mut terms = Vec::with_capacity(genotypes.len().pow(3));
+    for &father in genotypes {
+        for &mother in genotypes {
+            terms.extend(genotypes.iter().map(|&child| (ours(rule).mendel)(child, father, mother)));
+        }
+    }
+    terms
+}
+
 impl Flat {
     pub fn new(n: u32) -> Flat {
         let genotypes = genotypes(n);
-        let mut terms = Vec::with_capacity(genotypes.len().pow(3));
-        for &father in &genotypes {
-            for &mother in &genotypes {
-                terms.extend(genotypes.iter().map(|&child| (OURS.mendel)(child, father, mother)));
-            }
-        }
+        let terms = RULES.map(|rule| terms(&genotypes, rule));
         Flat { genotypes, terms }
     }
 
     /// The Mendelian term of the triple at a position.
-    pub fn term(&self, position: u32) -> f64 {
-        self.terms[position as usize]
+    pub fn term(&self, rule: u32, position: u32) -> f64 {
+        self.terms[rule as usize - 1][position as usize]
     }
 
     /// The scores of child, father and mother under each genotype; places past these have no meaning. Logarithms are taken once: of each
@@ -93,12 +99,13 @@ impl Flat {
     pub fn search(&self, input: &Input) -> (Entry, Option<Entry>) {
         let g = self.genotypes.len();
         let [child, father, mother] = self.lists(&input.counts, &input.weights);
+        let all_terms = &self.terms[input.rule as usize - 1];
         let (mut best, mut second) = (NONE, NONE);
         let mut position = 0;
         for of_father in &father[..g] {
             for of_mother in &mother[..g] {
                 let parents = of_father + of_mother;
-                let terms = &self.terms[position..position + g];
+                let terms = &all_terms[position..position + g];
                 for (i, (of_child, term)) in child[..g].iter().zip(terms).enumerate() {
                     let score = parents + of_child + term;
                     if score >= second.1 {

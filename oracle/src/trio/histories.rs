@@ -1,8 +1,9 @@
 //! Random histories of parts, through the program `vectors`, through the port's C functions, and through the plain model of desks.rs, step
 //! by step.
+use super::block_forms::BlockForms;
 use super::block_numbers::BlockNumbers;
 use super::desks::{Desks, Register};
-use super::draws::{inputs, register, step, ALL};
+use super::draws::{inputs, opening, register, step, ALL};
 use super::faults::Faults;
 use super::grounds::Grounds;
 use super::ported::Ported;
@@ -95,14 +96,20 @@ impl Taken {
 /// One history: openings, a few dozen steps of so many kinds, and the rows that are left of one part, which is then closed and shown. The
 /// answers are the model's.
 pub fn history(random: &mut Random, desks: &mut Desks, taken: &mut Taken, kinds: u64) {
-    let inputs = inputs(random);
+    let inputs = inputs(random, kinds);
     for r in 0..3 {
-        let input = inputs[random.below(inputs.len() as u64) as usize].clone();
-        taken.take(desks, Step::Open(r, input));
+        let step = opening(random, r, &inputs, kinds);
+        taken.take(desks, step);
     }
     for _ in 0..10 + random.below(20) {
         let step = step(random, desks, &inputs, kinds);
+        // a part is put in under rule 1, and then mostly gets the rule that it was drawn with
+        let rule = match &step {
+            Step::Part(r, part) if kinds == ALL && part.rule != 1 && random.below(8) > 0 => Some(Step::Rule(*r, part.rule)),
+            _ => None,
+        };
         taken.take(desks, step);
+        rule.into_iter().for_each(|step| drop(taken.take(desks, step)));
     }
     let r = register(random);
     finish(random, desks, r, taken);
@@ -112,19 +119,23 @@ pub fn history(random: &mut Random, desks: &mut Desks, taken: &mut Taken, kinds:
 #[derive(Default)]
 struct Met {
     steps: usize,
-    grounds: Grounds,
+    grounds: [Grounds; 2],
     faults: Faults,
     written: BlockNumbers,
     read: BlockNumbers,
+    forms: BlockForms,
 }
 
 impl Met {
     fn join(&mut self, desks: &Desks, taken: &Taken) {
         self.steps += taken.steps();
-        self.grounds.join(&desks.grounds);
+        for (grounds, more) in self.grounds.iter_mut().zip(&desks.grounds) {
+            grounds.join(more);
+        }
         self.faults.join(&desks.faults);
         self.written.join(&desks.written);
         self.read.join(&desks.read);
+        self.forms.join(&desks.forms);
     }
 
     /// Shows it; what is too rare counts as a difference.
@@ -134,13 +145,16 @@ impl Met {
         if few {
             println!("    steps: these are fewer than {LEAST_STEPS}");
         }
-        let steps = Tally { cases: 0, differences: usize::from(few) } + self.grounds.tally("closings") + self.faults.tally();
-        steps + self.written.tally("blocks written", &[0, 12]) + self.read.tally("blocks read", &[0, 12, 13, 14, 15])
+        let [one, two] = &self.grounds;
+        let grounds = one.tally("closings under rule 1") + two.tally("closings under rule 2");
+        let steps = Tally { cases: 0, differences: usize::from(few) } + grounds + self.faults.tally();
+        let read = self.read.tally("blocks read", &[0, 12, 13, 14, 15]) + self.forms.tally("blocks read");
+        steps + self.written.tally("blocks written", &[0, 12]) + read
     }
 }
 
-/// The steps on registers, `open`, `part`, `forge`, `copy`, `row`, `merge`, `close`, `show`, `scores`, `write` and `read`: as text, and
-/// those that can be read by the C functions.
+/// The steps on registers, `open`, `openby`, `part`, `rule`, `forge`, `copy`, `row`, `merge`, `close`, `show`, `scores`, `write` and `read`:
+/// as text, and those that can be read by the C functions.
 pub fn run() -> [Tally; 2] {
     let random = &mut Random::new(50);
     let (mut all, mut in_c, mut met) = (Tally::default(), Tally::default(), Met::default());

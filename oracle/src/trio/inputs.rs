@@ -57,7 +57,8 @@ fn weights(random: &mut Random, n: u32) -> Vec<f64> {
 
 /// An input of n clusters within the limits.
 pub fn allowed(random: &mut Random, n: u32) -> Input {
-    let mut input = Input { n, counts: counts(random, n), weights: weights(random, n) };
+    let counts = counts(random, n);
+    let mut input = Input::new(n, counts, weights(random, n));
     if random.below(4) == 0 {
         level(random, &mut input);
     }
@@ -66,7 +67,8 @@ pub fn allowed(random: &mut Random, n: u32) -> Input {
 
 /// A trio as it comes from reads, with weights from 0 to 1.
 pub fn usual_trio(random: &mut Random, n: u32) -> Input {
-    Input { n, counts: usual(random, n), weights: (0..n).map(|_| random.between(0.0, 1.0)).collect() }
+    let counts = usual(random, n);
+    Input::new(n, counts, (0..n).map(|_| random.between(0.0, 1.0)).collect())
 }
 
 /// The same, but that the mother has no read.
@@ -79,7 +81,7 @@ pub fn unread_trio(random: &mut Random, n: u32) -> Input {
 /// Every animal has as many reads of one cluster as of another, and as any other animal; all weights 1.
 pub fn equal_trio(random: &mut Random, n: u32) -> Input {
     let count = 1 + random.below(40) as u32;
-    Input { n, counts: vec![count; 3 * n as usize], weights: vec![1.0; n as usize] }
+    Input::new(n, vec![count; 3 * n as usize], vec![1.0; n as usize])
 }
 
 /// A calf with one allele of each parent, so many reads for each animal, each of one of its two alleles, none astray; all weights 1.
@@ -93,7 +95,7 @@ pub fn family(random: &mut Random, n: u32, reads: u32) -> Input {
             counts[3 * pair[random.below(2) as usize] + column] += 1;
         }
     }
-    Input { n, counts, weights: vec![1.0; n as usize] }
+    Input::new(n, counts, vec![1.0; n as usize])
 }
 
 /// One to five clusters, two or three more often than others.
@@ -111,7 +113,7 @@ pub fn many(random: &mut Random) -> Input {
 /// Every input of n clusters with counts below `end`, all weights alike.
 fn every(n: u32, end: u32, weight: f64) -> impl Iterator<Item = Input> {
     let counts = move |code: u32| (0..3 * n).map(|at| code / end.pow(at) % end).collect();
-    (0..end.pow(3 * n)).map(move |code| Input { n, counts: counts(code), weights: vec![weight; n as usize] })
+    (0..end.pow(3 * n)).map(move |code| Input::new(n, counts(code), vec![weight; n as usize]))
 }
 
 /// Every small input, with no weight, with 1 and with the largest.
@@ -140,6 +142,12 @@ pub fn disturbed(random: &mut Random) -> Input {
         }
     }
     input
+}
+
+/// The same under rule 2, or mostly under a rule that is none.
+pub fn disturbed_by(random: &mut Random) -> Input {
+    let input = disturbed(random);
+    input.by(pick(random, &[1, 2, 2, 2, 0, 3, 4, 257, 258, u32::MAX]))
 }
 
 /// Any pair, the lower number first or not, and beyond the clusters too.

@@ -10,7 +10,7 @@ fn pairs([c0, c1, f0, f1, m0, m1]: [u32; 6]) -> String {
 
 /// Two clusters but for what is changed.
 fn row(name: &str, change: impl FnOnce(&mut Input)) {
-    let mut input = Input { n: 2, counts: vec![9, 8, 1, 7, 1, 9], weights: vec![1.0; 2] };
+    let mut input = Input::new(2, vec![9, 8, 1, 7, 1, 9], vec![1.0; 2]);
     change(&mut input);
     let kanpig = or_panic(|| pairs((OURS.call)(&input)));
     println!("| {name} | {kanpig} | refused with {} |", port::call(&input).number);
@@ -19,8 +19,8 @@ fn row(name: &str, change: impl FnOnce(&mut Input)) {
 pub fn run() {
     println!("| trio | kanpig, with the kernels of the rules | the port |");
     println!("|---|---|---|");
-    row("no cluster", |input| *input = Input { n: 0, counts: vec![], weights: vec![] });
-    row("nine clusters", |input| *input = Input { n: 9, counts: (0..27).collect(), weights: vec![1.0; 9] });
+    row("no cluster", |input| *input = Input::new(0, vec![], vec![]));
+    row("nine clusters", |input| *input = Input::new(9, (0..27).collect(), vec![1.0; 9]));
     row("a weight too few", |input| input.weights = vec![1.0]);
     row("a weight too many", |input| input.weights = vec![1.0; 3]);
     row("a count of 1,000,001", |input| input.counts[0] = 1_000_001);
