@@ -102,6 +102,7 @@ mod programs {
     pub mod block_fuzz;
     pub mod calls;
     pub mod fuzz;
+    pub mod rule_sites;
     pub mod sites;
     pub mod spellings;
     pub mod vectors;
@@ -116,6 +117,8 @@ mod tasks {
     pub mod limits;
     pub mod plot;
     pub mod public_steps;
+    pub mod rule_times;
+    pub mod rules;
     pub mod search;
     pub mod tails;
     pub mod timing;
@@ -124,11 +127,11 @@ mod tasks {
 use floor::source;
 use programs::{calls, fuzz, vectors};
 use std::process::ExitCode;
-use tasks::{bench, changes, compare, limits, tails};
+use tasks::{bench, changes, compare, limits, rules, tails};
 
 fn main() -> ExitCode {
     let task = std::env::args().nth(1).unwrap_or_default();
-    if !source::FOUND && ["cases", "changes", "distances", "grounds", "limits", "walks"].contains(&task.as_str()) {
+    if !source::FOUND && ["cases", "changes", "distances", "grounds", "limits", "rules", "walks"].contains(&task.as_str()) {
         eprintln!("{}", source::NOT_FOUND);
         return ExitCode::FAILURE;
     }
@@ -156,9 +159,10 @@ fn main() -> ExitCode {
         "grounds" => trio::grounds::run(),
         "limits" => limits::run(),
         "pairs" => kernels::pairs::run(),
+        "rules" => rules::run(),
         "walks" => mosaic::walks::run(),
         _ => {
-            eprintln!("usage: oracle compare|cases|bench|changes|distances|fuzz|grounds|limits|pairs|walks");
+            eprintln!("usage: oracle compare|cases|bench|changes|distances|fuzz|grounds|limits|pairs|rules|walks");
             return ExitCode::from(2);
         }
     }

@@ -1,5 +1,6 @@
 //! The sites for the program `calls`: those that the gate replays, lines to crates/calls/stdin and the answers to crates/calls/stdout, and random
 //! ones to compare.
+use super::rule_sites;
 use super::sites::exchange;
 use crate::diploid::kanpig::expected;
 use crate::diploid::types::Input;
@@ -65,18 +66,18 @@ fn edges() -> Vec<String> {
     lines
 }
 
-/// A trio of two clusters for each ground and quality that small counts have, and for each set of flags.
-fn qualities() -> Vec<String> {
+/// A trio of two clusters for each ground and quality that small counts have under a rule, and for each set of flags.
+fn qualities(kind: &str, rule: u32) -> Vec<String> {
     let random = &mut Random::new(92);
     let (mut known, mut known_flags, mut lines) = (HashSet::new(), HashSet::new(), vec![]);
     for _ in 0..60_000 {
         let most = 2 + random.below(20);
         let counts: Vec<u32> = (0..6).map(|_| random.below(most) as u32).collect();
         let numbers: Vec<String> = [2].iter().chain(&counts).chain(&[1, 1]).map(u32::to_string).collect();
-        let answer = trio::pass::expected(&trio::types::Input::new(2, counts, vec![1.0; 2]));
+        let answer = trio::pass::expected(&trio::types::Input::new(2, counts, vec![1.0; 2]).by(rule));
         let told = known.insert((answer.ground, answer.quality));
         if known_flags.insert(answer.read) || told {
-            lines.push(joined("trio", "quality", &numbers));
+            lines.push(joined(kind, "quality", &numbers));
         }
     }
     lines
@@ -178,15 +179,19 @@ pub fn write() -> io::Result<()> {
     let sample = fs::read_to_string("docs/sites.txt")?;
     let mut lines: Vec<String> = sample.lines().chain(REFUSED).chain(SPELLED).map(String::from).collect();
     lines.extend(edges());
-    lines.extend(qualities());
+    lines.extend(qualities("trio", 1));
     lines.extend(grounded());
     lines.extend(long_lines());
     lines.extend(random_lines(90, 160));
+    lines.extend(rule_sites::lines(&lines));
+    lines.extend(qualities("trio2", 2));
     exchange(lines).store("calls", "sites")
 }
 
-/// Sites of all three kinds, through the program.
+/// Sites of all kinds, the trios under both rules, through the program.
 pub fn compare() -> Tally {
-    let exchange = exchange(random_lines(91, 4_000));
+    let mut lines = random_lines(91, 4_000);
+    lines.extend(rule_sites::under_two(&lines));
+    let exchange = exchange(lines);
     Tally::shown("calls", exchange.questions.len(), &exchange.differences("calls")).line("sites through calls")
 }
