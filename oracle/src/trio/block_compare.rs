@@ -21,7 +21,7 @@ use crate::floor::threads::mapped;
 const TRIOS: u64 = 9_000;
 const OF_WORDS: u64 = 84;
 const OF_BYTES: u64 = 24;
-const OF_FORMS: u64 = 12;
+const OF_FORMS: u64 = 144;
 const OF_DAMAGE: u64 = 2_500;
 const OF_TEXT: u64 = 150;
 

@@ -98,6 +98,23 @@ pub fn family(random: &mut Random, n: u32, reads: u32) -> Input {
     Input::new(n, counts, vec![1.0; n as usize])
 }
 
+/// Parents of the same two alleles, and a calf with about one read in ten of the rarer one, so that it hesitates between a homozygote and the
+/// heterozygote, which the two rules weigh differently; all weights 1.
+pub fn hesitant(random: &mut Random) -> Input {
+    let n = pick(random, &[2, 2, 3, 4]);
+    let first = random.below(u64::from(n) - 1) as usize;
+    let second = first + 1 + random.below(u64::from(n) - 1 - first as u64) as usize;
+    let mut counts = vec![0; 3 * n as usize];
+    for parent in [1, 2] {
+        [first, second].iter().for_each(|allele| counts[3 * allele + parent] = 5 + random.below(20) as u32);
+    }
+    let rare = 1 + random.below(4) as u32;
+    let common = 9 * rare + random.below(3) as u32 - 1;
+    let reads = pick(random, &[[rare, common], [common, rare]]);
+    (counts[3 * first], counts[3 * second]) = (reads[0], reads[1]);
+    Input::new(n, counts, vec![1.0; n as usize])
+}
+
 /// One to five clusters, two or three more often than others.
 pub fn few(random: &mut Random) -> Input {
     let n = pick(random, &[1, 2, 2, 2, 2, 2, 3, 3, 3, 3, 4, 4, 5]);

@@ -3,7 +3,7 @@
 use super::compare::{calls, drawn, flat_answer, BY_RULE, LARGE};
 use super::flat::Flats;
 use super::grounds::Grounds;
-use super::inputs::{disturbed_by, few, many, small, usual_trio};
+use super::inputs::{disturbed_by, few, hesitant, many, small, usual_trio};
 use super::part::Part;
 use super::rule_cases::mendel_by_case;
 use super::types::{genotypes, refusal, Answer, Input, RULES};
@@ -89,7 +89,8 @@ fn wide_rules() -> Tally {
     Tally::shown("rules past 2^32", cases, &differences).line("rules past 2^32")
 }
 
-/// Every small trio, trios of 1 to 5 clusters, some that are mostly refused, and some of 6 to 8 clusters, under rule 2; some under rule 1.
+/// Every small trio, trios of 1 to 5 clusters, some that the rules weigh differently, some that are mostly refused, and some of 6 to 8
+/// clusters, under rule 2; some under rule 1.
 fn all_calls() -> Tally {
     let (grounds, flats, met) = (&mut Grounds::default(), &Flats::new(), &mut Met::default());
     let by = |rule: u32, inputs: Vec<Input>| inputs.iter().map(|input| input.by(rule)).collect::<Vec<_>>();
@@ -99,10 +100,11 @@ fn all_calls() -> Tally {
     };
     let every = ask(true, by(2, small().collect()));
     let few_trios = ask(true, by(2, drawn(48, 200_000, few)));
+    let hesitant = ask(true, by(2, drawn(59, 20_000, hesitant)));
     let under_one = ask(true, by(1, drawn(49, 20_000, few)));
     let odd = ask(true, drawn(57, 50_000, disturbed_by));
     let large = ask(false, by(2, drawn(58, LARGE, many)));
-    (every + few_trios + under_one + odd + large + grounds.tally("callby") + met.tally()).line("callby")
+    (every + few_trios + hesitant + under_one + odd + large + grounds.tally("callby") + met.tally()).line("callby")
 }
 
 /// The kinds of docs/VECTORS.md that take a rule and ask no register, and rules that no text has room for.
