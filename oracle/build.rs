@@ -1,6 +1,6 @@
 //! Links the port, which `rt staticlib` writes to target/staticlib of the repository, and takes kanpig's text into the build: each
-//! of its files, or the same with `.txt` behind its name, from anywhere below the folder that KANPIG_SRC names, with some names changed; the
-//! trio's a second time, with nothing but its Mendelian prior exchanged.
+//! of its files, or the same with `.txt` behind its name, from anywhere below the folder that KANPIG_SRC names, with some names changed;
+//! the trio's a second time, with nothing but its Mendelian prior exchanged.
 use std::path::{Path, PathBuf};
 use std::{env, fs};
 

@@ -39,8 +39,10 @@ mod diploid {
 mod trio {
     pub mod bad_blocks;
     pub mod block;
+    pub mod block_bases;
     pub mod block_cases;
     pub mod block_compare;
+    pub mod block_compared;
     pub mod block_damage;
     pub mod block_forms;
     pub mod block_numbers;

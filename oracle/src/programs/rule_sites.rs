@@ -1,5 +1,5 @@
-//! The sites under rule 2, `trio2` (docs/CALLS.md), most of them beside the same under rule 1: what was asked as `trio`, heterozygous parents
-//! with calves of each pair, sites that the rules call differently, and lines that cannot be read.
+//! The sites under rule 2, `trio2` (docs/CALLS.md), most of them beside the same under rule 1: what was asked as `trio`, heterozygous
+//! parents with calves of each pair, sites that the rules call differently, and lines that cannot be read.
 use crate::trio::rule_cases::{differing, SQUARES};
 
 /// The lines of kind `trio` among these, as `trio2`.

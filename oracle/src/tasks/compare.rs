@@ -1,7 +1,7 @@
 //! Runs the port and the plain Rust on the same inputs and compares every bit; any NaN equals any NaN. A line for each kind of
 //! docs/VECTORS.md, two for the exponential's tail, one for rules that no text has room for, two for the histories of parts, forged ones
-//! among them, as text and in C, six for blocks, and one for the sites of docs/CALLS.md. Calls go through the C functions, and some of each kind through the program `vectors` as
-//! text too.
+//! among them, as text and in C, six for blocks, and one for the sites of docs/CALLS.md. Calls go through the C functions, and some of each
+//! kind through the program `vectors` as text too.
 use crate::floor::source;
 use crate::floor::tally::Tally;
 use crate::programs::calls;

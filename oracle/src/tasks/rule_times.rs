@@ -1,5 +1,5 @@
-//! Times a trio's search under each rule, in one run and on the same trios, as a Markdown table: the name that means rule 1, both rules by the
-//! name that takes one, and flat Rust beside them.
+//! Times a trio's search under each rule, in one run and on the same trios, as a Markdown table: the name that means rule 1, both rules by
+//! the name that takes one, and flat Rust beside them.
 use super::timing::{quickest, timing};
 use crate::floor::random::Random;
 use crate::trio::flat::Flat;
@@ -24,8 +24,8 @@ fn row(n: u32, trios: usize, repeats: usize) {
 
 /// Number of clusters, trios and repeats of each line.
 pub fn run(sizes: impl Iterator<Item = (u32, usize, usize)>) {
-    print!("| clusters | trios | port without a rule, ns | port, rule 1, ns | port, rule 2, ns | flat Rust, rule 1, ns | flat Rust, rule 2, ns ");
-    println!("| port: rule 2 / rule 1 | flat: rule 2 / rule 1 |");
+    print!("| clusters | trios | port without a rule, ns | port, rule 1, ns | port, rule 2, ns ");
+    println!("| flat Rust, rule 1, ns | flat Rust, rule 2, ns | port: rule 2 / rule 1 | flat: rule 2 / rule 1 |");
     println!("|---|---|---|---|---|---|---|---|---|");
     sizes.for_each(|(n, trios, repeats)| row(n, trios, repeats));
 }
