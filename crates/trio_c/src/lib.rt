@@ -106,9 +106,11 @@ pub extern "C" fn admulfas_trio(
         r (now (pairs .exit)) (now (score .exit)) (now (ground .exit)) (now (runner .exit)) (now (position .exit)) (now (second .exit))
         (now (quality .exit)) (now (read .exit)) ⌝ }
 {
-    let answer = trio_desks::call::call(clusters, counts, weights, 1);
-    hand_out(
-        answer,
+    admulfas_trio_by(
+        clusters,
+        counts,
+        weights,
+        1,
         pairs,
         score,
         ground,

@@ -19,10 +19,7 @@ pub extern "C" fn admulfas_open(
 ) -> Part
     ensures { λ r. ⌜ IsStep (openStep «clusters» (now (counts .entry)) (now (weights .entry)) 1) (now (refusal .exit)) r ⌝ }
 {
-    let opened = trio_opening::opening::open_part(clusters, counts, weights, 1);
-    let given = opened.refusal;
-    *refusal = refusals::number(given);
-    opened.part
+    admulfas_open_by(clusters, counts, weights, 1, refusal)
 }
 
 // Opens a trio under a rule.

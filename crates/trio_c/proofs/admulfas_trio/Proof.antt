@@ -1,20 +1,13 @@
--- `trio_c::admulfas_trio` meets its contract: it hands out what `call` answers. Assumes nothing.
-use mathlib.Core.Path.{sym}
+-- `trio_c::admulfas_trio` meets its contract: it is `admulfas_trio_by` under rule 1. Assumes nothing.
 use borrow.Author.Needs.{needs}
 use Rattle.trio_c.proofs.admulfas_trio.Statement.{statement}
 use Rattle.trio_c.proofs.admulfas_trio.Tie as tie
 
-call-requires : tie.Need-call-requires
-call-requires c κs = search needs
-
-hand-out-requires : tie.Need-hand-out-requires
-hand-out-requires c κs = search needs
+admulfas-trio-by-requires : tie.Need-admulfas-trio-by-requires
+admulfas-trio-by-requires c κs = search needs
 
 returns : tie.Need-returns
-returns c =
-    let lent = c .before .before .before .before in
-    let answered = lent .before .before .before .before .before in
-    rw (sym (answered .call .ensures)) (c .hand-out .ensures)
+returns c = c .admulfas-trio-by .ensures
 
 pub admulfas-trio-spec : {M : Type 1} → statement M
-admulfas-trio-spec = tie.close (tie.spec call-requires hand-out-requires returns)
+admulfas-trio-spec = tie.close (tie.spec admulfas-trio-by-requires returns)

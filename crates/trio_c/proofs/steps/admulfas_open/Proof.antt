@@ -1,25 +1,13 @@
--- `trio_c::steps::admulfas_open` meets its contract: it hands back what the step gives. Assumes nothing.
-use mathlib.Core.Path.{ap, _∙_}
+-- `trio_c::steps::admulfas_open` meets its contract: it is `admulfas_open_by` under rule 1. Assumes nothing.
 use borrow.Author.Needs.{needs}
-use Rattle.refusals.specs.Refusals.{numberOf}
-use Rattle.trio_parts.specs.declared.part.Stepped.{Stepped}
 use Rattle.trio_c.proofs.steps.admulfas_open.Statement.{statement}
 use Rattle.trio_c.proofs.steps.admulfas_open.Tie as tie
 
-open-part-requires : tie.Need-open-part-requires
-open-part-requires c κs = search needs
-
-number-requires : tie.Need-number-requires
-number-requires c κs = search needs
+admulfas-open-by-requires : tie.Need-admulfas-open-by-requires
+admulfas-open-by-requires c κs = search needs
 
 returns : tie.Need-returns
-returns c =
-    let numbered = c .before in
-    let step = numbered .before .open-part .ensures in
-    record {
-      refusal-is = numbered .number .ensures ∙ ap (λ (s : Stepped). numberOf (s .refusal)) step;
-      part-is = ap (λ (s : Stepped). s .part) step;
-    }
+returns c = c .admulfas-open-by .ensures
 
 pub admulfas-open-spec : {M : Type 1} → statement M
-admulfas-open-spec = tie.close (tie.spec open-part-requires number-requires returns)
+admulfas-open-spec = tie.close (tie.spec admulfas-open-by-requires returns)
