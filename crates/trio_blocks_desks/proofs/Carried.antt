@@ -17,7 +17,8 @@ use Rattle.trio_blocks_form.proofs.RoundTrip.{round-trip}
 
 -- B8, D3: of every accepted input and every history of desks, the part that it made, if the types allow it, as they do in every program, is
 -- written without a refusal, and read as that part. So what demand 3 promises of a part it promises of the one that arrives
-module _ (n : ℕ) (counts : List ℕ) (weights : List Float) (rule : ℕ) (accepted : numberOf (openStep n counts weights rule .refusal) ≡ 0) where
+module _ (n : ℕ) (counts : List ℕ) (weights : List Float) (rule : ℕ)
+    (accepted : numberOf (openStep n counts weights rule .refusal) ≡ 0) where
   abbrev start : Part
   start = openStep n counts weights rule .part
 

@@ -41,11 +41,13 @@ use Rattle.trio_blocks_desks.specs.TwoParts.{calfRead, sireRead}
 -- ---- both are sound
 
 calf-right : rightPart calfRead ≡ true
-unfolding rightPart inputRight ruleAllowed weightAllowed workRight isMarked markCount isNoEntry genotypeCount le toBits ofBits ofInt isNan calfRead
+unfolding rightPart inputRight ruleAllowed weightAllowed workRight isMarked markCount isNoEntry genotypeCount le toBits ofBits ofInt isNan
+    calfRead
 calf-right = refl
 
 sire-right : rightPart sireRead ≡ true
-unfolding rightPart inputRight ruleAllowed weightAllowed workRight isMarked markCount isNoEntry genotypeCount le toBits ofBits ofInt isNan sireRead
+unfolding rightPart inputRight ruleAllowed weightAllowed workRight isMarked markCount isNoEntry genotypeCount le toBits ofBits ofInt isNan
+    sireRead
 sire-right = refl
 
 calf-sound : soundPart calfRead ≡ true
@@ -138,8 +140,8 @@ words-exchanged = record { first = first-word; second = second-word; others = λ
 reads-of : Part → ℕ
 reads-of p = getD (p .counts) 0 0
 
--- B11: the words of the calf's and of the sire's reads exchanged, and a block is read without a refusal, as a part in which the sire has the
--- calf's reads
+-- B11: the words of the calf's and of the sire's reads exchanged, and a block is read without a refusal, as a part in which the sire has
+-- the calf's reads
 pub exchanged-read : Exchanged 8 10 (writtenOf calfRead .block) (writtenOf sireRead .block)
     × (readOf (writtenOf calfRead .block) ≡ gives Done calfRead)
     × (readOf (writtenOf sireRead .block) ≡ gives Done sireRead)

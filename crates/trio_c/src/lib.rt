@@ -87,7 +87,8 @@ pub(crate) fn hand_out(
     refusals::number(refusal)
 }
 
-// Each cluster has three counts, of child, father and mother. The rule is 1, as in kanpig. What is returned and written is said at `hand_out`.
+// Each cluster has three counts, of child, father and mother. The rule is 1, as in kanpig. What is returned and written is said at
+// `hand_out`.
 #[no_mangle]
 pub extern "C" fn admulfas_trio(
     clusters: u64,

@@ -49,7 +49,8 @@ use Rattle.trio_desks.proofs.SoundParts.{closing-says, true-reworked}
 -- ---- a forged part
 
 forged-right : rightPart forged ≡ true
-unfolding rightPart inputRight ruleAllowed weightAllowed workRight isMarked markCount beatsOf genotypeCount keyOf le toBits ofInt isNan forged
+unfolding rightPart inputRight ruleAllowed weightAllowed workRight isMarked markCount beatsOf genotypeCount keyOf le toBits ofInt isNan
+    forged
 forged-right = refl
 
 -- its scores are all minus infinity

@@ -108,7 +108,8 @@ no-score : (p : ℕ) → isNan (nat 0) ≡ false
 unfolding isNan ofInt
 no-score p = refl
 
-module _ (n : ℕ) (counts : List ℕ) (weights : List Float) (rule : ℕ) (accepted : numberOf (openStep n counts weights rule .refusal) ≡ 0) where
+module _ (n : ℕ) (counts : List ℕ) (weights : List Float) (rule : ℕ)
+    (accepted : numberOf (openStep n counts weights rule .refusal) ≡ 0) where
   -- no row worked is sound work of any search
   fresh-work : workRight (genotypeCount n) (noWork .marks) (heldOf (noWork .held)) ≡ true
   fresh-work =

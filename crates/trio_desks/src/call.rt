@@ -1,5 +1,5 @@
-// The call of a whole trio: opened, searched and closed in one go (docs/RULES.md, D2, T13). The lists are filled once, and nothing is checked
-// again.
+// The call of a whole trio: opened, searched and closed in one go (docs/RULES.md, D2, T13). The lists are filled once, and nothing is
+// checked again.
 ghost use mathlib.Core.Path.{_≡_};
 ghost use Prim.Native.Nat.{_≤_};
 ghost use Rattle.trio_search.specs.Work.{wholeWork};

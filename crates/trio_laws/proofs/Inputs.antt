@@ -49,7 +49,8 @@ module _ (p : Part) (right : inputRight p ≡ true) (eight : length (p .weights)
   places = and-elim-right (leb n 8) lists-test (and-elim-right (leb 1 n) (leb n 8 && lists-test) some-clusters)
 
   weights-right : weights-test ≡ true
-  weights-right = and-elim-left weights-test (ruleAllowed (p .rule)) (and-elim-right counts-test (weights-test && ruleAllowed (p .rule)) places)
+  weights-right = and-elim-left weights-test (ruleAllowed (p .rule))
+      (and-elim-right counts-test (weights-test && ruleAllowed (p .rule)) places)
 
   count-at : (i : ℕ) → i < 3 * n → countAllowed (getD (p .counts) i 0) ≡ true
   count-at i h = go (ltb i (length (p .counts))) refl

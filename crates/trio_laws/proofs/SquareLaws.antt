@@ -113,7 +113,8 @@ module _ (a b : ℕ) (differ : a ≢ b) where
       let b-b = eq-eqb b b refl in
       record {
         two-first =
-            fourth (pair a a) (same-row a b a ∙ ne-eqb b a (λ e. differ (sym e))) (ap (λ t. t || samePair (ordered b b) (ordered a a)) (itself (ordered a a)));
+            fourth (pair a a) (same-row a b a ∙ ne-eqb b a (λ e. differ (sym e)))
+            (ap (λ t. t || samePair (ordered b b) (ordered a a)) (itself (ordered a a)));
         two-middle = rule-two both both both ∙ gametes-alike a b differ both ∙ rw (itself (ordered a b));
         two-last =
             fourth (pair b b) (same-column a b b ∙ ne-eqb a b differ)

@@ -94,7 +94,8 @@ module _ (s u : ℕ → Float) (many : ℕ) (h k : Held) (P : Picked s many h) (
             let d = sym runner-same ∙ e in
             let rest : ℕ → ℕ → Type 0 = λ p q. (q < many) × (q ≢ p) in
             let here = subst (λ (p : ℕ). LastBest (rest p) (λ q. keyOf (s q)) (h .second .position)) first-position (P .second-best e) in
-            let at = best-agree (rest (k .first .position)) (λ q. keyOf (s q)) (λ q. keyOf (u q)) (h .second .position) (k .second .position)
+            let at = best-agree (rest (k .first .position)) (λ q. keyOf (s q)) (λ q. keyOf (u q)) (h .second .position)
+            (k .second .position)
             here (Q .second-best d) (ap keyOf (next e)) (ap keyOf (other d)) in
             P .second-is e
             ∙ ap (λ (x : Float). record { position = h .second .position; score = x }) (next e)

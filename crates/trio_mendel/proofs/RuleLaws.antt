@@ -84,7 +84,8 @@ module _ (a b k l : ℕ) (z : Pair) where
 
       go : (p q r s : Bool) → isIt a k ≡ p → isIt a l ≡ q → isIt b k ≡ r → isIt b l ≡ s → Made w
       go true q r s P Q R S =
-          let all = sum true (eqb k l) (eqb a b) (ends a b k l) P (test a k a l P ∙ same-row a l k ∙ eqb-swap l k) (test a k b k P ∙ same-column b a k ∙ eqb-swap b a)
+          let all = sum true (eqb k l) (eqb a b) (ends a b k l) P (test a k a l P ∙ same-row a l k ∙ eqb-swap l k)
+          (test a k b k P ∙ same-column b a k ∙ eqb-swap b a)
           (test a k b l P ∙ end-start a b k l) in
           likeEnds (omega arith) (rw P)
       go false true r s P Q R S =
@@ -92,7 +93,8 @@ module _ (a b k l : ℕ) (z : Pair) where
           (test a l b l Q ∙ same-column b a l ∙ eqb-swap b a) in
           likeMiddle (omega arith) (rw (P, Q))
       go false false true s P Q R S =
-          let all = sum (eqb a b) (middles a b k l) true (eqb k l) (test b k a k R ∙ same-column a b k) (test b k a l R ∙ high-low a b k l) R
+          let all = sum (eqb a b) (middles a b k l) true (eqb k l) (test b k a k R ∙ same-column a b k)
+          (test b k a l R ∙ high-low a b k l) R
           (test b k b l R ∙ same-row b l k ∙ eqb-swap l k) in
           likeMiddle (omega arith) (rw (P, Q, R))
       go false false false true P Q R S =

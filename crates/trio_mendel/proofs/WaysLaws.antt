@@ -37,7 +37,8 @@ module _ (f m z : Pair) where
   isIt a b = samePair (ordered a b) z
 
   pub four-ways : timesMade
-      ≡ oneIf (isIt (f .low) (m .low)) + oneIf (isIt (f .low) (m .high)) + oneIf (isIt (f .high) (m .low)) + oneIf (isIt (f .high) (m .high))
+      ≡ oneIf (isIt (f .low) (m .low)) + oneIf (isIt (f .low) (m .high)) + oneIf (isIt (f .high) (m .low))
+      + oneIf (isIt (f .high) (m .high))
   four-ways =
       let t : Pair → Bool = λ (q : Pair). samePair q z in
       let p = ordered (f .low) (m .low) in

@@ -85,7 +85,8 @@ module _ (p : Part) (right : rightPart p ≡ true) (lists : p .scores ≡ listsI
   shaped = right-shaped (rowCount p) (p .marks) (p .held) (right-work p right)
 
   -- a triple held stands at a position of the search, where the lists give the score of the rules
-  held-over : (e : Entry) → In (heldList (p .held)) e → scoredTrue (scoreOver (p .clusters) (p .rule) (p .scores)) e ≡ scoredTrue (scoreIn p) e
+  held-over : (e : Entry) → In (heldList (p .held)) e → scoredTrue (scoreOver (p .clusters) (p .rule) (p .scores)) e
+      ≡ scoredTrue (scoreIn p) e
   held-over e i =
       let row = and-elim-right (not (isNan (e .score))) (inMarked (rowCount p) (p .marks) e) (shaped .scored e i) in
       let inside : e .position < rowCount p * rowWidth (p .clusters) =

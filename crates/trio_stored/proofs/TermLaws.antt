@@ -149,7 +149,8 @@ module _ (rule : ℕ) (f m : Pair) where
   outer-most = go (uneven rule (length (childPairs f m)))
     where
       quarter : shareTerm 4 ≼ shareTerm 2
-      quarter = not-true (ltZ (keyOf (shareTerm 2)) (keyOf (shareTerm 4))) (is-true (notAbove (shareTerm 4) (shareTerm 2)) quarter-below-half)
+      quarter = not-true (ltZ (keyOf (shareTerm 2)) (keyOf (shareTerm 4)))
+          (is-true (notAbove (shareTerm 4) (shareTerm 2)) quarter-below-half)
 
       go : (t : Bool) → let d = length (childPairs f m) in shareTerm (cond t 4 d) ≼ shareTerm (cond t 2 d)
       go true = quarter

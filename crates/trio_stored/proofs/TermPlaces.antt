@@ -93,7 +93,8 @@ module _ (n : ℕ) (f : Pair) (few : n ≤ 8) (F : PairIn n f) (differ : f .low 
       low : a < n
       low = omega (arith, F .0, F .1)
 
-      at : (x y : ℕ) → x < n → y < n → samePair (ordered x y) (ordered (genotypeAt n p .low) (genotypeAt n p .high)) ≡ eqb p (placeBoth n x y)
+      at : (x y : ℕ) → x < n → y < n → samePair (ordered x y) (ordered (genotypeAt n p .low) (genotypeAt n p .high))
+          ≡ eqb p (placeBoth n x y)
       at x y i j = rw (in-order n few p h) (both-place n few p h x y i j)
 
       ends : (samePair (ordered a a) (ordered (genotypeAt n p .low) (genotypeAt n p .high))

@@ -1,5 +1,5 @@
-// The children of one father and one mother, from the last one down (docs/RULES.md, T4, T5, T13). Of equal scores the later is better (T7), so
-// on the way down a score that is not above the second best changes nothing.
+// The children of one father and one mother, from the last one down (docs/RULES.md, T4, T5, T13). Of equal scores the later is better (T7),
+// so on the way down a score that is not above the second best changes nothing.
 ghost use mathlib.Core.Path.{_≡_};
 ghost use Prim.Native.Nat.{_+_, _≤_, _<_, _^_};
 ghost use Rattle.trio_entries.specs.Held.{heldOf, heldList};

@@ -24,11 +24,13 @@ not-many : (c : tie.Else2) → ltb 8 (c .before .before .before .before .args .n
 not-many c = le-ltb 8 (c .before .before .before .before .args .n) (c .if2 .left)
 
 counts-fit : (c : tie.Else3)
-    → eqb (length (c .before .before .before .before .before .args .counts .now)) (3 * c .before .before .before .before .before .args .n) ≡ true
+    → eqb (length (c .before .before .before .before .before .args .counts .now)) (3 * c .before .before .before .before .before .args .n)
+    ≡ true
 counts-fit c = let a = c .before .before .before .before .before .args in eq-eqb (length (a .counts .now)) (3 * a .n) (c .if3 .left)
 
 weights-fit : (c : tie.Else4)
-    → eqb (length (c .before .before .before .before .before .before .args .weights .now)) (c .before .before .before .before .before .before .args .n) ≡ true
+    → eqb (length (c .before .before .before .before .before .before .args .weights .now))
+    (c .before .before .before .before .before .before .args .n) ≡ true
 weights-fit c = let a = c .before .before .before .before .before .before .args in eq-eqb (length (a .weights .now)) (a .n) (c .if4 .left)
 
 counts-pass : (c : tie.Else5) → countsAllowed (c .before .before .before .before .before .before .before .before .args .counts .now) ≡ true
@@ -53,7 +55,8 @@ refused-requires-2 c κs = search needs
 
 returns-2 : tie.Need-returns-2
 unfolding openStep
-returns-2 c = rw (not-none (c .before .before), lt-ltb 8 (c .before .before .before .before .before .args .n) (c .before .if2 .taken)) (c .refused2 .ensures)
+returns-2 c = rw (not-none (c .before .before), lt-ltb 8 (c .before .before .before .before .before .args .n) (c .before .if2 .taken))
+    (c .refused2 .ensures)
 
 mul-if3 : tie.Need-mul-if3
 mul-if3 c = search needs

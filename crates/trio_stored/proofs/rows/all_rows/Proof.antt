@@ -47,7 +47,8 @@ loop-holds c =
     let a = some .before .args in
     let g = some .genotype-count .result in
     rw (c .nothing .ensures)
-    (blocks-none (storedScore (a .n) (a .rule) (a .scores)) (stored-fits (a .n) (a .rule) (a .scores)) 0 (g * g) g (heldOf []) (nothing-past (0 + g * (g * g))))
+    (blocks-none (storedScore (a .n) (a .rule) (a .scores)) (stored-fits (a .n) (a .rule) (a .scores)) 0 (g * g) g (heldOf [])
+    (nothing-past (0 + g * (g * g))))
 
 sub-f : tie.Need-sub-f Inv-loop μ-loop
 sub-f c = search needs
@@ -66,7 +67,8 @@ row-requires c κs =
       some .genotype-count .ensures,
       omega (arith, s .inv .within, inside .loop-test .taken),
       none .before .largest .ensures,
-      rows-past (storedScore (a .n) (a .rule) (a .scores)) (stored-fits (a .n) (a .rule) (a .scores)) (g * g) g (s .h) (s .f) (inside .loop-test .taken)
+      rows-past (storedScore (a .n) (a .rule) (a .scores)) (stored-fits (a .n) (a .rule) (a .scores)) (g * g) g (s .h) (s .f)
+          (inside .loop-test .taken)
           (s .inv),
     )
 

@@ -38,7 +38,8 @@ loop-holds : tie.Need-loop-holds Inv-loop μ-loop
 loop-holds c =
     let begun = c .before in
     let a = begun .args in
-    blocks-none (storedScore (a .n) (a .rule) (lists begun)) (stored-fits (a .n) (a .rule) (lists begun)) (a .f * (a .g * a .g)) (a .g) (a .g) (a .held)
+    blocks-none (storedScore (a .n) (a .rule) (lists begun)) (stored-fits (a .n) (a .rule) (lists begun)) (a .f * (a .g * a .g)) (a .g)
+    (a .g) (a .held)
     (begun .pre .5)
 
 sub-m : tie.Need-sub-m Inv-loop μ-loop
@@ -75,7 +76,8 @@ loop-again c =
     let a = begun .args in
     let p = begun .pre in
     let s = inside .before .loop in
-    mother-skipped (a .n) (a .rule) (a .f) (lists begun) (a .held) (s .h) (s .m) (inside .loop-test .taken) (a .g) (a .top) (p .2) (p .4) (s .inv)
+    mother-skipped (a .n) (a .rule) (a .f) (lists begun) (a .held) (s .h) (s .m) (inside .loop-test .taken) (a .g) (a .top) (p .2) (p .4)
+    (s .inv)
     (subst T (sym (rw (marked .to-pass .ensures) at (c .if1 .taken))) tt)
 
 genotype-at-requires-2 : tie.Need-genotype-at-requires-2 Inv-loop μ-loop
@@ -123,7 +125,8 @@ family-requires c κs =
     let own = number-in (a .n) (a .g) (a .f) (inside .before .before .genotype-at .result) (p .1) (p .2) (p .3)
     (inside .before .before .genotype-at .ensures) in
     let other = number-in (a .n) (a .g) (next left) (c .genotype-at2 .result) (p .1) (p .2) (next-in inside) (c .genotype-at2 .ensures) in
-    let past = block-past (storedScore (a .n) (a .rule) (lists begun)) (stored-fits (a .n) (a .rule) (lists begun)) (a .f * (a .g * a .g)) (a .g) (a .g)
+    let past = block-past (storedScore (a .n) (a .rule) (lists begun)) (stored-fits (a .n) (a .rule) (lists begun)) (a .f * (a .g * a .g))
+    (a .g) (a .g)
     (a .held) (s .h) (s .m) (inside .loop-test .taken) (s .inv) in
     ((p .1, own, other, p .2, p .4), (omega (arith, few begun, rows left, mothers left), past))
 
@@ -138,7 +141,8 @@ loop-again-2 c =
     let begun = own .before in
     let a = begun .args in
     let s = inside .before .loop in
-    mother-offered (a .n) (a .rule) (a .f) (lists begun) (a .held) (s .h) (s .m) (inside .loop-test .taken) (a .g) (own .genotype-at .result)
+    mother-offered (a .n) (a .rule) (a .f) (lists begun) (a .held) (s .h) (s .m) (inside .loop-test .taken) (a .g)
+    (own .genotype-at .result)
     (other .genotype-at2 .result) (c .family .result) (begun .pre .2) (own .genotype-at .ensures) (other .genotype-at2 .ensures) (s .inv)
     (c .family .ensures)
 
@@ -148,7 +152,8 @@ returns c =
     let begun = c .before .before .before in
     let a = begun .args in
     let none : s .m ≡ 0 = omega arith in
-    blocks-all (storedScore (a .n) (a .rule) (lists begun)) (stored-fits (a .n) (a .rule) (lists begun)) (a .f * (a .g * a .g)) (a .g) (a .g) (a .held) (s .h)
+    blocks-all (storedScore (a .n) (a .rule) (lists begun)) (stored-fits (a .n) (a .rule) (lists begun)) (a .f * (a .g * a .g)) (a .g)
+    (a .g) (a .held) (s .h)
     (subst (Mothers (a .n) (a .rule) (a .f) (lists begun) (a .held) (a .g) (s .h)) none (s .inv))
 
 pub row-spec : {M : Type 1} → statement M
