@@ -1,28 +1,16 @@
 -- The forms of a block: which byte 3 each has, and which rule. Assumes nothing.
 use Prim.Native.Nat.{ℕ, _<_}
-use mathlib.Core.Bool.{Bool, true, false, cond, _&&_, _||_, true≢false}
-use mathlib.Core.Logic.{_⊎_, inl, inr, ⊎-elim, _↔_}
-use mathlib.Core.Path.{_≡_, refl, sym}
+use mathlib.Core.Bool.{Bool, true, false, cond, _&&_}
+use mathlib.Core.Logic.{inl, inr, ⊎-elim, _↔_}
+use mathlib.Core.Path.{_≡_, refl}
 use mathlib.Mathlib.Data.Bool.Basic.{and-elim-left, and-elim-right}
 use native.Mathlib.Omega.{arith}
 use borrow.Author.Tests.{eqb-true}
 use lib.Dec.{eqb}
 use Rattle.trio_mendel.specs.Rules.{ruleAllowed}
+use Rattle.trio_mendel.proofs.RuleLaws.{allowed-says, says-allowed}
 use Rattle.trio_blocks_form.specs.Reading.{ruleBy, formRight}
-use Rattle.trio_blocks_form.specs.ReadWhen.{FirstForm, SecondForm, RightForm}
-
-allowed-says : (r : ℕ) → ruleAllowed r ≡ true → (r ≡ 1) ⊎ (r ≡ 2)
-unfolding ruleAllowed
-allowed-says r = go (eqb r 1) (eqb r 2) refl refl
-  where
-    go : (a b : Bool) → eqb r 1 ≡ a → eqb r 2 ≡ b → (a || b) ≡ true → (r ≡ 1) ⊎ (r ≡ 2)
-    go true b ea eb h = inl (eqb-true r 1 ea)
-    go false true ea eb h = inr (eqb-true r 2 eb)
-    go false false ea eb h = absurd (true≢false (sym h))
-
-says-allowed : (r : ℕ) → (r ≡ 1) ⊎ (r ≡ 2) → ruleAllowed r ≡ true
-unfolding ruleAllowed
-says-allowed r w = ⊎-elim (λ e. rw e) (λ e. rw e) w
+use Rattle.trio_blocks_form.specs.ReadWhen.{RightForm}
 
 module _ (form byte3 : ℕ) where
   form-means : formRight form byte3 ≡ true → RightForm form byte3

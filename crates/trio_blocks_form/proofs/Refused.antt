@@ -1,10 +1,10 @@
 -- When writing is refused, and what comes with it; zeros are no block; forms that there are not; and numbers in a block that no sound part
 -- has. Assumes nothing.
 use Prim.Native.Nat.{ℕ, _<_}
-use mathlib.Core.Bool.{false, true≢false}
+use mathlib.Core.Bool.{false}
 use mathlib.Core.List.{List}
 use mathlib.Core.Logic.{_↔_, _≢_, ⊎-elim}
-use mathlib.Core.Path.{_≡_, refl, sym, ap, _∙_}
+use mathlib.Core.Path.{_≡_, refl, ap}
 use native.Mathlib.Omega.{arith}
 use borrow.Author.Tests.{eq-eqb}
 use lib.ListN.{length, replicate}
@@ -17,7 +17,7 @@ use Rattle.trio_parts.specs.Part.{rowCount, emptyPart}
 use Rattle.trio_parts.specs.Right.{inputRight, rightPart}
 use Rattle.trio_parts.specs.Sound.{soundPart}
 use Rattle.trio_parts.proofs.RightLaws.{right-input, some-clusters}
-use Rattle.trio_parts.proofs.SoundLaws.{sound-right, wrong-unsound}
+use Rattle.trio_parts.proofs.SoundLaws.{sound-right, wrong-unsound, no-rule-bad}
 use Rattle.trio_blocks_form.specs.declared.written.Written.{Written}
 use Rattle.trio_blocks_form.specs.Writing.{writtenOf}
 use Rattle.trio_blocks_form.specs.Reading.{clustersIn, heldIn, partIn, layoutRight, refuses, readOf}
@@ -49,8 +49,7 @@ empty-written = bad-written emptyPart (wrong-unsound emptyPart refl)
 
 -- T13, R12: and of one whose rule is no rule
 pub no-rule-written : (p : Part) → ruleAllowed (p .rule) ≡ false → writtenOf p ≡ record { refusal = BadPart; block = replicate 512 0 }
-no-rule-written p h =
-    bad-written p (only-false (soundPart p) (λ e. true≢false (sym (right-shape p (sound-right p e) .rule) ∙ h)))
+no-rule-written p h = bad-written p (no-rule-bad p h)
 
 -- ---- reading
 

@@ -1,10 +1,12 @@
 -- R12, S4: every step answers 12 exactly where a part is not sound, and hands it back as it was given. Of parts that the types allow: a
--- forged list and a forged score are never sound, be the difference one bit, a NaN, or −0.0 for 0.0.
+-- forged list and a forged score are never sound, be the difference one bit, a NaN, or −0.0 for 0.0. And R9:
+-- two sound parts are refused with 9 exactly where their inputs are not one, their rules among these.
 use Prim.Native.Nat.{ℕ}
 use mathlib.Core.Bool.{Bool, true, false, cond, _&&_, and-false, true≢false}
 use mathlib.Core.Logic.{_↔_, _≢_}
 use mathlib.Core.Path.{_≡_, refl, ap}
 use native.Mathlib.Omega.{arith}
+use borrow.Author.Tests.{ne-eqb}
 use lib.Dec.{eqb, ltb}
 use Rattle.refusals.specs.declared.Refusal.the-variants.{Done, Row, OtherTrio, NotComplete, BadPart}
 use Rattle.refusals.specs.Refusals.{numberOf}
@@ -104,3 +106,24 @@ module _ (p : Part) where
     -- a triple held with a score that is not that of its position
     pub forged-score : (e : Entry) → In (heldList (p .held)) e → e .score ≢ scoreIn p (e .position) → soundPart p ≡ false
     forged-score e i other = unsound (λ s. other (ap (λ (x : Entry). x .score) (sound-true p typed s .entries e i)))
+
+-- R9: of two sound parts, 9 exactly where their inputs are not one
+pub merge-other : (p q : Part) → soundPart p ≡ true → soundPart q ≡ true → (mergeStep p q .refusal ≡ OtherTrio) ↔ (sameInput p q ≡ false)
+unfolding mergeStep
+merge-other p q s u = rw (s, u) (go (sameInput p q))
+  where
+    merged : Part
+    merged = withWork p (joined (workIn p) (workIn q))
+
+    go : (t : Bool) → (cond t (gives Done merged) (gives OtherTrio p) .refusal ≡ OtherTrio) ↔ (t ≡ false)
+    go true = (λ e. absurd (omega (arith, ap numberOf e)), λ e. absurd (true≢false e))
+    go false = (λ e. refl, λ e. refl)
+
+-- R9, T13: another rule is enough, whatever else they share, and the first part comes back
+pub other-rule : (p q : Part) → soundPart p ≡ true → soundPart q ≡ true → p .rule ≢ q .rule → mergeStep p q ≡ gives OtherTrio p
+unfolding mergeStep sameInput
+other-rule p q s u d = rw (s, u, ne-eqb (p .rule) (q .rule) d) (go (eqb (p .clusters) (q .clusters)))
+  where
+    go : (t : Bool) → cond (t && false) (gives Done (withWork p (joined (workIn p) (workIn q)))) (gives OtherTrio p) ≡ gives OtherTrio p
+    go true = refl
+    go false = refl

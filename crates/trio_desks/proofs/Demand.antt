@@ -1,6 +1,6 @@
 -- D3, for every trio that an opening accepts, and what follows from it for merging.
 use Prim.Native.Nat.{ℕ}
-use mathlib.Core.Bool.{true, false, or-comm, or-assoc, or-self}
+use mathlib.Core.Bool.{or-comm, or-assoc, or-self}
 use mathlib.Core.List.{List}
 use mathlib.Core.Logic.{_≢_}
 use mathlib.Core.Path.{_≡_, refl, sym, ap, subst, _∙_}

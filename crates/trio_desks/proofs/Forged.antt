@@ -31,7 +31,7 @@ use Rattle.trio_parts.specs.declared.part.Part.{Part}
 use Rattle.trio_parts.specs.Part.{weightAllowed, scoreIn, rowCount, freshPart, emptyPart, gives}
 use Rattle.trio_parts.specs.Right.{inputRight, rightPart}
 use Rattle.trio_parts.specs.Sound.{soundPart}
-use Rattle.trio_parts.specs.Typed.{Floats, TypedPart, TruePart}
+use Rattle.trio_parts.specs.Typed.{TypedPart, TruePart}
 use Rattle.trio_parts.proofs.RightLaws.{right-input}
 use Rattle.trio_parts.proofs.SoundLaws.{true-sound, wrong-unsound}
 use Rattle.trio.specs.Steps.{rowStep, mergeStep}

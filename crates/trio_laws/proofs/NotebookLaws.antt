@@ -3,7 +3,7 @@
 -- which of the four combinations can be the same. Assumes nothing.
 use Prim.Native.Nat.{ℕ, _+_, _≤_, _<_}
 use mathlib.Core.Path.{_≡_, refl, sym, _∙_}
-use mathlib.Core.Bool.{Bool, true, false, cond, _||_, and-comm, or-comm, or-true, false≢true}
+use mathlib.Core.Bool.{Bool, true, false, cond, _||_, and-comm, or-comm, false≢true}
 use mathlib.Core.List.{[], _∷_, map}
 use native.Mathlib.Omega.{arith}
 use borrow.Author.Tests.{eqb-true, eqb-false, eq-eqb}
@@ -17,7 +17,7 @@ use Rattle.trio_family.specs.declared.pair.Pair.{Pair}
 use Rattle.trio_family.specs.Genotypes.{pair}
 use Rattle.trio_mendel.specs.Mendel.{ordered, samePair, childPairs, mendelTerm}
 use Rattle.trio_mendel.specs.Decision.{carries, alleleCount, sharedCount, noted, notebook, hasCounts, pairsMade, fromEach, inherits}
-use Rattle.trio_mendel.proofs.MendelLaws.{same-is, together, together-is, matchedPairs, same-ordered}
+use Rattle.trio_mendel.proofs.MendelLaws.{together, together-is, matchedPairs, same-ordered}
 use Rattle.trio_mendel.proofs.ChildLaws.{child-among}
 use Rattle.trio_mendel.proofs.CountLaws.{oneIf, countBy, sharedBy, count-by, shared-by, pairs-made}
 use Rattle.trio_laws.specs.Couples.{lineFor, couples}

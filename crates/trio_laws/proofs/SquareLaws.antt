@@ -1,21 +1,22 @@
 -- The two rules on the square of two parents, and that the parents may change places under both. Assumes nothing (RULES.md, T3, T13).
 use Prim.Native.Nat.{ℕ, _+_}
 use native.Mathlib.Omega.{arith}
-use mathlib.Core.Bool.{Bool, true, false, cond, not, _&&_, _||_, or-true, true≢false}
+use mathlib.Core.Bool.{Bool, true, false, cond, _||_, or-true, true≢false}
 use mathlib.Core.Logic.{_≢_}
-use mathlib.Core.Path.{_≡_, refl, sym, ap, ap₂, subst, _∙_}
+use mathlib.Core.Path.{_≡_, refl, sym, ap, ap₂, _∙_}
 use borrow.Author.Tests.{eq-eqb, ne-eqb, eqb-true}
 use lib.Dec.{eqb}
 use lib.ListN.{length}
-use lib.Ieee.{Float}
-use Rattle.floats.specs.F64.{_⊘_, nat, decimal}
-use Rattle.kernels.specs.Ln.{lnOf}
+use lib.Ieee.{Float, binary64, size, add, sub, mul, div, round, lt, le, ofInt, ofBits, neg, toBits}
+use Rattle.floats.specs.Apart.{exponent, significand}
+use Rattle.floats.specs.F64.{decimal}
+use Rattle.kernels.specs.Ln.{lnNearOne, lnParts, lnReduced, lnPositive, lnOf}
 use Rattle.trio_family.specs.declared.pair.Pair.{Pair}
 use Rattle.trio_family.specs.Genotypes.{pair}
-use Rattle.trio_mendel.specs.Mendel.{ordered, samePair, among, combinations, childPairs, mendelTerm}
+use Rattle.trio_mendel.specs.Mendel.{ordered, samePair, childPairs, mendelTerm}
 use Rattle.trio_mendel.specs.Decision.{inherits}
 use Rattle.trio_mendel.specs.Rules.{waysOf, gameteTerm, termOf, alikeHets}
-use Rattle.trio_mendel.proofs.MendelLaws.{same-ordered, either-order, same-row, same-column}
+use Rattle.trio_mendel.proofs.MendelLaws.{same-itself, same-ordered, either-order, same-row, same-column}
 use Rattle.trio_mendel.proofs.ChildLaws.{child-combined, child-among}
 use Rattle.trio_mendel.proofs.CountLaws.{oneIf}
 use Rattle.trio_mendel.proofs.WaysLaws.{four-ways, three-alike}
@@ -41,7 +42,7 @@ ways-exchanged c f m =
       swap (f .high) (m .high),
     )
 
-pub gametes-exchanged : (c f m : Pair) → gameteTerm c f m ≡ gameteTerm c m f
+gametes-exchanged : (c f m : Pair) → gameteTerm c f m ≡ gameteTerm c m f
 unfolding gameteTerm
 gametes-exchanged c f m = rw (ways-exchanged c f m)
 
@@ -80,6 +81,23 @@ stranger-term rule c f m h =
     go true = refl
     go false = refl
 
+-- ---- the four terms are four numbers
+
+apart : (x y : Float) → eqb (toBits binary64 x) (toBits binary64 y) ≡ false → x ≢ y
+apart x y h e = true≢false (sym (eq-eqb (toBits binary64 x) (toBits binary64 y) (ap (toBits binary64) e)) ∙ h)
+
+third-half : oneOf 3 ≢ oneOf 2
+unfolding lnOf lnPositive lnReduced lnParts lnNearOne exponent significand size add sub mul div round lt le ofInt ofBits neg toBits
+third-half = apart (oneOf 3) (oneOf 2) refl
+
+third-quarter : oneOf 3 ≢ oneOf 4
+unfolding lnOf lnPositive lnReduced lnParts lnNearOne exponent significand size add sub mul div round lt le ofInt ofBits neg toBits
+third-quarter = apart (oneOf 3) (oneOf 4) refl
+
+third-stranger : oneOf 3 ≢ lnOf (decimal 1 6)
+unfolding lnOf lnPositive lnReduced lnParts lnNearOne exponent significand size add sub mul div round lt le ofInt ofBits neg toBits
+third-stranger = apart (oneOf 3) (lnOf (decimal 1 6)) refl
+
 -- ---- a quarter, a half, a quarter; and thirds
 
 module _ (a b : ℕ) (differ : a ≢ b) where
@@ -103,9 +121,6 @@ module _ (a b : ℕ) (differ : a ≢ b) where
       → (samePair (ordered a a) z || samePair (ordered b b) z) ≡ true → termOf 2 c both both ≡ oneOf 4
   fourth c middle end = rule-two c both both ∙ gametes-alike a b differ c ∙ rw (middle, end)
 
-  itself : (p : Pair) → samePair p p ≡ true
-  itself p = rw (eq-eqb (p .low) (p .low) refl, eq-eqb (p .high) (p .high) refl)
-
   pub square-weights : SquareWeights a b
   unfolding inherits
   square-weights =
@@ -114,12 +129,26 @@ module _ (a b : ℕ) (differ : a ≢ b) where
       record {
         two-first =
             fourth (pair a a) (same-row a b a ∙ ne-eqb b a (λ e. differ (sym e)))
-            (ap (λ t. t || samePair (ordered b b) (ordered a a)) (itself (ordered a a)));
-        two-middle = rule-two both both both ∙ gametes-alike a b differ both ∙ rw (itself (ordered a b));
+            (ap (λ t. t || samePair (ordered b b) (ordered a a)) (same-itself (ordered a a)));
+        two-middle = rule-two both both both ∙ gametes-alike a b differ both ∙ rw (same-itself (ordered a b));
         two-last =
             fourth (pair b b) (same-column a b b ∙ ne-eqb a b differ)
-            (ap (λ t. samePair (ordered a a) (ordered b b) || t) (itself (ordered b b)) ∙ or-true (samePair (ordered a a) (ordered b b)));
+            (ap (λ t. samePair (ordered a a) (ordered b b) || t) (same-itself (ordered b b)) ∙ or-true (samePair (ordered a a) (ordered b b)));
         one-first = third (pair a a) (rw a-a);
         one-middle = third both (rw (a-a, b-b, or-true (eqb a b)));
         one-last = third (pair b b) (rw (b-b, or-true (eqb a b)));
       }
+
+  -- so there the two rules give each of the three another term
+  pub rules-differ : (c : Pair) → inherits c both both ≡ true → termOf 1 c both both ≢ termOf 2 c both both
+  rules-differ c h e =
+      go (isIt a b) (isIt a a || isIt b b)
+      (sym (third c h) ∙ e ∙ rule-two c both both ∙ gametes-alike a b differ c)
+    where
+      isIt : ℕ → ℕ → Bool
+      isIt x y = samePair (ordered x y) (ordered (c .low) (c .high))
+
+      go : (s t : Bool) → oneOf 3 ≡ cond s (oneOf 2) (cond t (oneOf 4) (lnOf (decimal 1 6))) → ⊥
+      go true t q = third-half q
+      go false true q = third-quarter q
+      go false false q = third-stranger q

@@ -1,6 +1,6 @@
 -- Rule 1 is, bit for bit, what there was before there were two. Assumes nothing (RULES.md, T13, D2).
 use Prim.Native.Nat.{ℕ, _*_}
-use mathlib.Core.Bool.{Bool, true, false, not, cond, _&&_}
+use mathlib.Core.Bool.{Bool, true, false, not, cond, _&&_, and-true}
 use mathlib.Core.List.{List}
 use mathlib.Core.Path.{_≡_, refl, sym, ap, _∙_}
 use lib.Dec.{eqb, ltb}
@@ -8,22 +8,23 @@ use lib.Ieee.{Float, lt}
 use lib.ListN.{length}
 use Rattle.lists.specs.Every.{every}
 use Rattle.limits.specs.Limits.{countsAllowed}
-use Rattle.refusals.specs.declared.Refusal.{Refusal}
 use Rattle.refusals.specs.declared.Refusal.the-variants.{Done, NoCluster, TooMany, Shape, Count, Weight}
 use Rattle.floats.specs.F64.{_⊕_}
-use Rattle.trio_family.specs.declared.pair.Triple.{Triple}
 use Rattle.trio_family.specs.declared.sample.Sample.the-variants.{Child, Father, Mother}
 use Rattle.trio_samples.specs.Samples.{sampleScore}
 use Rattle.trio_mendel.specs.Rules.{ruleAllowed}
 use Rattle.trio_mendel.proofs.RuleLaws.{rule-one}
 use Rattle.trio_parts.specs.declared.part.Part.{Part}
 use Rattle.trio_parts.specs.Part.{weightAllowed, scoreIn}
+use Rattle.trio_parts.specs.Right.{noWeight, placesRight, inputRight, rightPart}
+use Rattle.trio_parts.specs.Same.{sameInput}
+use Rattle.trio_parts.specs.Sound.{heldTrue, soundPart}
 use Rattle.trio_triples.specs.Genotypes.{tripleOf}
 use Rattle.trio_triples.specs.Score.{tripleScore, scoreOf}
 use Rattle.trio_opening.specs.Opening.{openStep}
 use Rattle.trio_desks.specs.Call.{callOf}
 use Rattle.trio_desks.proofs.Opening.{openedBy}
-use Rattle.trio_meanings.specs.Before.{scoreBefore, positionBefore, refusalBefore, loopsBefore}
+use Rattle.trio_meanings.specs.Before.{scoreBefore, positionBefore, refusalBefore, loopsBefore, inputBefore, soundBefore, sameBefore}
 use Rattle.trio_meanings.specs.Loops.{loopsBy, saidBy}
 use Rattle.trio_meanings.proofs.LoopLaws.{loops-call}
 
@@ -58,8 +59,20 @@ module _ (n : ℕ) (counts : List ℕ) (weights : List Float) where
   pub answers-before : openStep n counts weights 1 .refusal ≡ Done → loopsBefore n counts weights ≡ saidBy n (callOf n counts weights 1)
   answers-before accepted = ap (loopsBy lt n counts) (sym score-before) ∙ loops-call n counts weights 1 accepted
 
--- and the score by which the rows of a part are searched, its marks and triples being what they were
+-- ---- of parts of rule 1
+
+-- the score by which their rows are searched
 pub search-before : (p : Part) → p .rule ≡ 1 → scoreIn p ≡ positionBefore (p .clusters) (p .counts) (p .weights)
 search-before p e =
     ap (scoreOf (p .clusters) (p .counts) (p .weights)) e
     ∙ (λ i q. score-before (p .clusters) (p .counts) (p .weights) i (tripleOf (p .clusters) q))
+
+-- which of them are sound, so that 12 is given where it was
+pub sound-before : (p : Part) → p .rule ≡ 1 → soundPart p ≡ soundBefore p
+unfolding soundPart rightPart inputRight heldTrue soundBefore inputBefore ruleAllowed
+sound-before p e = rw (search-before p e, e, and-true (placesRight weightAllowed noWeight (p .clusters) (p .weights)))
+
+-- and which two have one input, so that 9 is
+pub same-before : (a b : Part) → a .rule ≡ 1 → b .rule ≡ 1 → sameInput a b ≡ sameBefore a b
+unfolding sameInput sameBefore
+same-before a b e d = rw (e, d)

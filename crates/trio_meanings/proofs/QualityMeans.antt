@@ -1,14 +1,14 @@
 -- T11 beside T10: of an accepted input 0 exactly where an animal is unread, 3 at a tie, behind Inferred too, from 3 to 100 otherwise, and
 -- kanpig's number where all are read; of the call, and of closing whatever a history ends with. Assumes nothing.
 use Prim.Native.Nat.{ℕ, _≤_, _<_}
-use mathlib.Core.Bool.{Bool, true, false, not, cond, decide, decide-iff, _&&_, true≢false}
+use mathlib.Core.Bool.{Bool, true, false, cond}
 use mathlib.Core.List.{List, [], _∷_}
 use mathlib.Core.Logic.{_↔_, ⊎-elim, _≢_}
 use mathlib.Core.Path.{_≡_, refl, sym, ap, subst, _∙_}
 use native.Mathlib.Omega.{arith}
 use borrow.Author.Tests.{eqb-true, eqb-false}
 use lib.Ieee.{Float, lt}
-use lib.IntN.{ℤ, pos, ℤ-discrete}
+use lib.IntN.{ℤ, pos}
 use lib.Signed.{ltZ, _≤ℤ_, ltZ-yes, clashℤ}
 use lib.Dec.{T, eqb}
 use Rattle.floats.specs.Key.{keyOf}
@@ -17,13 +17,8 @@ use Rattle.refusals.specs.declared.Refusal.the-variants.{Done}
 use Rattle.refusals.specs.Refusals.{numberOf}
 use Rattle.trio_family.specs.declared.ground.Ground.{Ground}
 use Rattle.trio_family.specs.declared.ground.Ground.the-variants.{NoGround, Won, Tied, Unread, Inferred}
-use Rattle.trio_family.specs.Grounds.{groundBy}
-use Rattle.trio_family.specs.Numbers.{groundNumber}
 use Rattle.trio_samples.specs.Samples.{columnTotal}
-use Rattle.trio_reads.specs.declared.flags.TripleRead.{TripleRead}
-use Rattle.trio_reads.specs.Flags.{tripleRead, allelesRead}
 use Rattle.trio_reads.specs.Unread.{unread}
-use Rattle.trio_triples.specs.Genotypes.{tripleOf}
 use Rattle.trio_triples.specs.Score.{scoreOf}
 use Rattle.trio_parts.specs.declared.part.Part.{Part}
 use Rattle.trio_parts.specs.declared.part.Stepped.{Stepped}
@@ -37,7 +32,7 @@ use Rattle.trio_quality_laws.proofs.QualityLaws.{quality-most, unread-nothing, 
 use Rattle.trio_quality_laws.proofs.QualityLeast.{quality-least}
 use Rattle.trio_quality_laws.proofs.QualityExamples.{quality-examples}
 use Rattle.trio_closings.specs.declared.closing.Closed.{Closed}
-use Rattle.trio_closings.specs.Closing.{hasRunner, tied, closedAs, refusedClosing, closeStep}
+use Rattle.trio_closings.specs.Closing.{hasRunner, closedAs, refusedClosing, closeStep}
 use Rattle.trio_desks.specs.Call.{callOf}
 use Rattle.trio_desks.specs.History.{History, AllWorked, Promised, partOf}
 use Rattle.trio_desks.specs.Steps.{openedPart}

@@ -33,7 +33,7 @@ use Rattle.trio_meanings.specs.Called.{LastBest, positionCount}
 use Rattle.trio_meanings.specs.Loops.{Outcome, saidBy}
 use Rattle.trio_meanings.specs.TwoRules.{alikeParents, alikeIn}
 use Rattle.trio_meanings.proofs.Acceptance.{accepts-exactly}
-use Rattle.trio_meanings.proofs.CallLaws.{heldBy, answerBy, call-is, held-picked}
+use Rattle.trio_meanings.proofs.CallLaws.{heldBy, call-is, held-picked}
 use Rattle.trio_meanings.proofs.LastBestLaws.{Picked}
 
 -- ---- the last of the best, by two keys that agree on both
@@ -192,6 +192,35 @@ module _ (n : ℕ) (counts : List ℕ) (weights : List Float) where
         let first = first-same (score r) (score s) many (held r) (held s) P Q f g in
         let runner = runner-same (score r) (score s) many (held r) (held s) P Q f g in
         said-with r one ∙ (λ i. saidWith (runner i) (first i) (second i)) ∙ sym (said-with s other)
+
+    -- where neither calls such parents, whatever the runners-up have, both call the same triple with the same score
+    triple-same : alikeParents (callOf n counts weights r .triple) ≡ false → alikeParents (callOf n counts weights s .triple) ≡ false
+        → (callOf n counts weights r .triple ≡ callOf n counts weights s .triple)
+        × (callOf n counts weights r .score ≡ callOf n counts weights s .score)
+    unfolding closedAs
+    triple-same a b =
+        let mine = call-is n counts weights r one in
+        let theirs = call-is n counts weights s other in
+        let score = scoreOf n counts weights in
+        let apart-at : (q : ℕ) → alikeParents (tripleOf n q) ≡ false → score r q ≡ score s q = λ q e. score-same r s (tripleOf n q) e in
+        let f = apart-at (held r .first .position) (sym (ap (λ (c : Closed). alikeParents (c .triple)) mine) ∙ a) in
+        let g = apart-at (held s .first .position) (sym (ap (λ (c : Closed). alikeParents (c .triple)) theirs) ∙ b) in
+        let P = held-picked n counts weights r one in
+        let Q = held-picked n counts weights s other in
+        let first = first-same (score r) (score s) (positionCount n) (held r) (held s) P Q f g in (
+          ap (λ (c : Closed). c .triple) mine
+              ∙ ap (λ (e : Entry). tripleOf n (e .position)) first
+              ∙ sym (ap (λ (c : Closed). c .triple) theirs),
+          ap (λ (c : Closed). c .score) mine ∙ ap (λ (e : Entry). e .score) first ∙ sym (ap (λ (c : Closed). c .score) theirs),
+        )
+
+-- For a clerk who looks at the called pairs alone: where neither rule calls parents that are the same heterozygote, both call the same
+-- triple with the same score, whatever their runners-up are
+pub called-same : (n : ℕ) (counts : List ℕ) (weights : List Float) → openStep n counts weights 1 .refusal ≡ Done
+    → alikeParents (callOf n counts weights 1 .triple) ≡ false → alikeParents (callOf n counts weights 2 .triple) ≡ false
+    → (callOf n counts weights 1 .triple ≡ callOf n counts weights 2 .triple)
+    × (callOf n counts weights 1 .score ≡ callOf n counts weights 2 .score)
+called-same n counts weights accepted = triple-same n counts weights 1 2 accepted (either-accepted n counts weights accepted)
 
 -- For a clerk: where neither rule's call nor its runner-up has parents that are the same heterozygote, both rules say the same
 pub rule-free : (n : ℕ) (counts : List ℕ) (weights : List Float) → openStep n counts weights 1 .refusal ≡ Done

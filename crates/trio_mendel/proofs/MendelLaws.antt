@@ -29,6 +29,9 @@ same-is p q e =
     let parts = together-is (p .low) (q .low) (p .high) (q .high) e in
     ap (λ x. record { low = x; high = p .high }) (parts .0) ∙ ap (λ x. record { low = q .low; high = x }) (parts .1)
 
+pub same-itself : (p : Pair) → samePair p p ≡ true
+same-itself p = rw (eq-eqb (p .low) (p .low) refl, eq-eqb (p .high) (p .high) refl)
+
 -- ---- two pairs are the same when their alleles are, one way round or the other
 
 or-left : (s t : Bool) → (t ≡ true → s ≡ true) → s ≡ (s || t)

@@ -2,20 +2,20 @@
 use Prim.Native.Nat.{ℕ, _+_}
 use native.Mathlib.Omega.{arith}
 use mathlib.Core.Logic.{_⊎_, _≢_, inl, inr, ⊎-elim}
-use mathlib.Core.Path.{_≡_, refl, sym, ap, subst, _∙_}
+use mathlib.Core.Path.{_≡_, refl, sym, ap, _∙_}
 use mathlib.Core.Bool.{Bool, true, false, cond, _&&_, _||_, and-comm, true≢false}
-use borrow.Author.Tests.{eqb-true, eq-eqb, ne-eqb}
+use borrow.Author.Tests.{eqb-true, ne-eqb}
 use lib.Dec.{eqb}
 use lib.ListN.{length}
-use lib.Ieee.{Float, binary64, size, add, sub, mul, div, round, lt, le, ofInt, ofBits, neg}
+use lib.Ieee.{binary64, size, add, sub, mul, div, round, lt, le, ofInt, ofBits, neg}
 use Rattle.floats.specs.F64.{_⊘_, nat, decimal}
 use Rattle.kernels.specs.Ln.{lnOf}
 use Rattle.lists.proofs.NumberLaws.{eqb-swap}
 use Rattle.trio_family.specs.declared.pair.Pair.{Pair}
 use Rattle.trio_family.specs.Genotypes.{pair}
 use Rattle.trio_mendel.specs.Mendel.{ordered, samePair, among, combinations, childPairs, mendelTerm}
-use Rattle.trio_mendel.specs.Rules.{waysOf, gameteTerm, termOf, alikeHets}
-use Rattle.trio_mendel.proofs.MendelLaws.{same-is, same-ordered, either-order, same-row, same-column, distinct-same}
+use Rattle.trio_mendel.specs.Rules.{waysOf, gameteTerm, termOf, ruleAllowed, alikeHets}
+use Rattle.trio_mendel.proofs.MendelLaws.{same-is, same-itself, same-ordered, either-order, same-row, same-column, distinct-same}
 use Rattle.trio_mendel.proofs.CountLaws.{oneIf}
 use Rattle.trio_mendel.proofs.WaysLaws.{four-ways, differentBy, waysBy, crosswise, straightOn, different-by, apart-or-one}
 
@@ -27,6 +27,20 @@ rule-one c f m = refl
 pub rule-two : (c f m : Pair) → termOf 2 c f m ≡ gameteTerm c f m
 unfolding termOf
 rule-two c f m = refl
+
+-- the numbers that name a rule are 1 and 2
+pub allowed-says : (r : ℕ) → ruleAllowed r ≡ true → (r ≡ 1) ⊎ (r ≡ 2)
+unfolding ruleAllowed
+allowed-says r = go (eqb r 1) (eqb r 2) refl refl
+  where
+    go : (a b : Bool) → eqb r 1 ≡ a → eqb r 2 ≡ b → (a || b) ≡ true → (r ≡ 1) ⊎ (r ≡ 2)
+    go true b p q h = inl (eqb-true r 1 p)
+    go false true p q h = inr (eqb-true r 2 q)
+    go false false p q h = absurd (true≢false (sym h))
+
+pub says-allowed : (r : ℕ) → (r ≡ 1) ⊎ (r ≡ 2) → ruleAllowed r ≡ true
+unfolding ruleAllowed
+says-allowed r w = ⊎-elim (λ e. rw e) (λ e. rw e) w
 
 -- ---- a child's pair is none of the four, or one of them; then it is made in as many ways as that one
 
@@ -70,9 +84,6 @@ module _ (a b k l : ℕ) (z : Pair) where
   made : (w : ℕ) → w ≡ oneIf (isIt a k) + oneIf (isIt a l) + oneIf (isIt b k) + oneIf (isIt b l) → Made w
   made w e = go (isIt a k) (isIt a l) (isIt b k) (isIt b l) refl refl refl refl
     where
-      itself : (p : Pair) → samePair p p ≡ true
-      itself p = rw (eq-eqb (p .low) (p .low) refl, eq-eqb (p .high) (p .high) refl)
-
       -- each of the four tests where z is the combination of x and y
       test : (x y u v : ℕ) → isIt x y ≡ true → isIt u v ≡ samePair (ordered u v) (ordered x y)
       test x y u v h = ap (samePair (ordered u v)) (sym (same-is (ordered x y) z h))
@@ -122,10 +133,10 @@ one-half : nat 1 ⊘ nat 2 ≡ ofBits binary64 0x3FE0_0000_0000_0000
 unfolding size add sub mul div round lt le ofInt ofBits neg
 one-half = refl
 
-pub all-ways : nat 4 ⊘ nat 4 ≡ nat 1 ⊘ nat 1
+all-ways : nat 4 ⊘ nat 4 ≡ nat 1 ⊘ nat 1
 all-ways = four-fourths ∙ sym one-whole
 
-pub two-ways : nat 2 ⊘ nat 4 ≡ nat 1 ⊘ nat 2
+two-ways : nat 2 ⊘ nat 4 ≡ nat 1 ⊘ nat 2
 two-ways = two-fourths ∙ sym one-half
 
 even-apart : (ab kl : Bool) → nat (waysBy ab kl false) ⊘ nat 4 ≡ nat 1 ⊘ nat (differentBy ab kl false false)
@@ -150,9 +161,9 @@ module _ (f m : Pair) where
   abbrev l : ℕ
   l = m .high
 
-  share : (opposite : Bool) → ((crosswise a b k l ≡ false) × (straightOn a b k l ≡ false) → opposite ≡ false)
+  even-share : (opposite : Bool) → ((crosswise a b k l ≡ false) × (straightOn a b k l ≡ false) → opposite ≡ false)
       → alikeHets f m ≡ false → nat (waysBy (eqb a b) (eqb k l) opposite) ⊘ nat 4 ≡ nat 1 ⊘ nat (length (childPairs f m))
-  share opposite apart h =
+  even-share opposite apart h =
       ⊎-elim
       (λ e. rw (different-by a b k l, apart e, e .0, e .1) (even-apart (eqb a b) (eqb k l)))
       (λ e. rw (different-by a b k l, e .0, e .1) (even-one opposite (crosswise a b k l) (straightOn a b k l)))
@@ -174,8 +185,8 @@ module _ (f m : Pair) where
 
       go : Made a b k l z (waysOf c f m) → gameteTerm c f m ≡ mendelTerm c f m
       go (never e t) = rw (e, there, t)
-      go (likeEnds e t) = rw (e, some (crosswise a b k l), there, t) (ap lnOf (share (crosswise a b k l) (λ p. p .0) h))
-      go (likeMiddle e t) = rw (e, some (straightOn a b k l), there, t) (ap lnOf (share (straightOn a b k l) (λ p. p .1) h))
+      go (likeEnds e t) = rw (e, some (crosswise a b k l), there, t) (ap lnOf (even-share (crosswise a b k l) (λ p. p .0) h))
+      go (likeMiddle e t) = rw (e, some (straightOn a b k l), there, t) (ap lnOf (even-share (straightOn a b k l) (λ p. p .1) h))
 
 pub rules-agree : (c f m : Pair) (rule : ℕ) → alikeHets f m ≡ false → termOf rule c f m ≡ mendelTerm c f m
 unfolding termOf
@@ -201,11 +212,8 @@ module _ (a b : ℕ) (differ : a ≢ b) (c : Pair) where
   never-two : (x y u v : ℕ) → samePair (ordered x y) (ordered u v) ≡ eqb a b → isChild x y ≡ true → isChild u v ≡ true → ⊥
   never-two x y u v same h g =
       let e = same-is (ordered x y) own h ∙ sym (same-is (ordered u v) own g) in
-      let t = sym (ap (λ (p : Pair). samePair p (ordered u v)) e ∙ itself (ordered u v)) ∙ same in
+      let t = sym (ap (λ (p : Pair). samePair p (ordered u v)) e ∙ same-itself (ordered u v)) ∙ same in
       differ (eqb-true a b (sym t))
-    where
-      itself : (p : Pair) → samePair p p ≡ true
-      itself p = rw (eq-eqb (p .low) (p .low) refl, eq-eqb (p .high) (p .high) refl)
 
   homozygotes : samePair (ordered a a) (ordered b b) ≡ eqb a b
   homozygotes = same-ordered a a b b ∙ go (eqb a b)

@@ -6,7 +6,7 @@ use mathlib.Core.Logic.{_⊎_, inl, inr}
 use mathlib.Core.Path.{_≡_, refl, sym, ap, _∙_}
 use mathlib.Core.Bool.{Bool, true, false, not, cond, _&&_, _||_, true≢false}
 use mathlib.Core.List.{List, [], _∷_}
-use borrow.Author.Tests.{eqb-true, eq-eqb}
+use borrow.Author.Tests.{eq-eqb}
 use lib.Dec.{eqb}
 use lib.ListN.{length}
 use Rattle.lists.specs.Lists.{passing}
@@ -14,10 +14,10 @@ use Rattle.lists.proofs.NumberLaws.{eqb-swap}
 use Rattle.lists.proofs.PassingLaws.{passing-length}
 use Rattle.trio_family.specs.declared.pair.Pair.{Pair}
 use Rattle.trio_family.specs.Genotypes.{pair}
-use Rattle.trio_mendel.specs.Mendel.{ordered, samePair, among, combinations, childPairs}
+use Rattle.trio_mendel.specs.Mendel.{ordered, samePair, combinations, childPairs}
 use Rattle.trio_mendel.specs.Rules.{waysOf, alikeHets}
-use Rattle.trio_mendel.proofs.MendelLaws.{together-is, same-is, same-ordered, same-row, same-column, distinct-same, oneMoreUnless}
-use Rattle.trio_mendel.proofs.CountLaws.{oneIf, byList, four-by-list}
+use Rattle.trio_mendel.proofs.MendelLaws.{together-is, same-ordered, oneMoreUnless}
+use Rattle.trio_mendel.proofs.CountLaws.{oneIf, four-by-list}
 
 -- ---- how many of four pass a test
 

@@ -1,4 +1,4 @@
--- The Mendelian term. Definitions only (RULES.md, T3).
+-- The Mendelian term under rule 1. Definitions only (RULES.md, T3).
 use Prim.Native.Nat.{ℕ}
 use mathlib.Core.Bool.{Bool, false, cond, _&&_, _||_}
 use mathlib.Core.List.{List, [], _∷_}

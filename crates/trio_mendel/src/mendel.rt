@@ -1,4 +1,4 @@
-// The Mendelian term: how likely a child is, given its parents (docs/RULES.md, T3; docs/MENDEL.md).
+// The Mendelian term under rule 1: how likely a child is, given its parents (docs/RULES.md, T3; docs/MENDEL.md).
 ghost use mathlib.Core.Path.{_≡_};
 ghost use lib.ListN.{length};
 ghost use Rattle.trio_mendel.specs.Mendel.{childPairs, mendelTerm};

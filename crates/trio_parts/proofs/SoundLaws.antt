@@ -1,7 +1,7 @@
 -- What a sound part is: by how many triples it holds; by its parts; that of parts that the types allow, bits tell the scores; and what two
 -- parts of one input share.
 use Prim.Native.Nat.{ℕ, zero, suc, _*_, _/_, _<_}
-use mathlib.Core.Bool.{Bool, true, false, not, _&&_, and-true}
+use mathlib.Core.Bool.{Bool, true, false, not, _&&_, and-true, true≢false}
 use mathlib.Core.List.{List, [], _∷_}
 use mathlib.Core.Logic.{_≢_, inl, inr}
 use mathlib.Core.Path.{_≡_, refl, sym, ap, ap₂, subst, _∙_}
@@ -20,6 +20,7 @@ use Rattle.limits.specs.Limits.{allFit}
 use Rattle.trio_entries.specs.declared.entry.Entry.{Entry}
 use Rattle.trio_entries.specs.Best.{In}
 use Rattle.trio_entries.specs.Held.{entriesUsed, heldList}
+use Rattle.trio_mendel.specs.Rules.{ruleAllowed}
 use Rattle.trio_samples.specs.declared.scores.Scores.{Scores}
 use Rattle.trio_samples.specs.Scores.{sameScores}
 use Rattle.trio_samples.proofs.ScoresLaws.{ListsFit, lists-fit, scores-self, scores-equal}
@@ -37,7 +38,7 @@ use Rattle.trio_parts.specs.Right.{rightPart}
 use Rattle.trio_parts.specs.Same.{sameInput}
 use Rattle.trio_parts.specs.Sound.{storedRight, scoredTrue, heldTrue, soundPart, heldOver, soundOver}
 use Rattle.trio_parts.specs.Typed.{TypedPart, TruePart}
-use Rattle.trio_parts.proofs.RightLaws.{right-input, right-work, some-clusters, few-clusters}
+use Rattle.trio_parts.proofs.RightLaws.{right-input, right-work, rule-right, some-clusters, few-clusters}
 
 -- ---- by the number of triples held, as the code tests them over the part's lists
 
@@ -138,6 +139,14 @@ module _ (p : Part) (sound : soundPart p ≡ true) where
 pub wrong-unsound : (p : Part) → rightPart p ≡ false → soundPart p ≡ false
 unfolding soundPart
 wrong-unsound p e = rw e
+
+-- T13, R12: nor is a part whose rule is no rule, so that every step answers it with 12
+pub no-rule-bad : (p : Part) → ruleAllowed (p .rule) ≡ false → soundPart p ≡ false
+no-rule-bad p h = go (soundPart p) refl
+  where
+    go : (t : Bool) → soundPart p ≡ t → t ≡ false
+    go true e = absurd (true≢false (sym (rule-right p (right-input p (sound-right p e))) ∙ h))
+    go false e = refl
 
 every-in : (passes : Entry → Bool) (l : List Entry) → ((e : Entry) → In l e → passes e ≡ true) → every passes l ≡ true
 every-in passes [] h = refl

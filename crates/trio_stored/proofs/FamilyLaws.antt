@@ -20,8 +20,7 @@ use Rattle.trio_family.specs.Genotypes.{genotypeCount, genotypeAt}
 use Rattle.trio_family.proofs.GenotypesLaws.{genotypes-few}
 use Rattle.trio_mendel.specs.Rules.{termOf}
 use Rattle.trio_stored.specs.declared.terms.Places.{Places}
-use Rattle.trio_stored.specs.Terms.{PairIn, placesOf, between, atEnds, onPlaces, outerTerm, innerTerm, unlikeTerm}
-use Rattle.trio_stored.specs.Terms.{placedTerm, TermsAt}
+use Rattle.trio_stored.specs.Terms.{PairIn, placesOf, between, atEnds, outerTerm, innerTerm, unlikeTerm, TermsAt}
 use Rattle.trio_stored.specs.Walk.{fallen, fourOf, blockScore, evenScore, familyScore, toPass, AtMost, HeldPast}
 use Rattle.trio_stored.proofs.PlacesLaws.{Rise, places-rise}
 use Rattle.trio_stored.proofs.TermPlaces.{term-by-place, term-at-ends, term-between, term-elsewhere}

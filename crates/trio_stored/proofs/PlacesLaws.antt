@@ -1,6 +1,6 @@
 -- The places of genotypes in their list, computed for every n up to 8; and that the children which two parents can have stand at the four
 -- places of the combinations of their alleles. Assumes nothing.
-use Prim.Native.Nat.{ℕ, zero, suc, _+_, _≤_, _<_}
+use Prim.Native.Nat.{ℕ, _+_, _≤_, _<_}
 use native.Mathlib.Omega.{arith}
 use mathlib.Core.Bool.{Bool, true, false, not, _&&_, _||_, cond, true≢false, or-false, or-comm}
 use mathlib.Core.Path.{_≡_, refl, sym, ap, subst, _∙_}

@@ -1,10 +1,9 @@
 -- The terms: their logarithms as the code writes them, their order, and the list that has two of them at four places. Assumes nothing.
-use Prim.Native.Nat.{ℕ, _+_, _-_, _≤_, _<_, zero-le, suc-le-suc}
-use native.Mathlib.Nat.{le-trans}
+use Prim.Native.Nat.{ℕ, _+_, _-_, _≤_, _<_}
 use native.Mathlib.Omega.{arith}
 use native.Mathlib.Decide.{ℕ-discrete}
 use mathlib.Core.Bool.{Bool, true, false, not, _&&_, _||_, cond}
-use mathlib.Core.List.{List, [], _∷_}
+use mathlib.Core.List.{List}
 use mathlib.Core.Path.{_≡_, refl, subst, _∙_}
 use mathlib.Core.Logic.{_≢_}
 use borrow.Author.Tests.{eq-eqb, ne-eqb, eqb-false, not-true}
@@ -17,7 +16,6 @@ use lib.Ieee.Fits.{and-l, and-r}
 use lib.Ieee.Scale.{finite}
 use Rattle.lists.specs.Lists.{numbers}
 use Rattle.lists.specs.Every.{every}
-use Rattle.lists.proofs.PassingLaws.{passing-length}
 use Rattle.floats.specs.F64.{nat, _⊘_}
 use Rattle.floats.specs.Apart.{exponent, significand}
 use Rattle.floats.specs.Key.{keyOf}
@@ -25,7 +23,7 @@ use Rattle.floats.specs.Zeros.{nought}
 use Rattle.floats.proofs.RisingSums.{_≼_, ≼-itself}
 use Rattle.kernels.specs.Ln.{lnNearOne, lnParts, lnReduced, lnPositive, lnOf}
 use Rattle.trio_family.specs.declared.pair.Pair.{Pair}
-use Rattle.trio_mendel.specs.Mendel.{ordered, samePair, among, distinct, combinations, childPairs, mendelTerm}
+use Rattle.trio_mendel.specs.Mendel.{ordered, among, childPairs, mendelTerm}
 use Rattle.trio_mendel.specs.Rules.{waysOf, gameteTerm, termOf}
 use Rattle.trio_stored.specs.declared.terms.Places.{Places}
 use Rattle.trio_stored.specs.Terms.{uneven, shareOf, shareTerm, outerTerm, innerTerm, unlikeTerm, TermsAt}
@@ -61,33 +59,33 @@ log-quarter = refl
 abbrev notAbove : Float → Float → Bool
 notAbove x y = not (ltZ (keyOf y) (keyOf x))
 
-abbrev between : Float → Bool
-between x = finite x && (fits binary64 x && (notAbove x nought && notAbove unlikeTerm x))
+abbrev termTest : Float → Bool
+termTest x = finite x && (fits binary64 x && (notAbove x nought && notAbove unlikeTerm x))
 
-share-between : T (every (λ (d : ℕ). between (lnOf (nat 1 ⊘ nat d))) (numbers 1 4))
+share-test : T (every (λ (d : ℕ). termTest (lnOf (nat 1 ⊘ nat d))) (numbers 1 4))
 unfolding lnOf lnPositive lnReduced lnParts lnNearOne exponent significand size add sub mul div round lt le ofInt ofBits fits keyOf isNan
     toBits
-share-between = tt
+share-test = tt
 
-ways-between : T (every (λ (w : ℕ). between (lnOf (nat w ⊘ nat 4))) (numbers 1 4))
+ways-test : T (every (λ (w : ℕ). termTest (lnOf (nat w ⊘ nat 4))) (numbers 1 4))
 unfolding lnOf lnPositive lnReduced lnParts lnNearOne exponent significand size add sub mul div round lt le ofInt ofBits fits keyOf isNan
     toBits
-ways-between = tt
+ways-test = tt
 
 quarter-below-half : T (notAbove (shareTerm 4) (shareTerm 2))
 unfolding lnOf lnPositive lnReduced lnParts lnNearOne exponent significand size add sub mul div round lt le ofInt ofBits fits keyOf isNan
     toBits
 quarter-below-half = tt
 
-unlike-between : T (between unlikeTerm)
+unlike-test : T (termTest unlikeTerm)
 unfolding lnOf lnPositive lnReduced lnParts lnNearOne exponent significand size add sub mul div round lt le ofInt ofBits fits keyOf isNan
     toBits
-unlike-between = tt
+unlike-test = tt
 
-zero-between : T (between nought)
+zero-test : T (termTest nought)
 unfolding lnOf lnPositive lnReduced lnParts lnNearOne exponent significand size add sub mul div round lt le ofInt ofBits fits keyOf isNan
     toBits
-zero-between = tt
+zero-test = tt
 
 -- x is a finite f64 from ln(1e-6) to 0.0
 pub record Term (x : Float) : Type 0 where
@@ -96,7 +94,7 @@ pub record Term (x : Float) : Type 0 where
   pub not-above : x ≼ nought
   pub not-below : unlikeTerm ≼ x
 
-term-by-test : (x : Float) → T (between x) → Term x
+term-by-test : (x : Float) → T (termTest x) → Term x
 term-by-test x h =
     let high = notAbove x nought in
     let low = notAbove unlikeTerm x in
@@ -110,20 +108,20 @@ term-by-test x h =
     }
 
 pub zero-term : Term nought
-zero-term = term-by-test nought zero-between
+zero-term = term-by-test nought zero-test
 
 pub unlike-term : Term unlikeTerm
-unlike-term = term-by-test unlikeTerm unlike-between
+unlike-term = term-by-test unlikeTerm unlike-test
 
 -- a test that holds of 1 to 4
-of-four : (x : ℕ → Float) → T (every (λ (k : ℕ). between (x k)) (numbers 1 4)) → (d : ℕ) → 1 ≤ d → d ≤ 4 → Term (x d)
+of-four : (x : ℕ → Float) → T (every (λ (k : ℕ). termTest (x k)) (numbers 1 4)) → (d : ℕ) → 1 ≤ d → d ≤ 4 → Term (x d)
 of-four x h d some few =
     let e : 1 + (d - 1) ≡ d = omega arith in
     term-by-test (x d)
-    (subst (λ (k : ℕ). T (between (x k))) e (every-up (λ (k : ℕ). between (x k)) 1 4 (d - 1) h (omega arith)))
+    (subst (λ (k : ℕ). T (termTest (x k))) e (every-up (λ (k : ℕ). termTest (x k)) 1 4 (d - 1) h (omega arith)))
 
 pub share-term : (d : ℕ) → 1 ≤ d → d ≤ 4 → Term (shareTerm d)
-share-term = of-four shareTerm share-between
+share-term = of-four shareTerm share-test
 
 -- how many shares there are of one size: one at least and four at most
 pub share-few : (rule d if-uneven : ℕ) → 1 ≤ d → d ≤ 4 → 1 ≤ if-uneven → if-uneven ≤ 4
@@ -174,7 +172,7 @@ module _ (c f m : Pair) where
       go true e = unlike-term
       go false e =
           let some = e refl in
-          of-four (λ (w : ℕ). lnOf (nat w ⊘ nat 4)) ways-between (waysOf c f m) (omega arith) (ways-few c f m)
+          of-four (λ (w : ℕ). lnOf (nat w ⊘ nat 4)) ways-test (waysOf c f m) (omega arith) (ways-few c f m)
 
   pub rule-term : (rule : ℕ) → Term (termOf rule c f m)
   unfolding termOf

@@ -4,7 +4,7 @@ use native.Mathlib.Omega.{arith}
 use mathlib.Core.Bool.{Bool, true, false, cond, not, _&&_, _||_, and-eq-true-iff, true≢false}
 use mathlib.Core.Logic.{_≢_}
 use mathlib.Core.Path.{_≡_, refl, sym, ap, subst, _∙_}
-use borrow.Author.Tests.{eqb-true, eqb-false, le-leb, not-true}
+use borrow.Author.Tests.{eqb-false, le-leb, not-true}
 use lib.Dec.{eqb, leb}
 use lib.ListN.{length}
 use lib.Ieee.{Float}
@@ -124,14 +124,14 @@ module _ (n : ℕ) (f m : Pair) (few : n ≤ 8) (F : PairIn n f) (M : PairIn n m
   abbrev at : Places
   at = placesOf n f m
 
-  abbrev made : ℕ
-  made = length (childPairs f m)
+  abbrev pairs : ℕ
+  pairs = length (childPairs f m)
 
   -- rule 2 and three pairs, so both parents are the same heterozygote
-  two : (rule : ℕ) → uneven rule made ≡ true → (eqb rule 2 ≡ true) × (alikeHets f m ≡ true)
-  two rule e = let parts = and-eq-true-iff (eqb rule 2) (eqb made 3) .0 e in (parts .0, sym (three-alike f m) ∙ parts .1)
+  two : (rule : ℕ) → uneven rule pairs ≡ true → (eqb rule 2 ≡ true) × (alikeHets f m ≡ true)
+  two rule e = let parts = and-eq-true-iff (eqb rule 2) (eqb pairs 3) .0 e in (parts .0, sym (three-alike f m) ∙ parts .1)
 
-  uneven-placed : (rule p : ℕ) → p < genotypeCount n → uneven rule made ≡ true
+  uneven-placed : (rule p : ℕ) → p < genotypeCount n → uneven rule pairs ≡ true
       → termOf rule (genotypeAt n p) f m ≡ placedTerm at (shareTerm 4) (shareTerm 2) p
   unfolding termOf
   uneven-placed rule p h e =
@@ -141,7 +141,7 @@ module _ (n : ℕ) (f m : Pair) (few : n ≤ 8) (F : PairIn n f) (M : PairIn n m
       (subst (λ (x : Pair). gameteTerm (genotypeAt n p) f x ≡ placedTerm (placesOf n f x) (shareTerm 4) (shareTerm 2) p) (one .0)
       (alike-placed n f few F (one .1) p h))
 
-  uneven-apart : (rule p : ℕ) → p < genotypeCount n → uneven rule made ≡ true → atEnds at p ≡ true → between at p ≡ false
+  uneven-apart : (rule p : ℕ) → p < genotypeCount n → uneven rule pairs ≡ true → atEnds at p ≡ true → between at p ≡ false
   uneven-apart rule p h e =
       let one = alike-one (two rule e .1) in
       subst (λ (x : Pair). atEnds (placesOf n f x) p ≡ true → between (placesOf n f x) p ≡ false) (one .0)
@@ -151,26 +151,26 @@ module _ (n : ℕ) (f m : Pair) (few : n ≤ 8) (F : PairIn n f) (M : PairIn n m
   pub term-by-place : (rule p : ℕ) → p < genotypeCount n
       → termOf rule (genotypeAt n p) f m ≡ placedTerm at (outerTerm rule f m) (innerTerm rule f m) p
   unfolding shareOf
-  term-by-place rule p h = go (uneven rule made) refl
+  term-by-place rule p h = go (uneven rule pairs) refl
     where
-      go : (t : Bool) → uneven rule made ≡ t
-          → termOf rule (genotypeAt n p) f m ≡ placedTerm at (shareTerm (cond t 4 made)) (shareTerm (cond t 2 made)) p
+      go : (t : Bool) → uneven rule pairs ≡ t
+          → termOf rule (genotypeAt n p) f m ≡ placedTerm at (shareTerm (cond t 4 pairs)) (shareTerm (cond t 2 pairs)) p
       go true e = uneven-placed rule p h e
       go false e = even-term n f m few F M rule (genotypeAt n p) e ∙ mendel-placed n f m few F M p h
 
   -- at an end it is that of the ends, also where the place is between as well
   pub term-at-ends : (rule p : ℕ) → p < genotypeCount n → atEnds at p ≡ true → termOf rule (genotypeAt n p) f m ≡ outerTerm rule f m
   unfolding shareOf
-  term-at-ends rule p h on = go (uneven rule made) refl
+  term-at-ends rule p h on = go (uneven rule pairs) refl
     where
       same : (x : Float) (s : Bool) → cond s x x ≡ x
       same x true = refl
       same x false = refl
 
-      go : (t : Bool) → uneven rule made ≡ t → termOf rule (genotypeAt n p) f m ≡ shareTerm (cond t 4 made)
+      go : (t : Bool) → uneven rule pairs ≡ t → termOf rule (genotypeAt n p) f m ≡ shareTerm (cond t 4 pairs)
       go true e = uneven-placed rule p h e ∙ rw (uneven-apart rule p h e on, on)
       go false e =
-          even-term n f m few F M rule (genotypeAt n p) e ∙ mendel-placed n f m few F M p h ∙ rw on (same (shareTerm made) (between at p))
+          even-term n f m few F M rule (genotypeAt n p) e ∙ mendel-placed n f m few F M p h ∙ rw on (same (shareTerm pairs) (between at p))
 
   pub term-between : (rule p : ℕ) → p < genotypeCount n → between at p ≡ true → termOf rule (genotypeAt n p) f m ≡ innerTerm rule f m
   term-between rule p h on = term-by-place rule p h ∙ rw on

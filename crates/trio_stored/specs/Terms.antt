@@ -45,13 +45,15 @@ placesOf n f m =
       fourth = placeBoth n (f .high) (m .high);
     }
 
--- T3: is p one of them? Of the two between, or of the first and the last?
+-- T3: is p one of the two between?
 abbrev pub between : Places → ℕ → Bool
 between k p = eqb p (k .second) || eqb p (k .third)
 
+-- T3: is it the first or the last?
 abbrev pub atEnds : Places → ℕ → Bool
 atEnds k p = eqb p (k .first) || eqb p (k .fourth)
 
+-- T3: is it one of the four?
 abbrev pub onPlaces : Places → ℕ → Bool
 onPlaces k p = between k p || atEnds k p
 
@@ -59,7 +61,7 @@ onPlaces k p = between k p || atEnds k p
 abbrev pub uneven : ℕ → ℕ → Bool
 uneven rule d = eqb rule 2 && eqb d 3
 
--- T3, T13: into how many even shares the weight would go if every child had one like this child's: d, but where it is uneven
+-- T3, T13: the k of the term ln(1/k): d, but where the weight is parted unevenly
 unfoldable pub shareOf : ℕ → ℕ → ℕ → ℕ
 shareOf rule d if-uneven = cond (uneven rule d) if-uneven d
 
@@ -75,7 +77,7 @@ outerTerm rule f m = shareTerm (shareOf rule (length (childPairs f m)) 4)
 abbrev pub innerTerm : ℕ → Pair → Pair → Float
 innerTerm rule f m = shareTerm (shareOf rule (length (childPairs f m)) 2)
 
--- T3: the term of any other child: ln(1e-6); which has which: `term-by-place` (proofs/PlacesLaws.antt)
+-- T3: the term of any other child: ln(1e-6); which has which: `term-by-place` (proofs/TermPlaces.antt)
 abbrev pub unlikeTerm : Float
 unlikeTerm = lnOf (decimal 1 6)
 

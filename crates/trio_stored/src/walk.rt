@@ -99,7 +99,8 @@ fn four(
 }
 
 // What is held once the children of f and m have been offered, whose scores sum up to `base`; `top` is the largest score of a child. Where
-// no child can pass the second best, none is; where no child that these parents cannot have can, those that they can have are.
+// no child can pass the second best, none is, and that is asked with the inner term, which is never below the outer; where no child that
+// these parents cannot have can, those that they can have are.
 pub(crate) fn family(
     n: u64,
     rule: u64,

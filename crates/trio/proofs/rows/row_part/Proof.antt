@@ -1,5 +1,5 @@
 -- `trio::rows::row_part` meets its contract. The lists are those of the input, so that what is found over them is the row's.
-use mathlib.Core.Path.{_≡_, ap, _∙_}
+use mathlib.Core.Path.{ap, _∙_}
 use native.Mathlib.Omega.{arith}
 use borrow.Author.Needs.{needs}
 use Rattle.trio_samples.specs.declared.scores.Scores.{Scores}

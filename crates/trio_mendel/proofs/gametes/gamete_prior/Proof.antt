@@ -2,7 +2,7 @@
 use borrow.Author.Needs.{needs}
 use borrow.Author.Tests.{eq-eqb, ne-eqb}
 use lib.Ieee.{round, ofInt, ofBits}
-use Rattle.trio_mendel.specs.Rules.{waysOf, gameteTerm}
+use Rattle.trio_mendel.specs.Rules.{gameteTerm}
 use Rattle.trio_mendel.proofs.gametes.gamete_prior.Statement.{statement}
 use Rattle.trio_mendel.proofs.gametes.gamete_prior.Tie as tie
 

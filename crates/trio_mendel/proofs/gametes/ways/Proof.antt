@@ -1,7 +1,6 @@
 -- `trio_mendel::gametes::ways` meets its contract: four tests, each a number.
-use Prim.Native.Nat.{_+_}
 use native.Mathlib.Omega.{arith}
-use mathlib.Core.Path.{_≡_, ap, _∙_}
+use mathlib.Core.Path.{ap, _∙_}
 use borrow.Author.Needs.{needs}
 use Rattle.trio_mendel.specs.Mendel.{ordered}
 use Rattle.trio_mendel.specs.Rules.{waysOf}
