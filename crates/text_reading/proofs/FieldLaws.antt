@@ -1,16 +1,16 @@
 -- A field byte by byte: it goes on at a byte that is no separator, and ends at one or at the line's end. Assumes nothing.
-use mathlib.Core.Path.{_≡_, refl, ap, _∙_}
+use mathlib.Core.Path.{_≡_, refl, sym, ap, _∙_}
 use mathlib.Core.Bool.{Bool, true, false, cond}
 use mathlib.Core.List.{List, [], _∷_}
 use Prim.Native.Nat.{ℕ, suc, _+_, _-_, _≤_, _<_, min}
 use native.Mathlib.Nat.{sub-self}
 use native.Mathlib.Numerals.{add-one}
 use native.Mathlib.Omega.{arith}
-use borrow.Author.Tests.{eq-eqb, ne-eqb}
-use lib.Dec.{eqb}
+use borrow.Author.Tests.{eq-eqb, ne-eqb, le-leb, lt-leb, lt-ltb, le-ltb, ltb-true, ltb-false}
+use lib.Dec.{eqb, leb, ltb}
 use lib.ListN.{length, getD, take, drop, length-drop, drop-of-length-le}
-use lib.Seq.{drop-cons}
-use Rattle.text_reading.specs.Fields.{upTo, fieldEnd}
+use lib.Seq.{drop-cons, drop-drop}
+use Rattle.text_reading.specs.Fields.{upTo, fieldEnd, behind, onFirst, fieldsOf, fieldsFrom}
 
 nothing : (n : ℕ) → n ≡ n + 0
 nothing n = omega arith
@@ -75,3 +75,55 @@ module _ (b : ℕ) (start : ℕ) (l : List ℕ) where
       let inside : start ≤ length l = omega (arith, end-inside) in
       let many : e - start ≡ length (upTo b (drop start l)) = omega (arith, end-there inside) in
       ap (λ (n : ℕ). take n (drop start l)) many ∙ up-to-taken b (drop start l)
+
+-- ---- the fields of a text
+
+-- the fields behind the first
+abbrev pub restFields : ℕ → List ℕ → List (List ℕ)
+restFields b l = cond (ltb (length (upTo b l)) (length l)) (fieldsOf b (behind b l)) []
+
+one-more : (n k : ℕ) → ltb n k ≡ ltb (suc n) (suc k)
+one-more n k = tests (ltb n k) refl
+  where
+    tests : (t : Bool) → ltb n k ≡ t → t ≡ ltb (suc n) (suc k)
+    tests true q = sym (lt-ltb (suc n) (suc k) (let g = ltb-true n k q in omega arith))
+    tests false q = sym (le-ltb (suc n) (suc k) (let g = ltb-false n k q in omega arith))
+
+pub fields-first : (b : ℕ) (l : List ℕ) → fieldsOf b l ≡ upTo b l ∷ restFields b l
+fields-first b [] = refl
+fields-first b (x ∷ l) = go (eqb x b) (fields-first b l)
+  where
+    go : (t : Bool) → fieldsOf b l ≡ upTo b l ∷ restFields b l
+        → cond t ([] ∷ fieldsOf b l) (onFirst x (fieldsOf b l))
+        ≡ cond t [] (x ∷ upTo b l) ∷ cond (ltb (length (cond t [] (x ∷ upTo b l))) (suc (length l)))
+        (fieldsOf b (drop (suc (length (cond t [] (x ∷ upTo b l)))) (x ∷ l))) []
+    go true h = ap (λ (t : Bool). [] ∷ cond t (fieldsOf b l) []) (sym (lt-ltb 0 (suc (length l)) (omega arith)))
+    go false h =
+        ap (onFirst x) h
+        ∙ ap (λ (t : Bool). (x ∷ upTo b l) ∷ cond t (fieldsOf b (behind b l)) []) (one-more (length (upTo b l)) (length l))
+
+module _ (b start : ℕ) (l : List ℕ) where
+  pub fields-none : length l < start → fieldsFrom b start l ≡ []
+  fields-none h = rw (lt-leb start (length l) h)
+
+  pub fields-step : start ≤ length l → fieldsFrom b start l ≡ upTo b (drop start l) ∷ fieldsFrom b (fieldEnd b start l + 1) l
+  fields-step h =
+      let here = drop start l in
+      let n = length (upTo b here) in
+      let next : fieldEnd b start l + 1 ≡ start + suc n = omega (arith, end-there b start l h) in
+      let left : length here ≡ length l - start = length-drop start l in
+      let same : drop (suc n) here ≡ drop (start + suc n) l = drop-drop (suc n) start l in
+      rw (le-leb start (length l) h, next)
+      (fields-first b here
+      ∙ ap (λ (f : List (List ℕ)). upTo b here ∷ f)
+      (go (ltb n (length here)) (leb (start + suc n) (length l)) (both n (length here) (length l) left h) (ap (fieldsOf b) same)))
+    where
+      both : (n k m : ℕ) → k ≡ m - start → start ≤ m → ltb n k ≡ leb (start + suc n) m
+      both n k m e h = tests (ltb n k) refl
+        where
+          tests : (t : Bool) → ltb n k ≡ t → t ≡ leb (start + suc n) m
+          tests true q = sym (le-leb (start + suc n) m (let g = ltb-true n k q in omega arith))
+          tests false q = sym (lt-leb (start + suc n) m (let g = ltb-false n k q in omega arith))
+
+      go : (s t : Bool) {f g : List (List ℕ)} → s ≡ t → f ≡ g → cond s f [] ≡ cond t g []
+      go s t e f = rw (e, f)
