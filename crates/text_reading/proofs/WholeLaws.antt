@@ -146,7 +146,7 @@ number-lt (b ∷ l) t =
 short-number : (l : List ℕ) → length l ≤ 15 → T (every isDigit l) → number l < 2 ^ 64
 short-number l h t = lt-of-lt-of-le (number-lt l t) (le-trans (pow-le-pow-right (zero-lt-suc 9) h) (lit≤ tt))
 
-short-whole : (l : List ℕ) → length l ≤ 15 → wholeNumberOf l ≡ cond (allDigits l) (Is (number l)) Unreadable
+pub short-whole : (l : List ℕ) → length l ≤ 15 → wholeNumberOf l ≡ cond (allDigits l) (Is (number l)) Unreadable
 unfolding wholeNumberOf
 short-whole l h = go (allDigits l) refl
   where

@@ -1,0 +1,30 @@
+-- For the code: what reading a run of fields leaves, as private functions have it. Definitions only (RULES.md, A10).
+use Prim.Native.Nat.{ℕ, _≤_}
+use mathlib.Core.Path.{_≡_}
+use mathlib.Core.Bool.{Bool, cond}
+use mathlib.Core.List.{List, map}
+use lib.Dec.{ltb}
+use lib.ListN.{length, take, drop, set}
+use lib.Ieee.{Float}
+use Rattle.text_reading.specs.Fields.{fieldsFrom}
+use Rattle.calls_answers.specs.declared.numbers.Run.{Run}
+use Rattle.calls_answers.specs.Lines.{tab}
+use Rattle.calls_answers.specs.Numbers.{isCount, countValue, isWeight, weightValue, leading}
+
+-- A10: a value at a place, where there is one
+unfoldable pub putAt : {A : Type 0} → ℕ → A → List A → List A
+putAt i x places = cond (ltb i (length places)) (set places i x) places
+
+-- A10: so many fields were read as pass, of at most so many; what is left starts at the next place; their values stand first in the places,
+-- where there are as many
+pub record RunRead {A : Type 0} (passes : List ℕ → Bool) (value : List ℕ → A) (before : List A) (line : List ℕ) (start wanted : ℕ) (r : Run)
+    (after : List A) : Type 0 where
+  pub many-are : r .many ≡ leading passes (take wanted (fieldsFrom tab start line))
+  pub left-are : fieldsFrom tab (r .next) line ≡ drop (r .many) (fieldsFrom tab start line)
+  pub kept : r .many ≤ length before → take (r .many) after ≡ map value (take (r .many) (fieldsFrom tab start line))
+
+abbrev pub CountsRead : List ℕ → List ℕ → ℕ → ℕ → Run → List ℕ → Type 0
+CountsRead = RunRead isCount countValue
+
+abbrev pub WeightsRead : List Float → List ℕ → ℕ → ℕ → Run → List Float → Type 0
+WeightsRead = RunRead isWeight weightValue

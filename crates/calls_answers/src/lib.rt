@@ -1,0 +1,3 @@
+// The answer to a line of sites: from the bytes of the line to the bytes of its answer.
+mod lines;
+mod numbers;

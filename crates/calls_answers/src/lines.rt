@@ -1,0 +1,60 @@
+// A line: what belongs to its newline, and which lines are notes (docs/RULES.md, A9).
+ghost use mathlib.Core.Path.{_≡_};
+ghost use lib.ListN.{length};
+ghost use Rattle.calls_answers.specs.Lines.{body, isNote, blank, isSpace};
+
+pub const TAB: u8 = b'\t';
+
+// The longest note and the longest site, in bytes.
+pub const LONGEST_NOTE: usize = 16384;
+
+pub const LONGEST_SITE: usize = 4096;
+
+// Where a line ends without the carriage return that belongs to its newline.
+pub fn body_end(line: &[u8]) -> usize
+    ensures { λ r. ⌜ r ≡ length (body (now (line .entry))) ⌝ }
+{
+    if line.len() == 0 {
+        return 0;
+    }
+    let last = line.len() - 1;
+    if line[last] == b'\r' {
+        return last;
+    }
+    line.len()
+}
+
+fn is_space(b: u8) -> bool
+    ensures { λ r. ⌜ r ≡ isSpace b ⌝ }
+{
+    b == b' ' || b == TAB
+}
+
+fn is_blank(line: &[u8]) -> bool
+    ensures { λ r. ⌜ r ≡ blank (now (line .entry)) ⌝ }
+{
+    let mut i = 0;
+    while i < line.len() {
+        if !is_space(line[i]) {
+            return false;
+        }
+        i += 1;
+    }
+    true
+}
+
+// Is the line one that is answered by itself?
+pub fn is_note(line: &[u8]) -> bool
+    ensures { λ r. ⌜ r ≡ isNote (now (line .entry)) ⌝ }
+{
+    if line.len() > LONGEST_NOTE {
+        return false;
+    }
+    if line.len() == 0 {
+        return true;
+    }
+    if line[0] == b'#' {
+        return true;
+    }
+    is_blank(line)
+}
