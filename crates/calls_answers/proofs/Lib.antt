@@ -2,3 +2,5 @@
 pub mod LineLaws
 pub mod ReadingLaws
 pub mod NumberLaws
+pub mod FamilyLaws
+pub mod CallLaws

@@ -9,7 +9,7 @@ use native.Mathlib.Omega.{arith}
 use borrow.Author.Tests.{lt-ltb}
 use lib.Dec.{ltb}
 use lib.ListN.{length, take, drop, set, length-set}
-use lib.Seq.{take-suc-set}
+use lib.Seq.{take-suc-set, drop-set-lt, drop-drop}
 use Rattle.text_reading.specs.Fields.{upTo, fieldEnd, fieldsFrom}
 use Rattle.text_reading.proofs.FieldLaws.{fields-none, fields-step}
 use Rattle.calls_answers.specs.declared.numbers.Run.{Run}
@@ -51,6 +51,7 @@ module _ {A : Type 0} (passes : List ℕ → Bool) (value : List ℕ → A) (bef
     pub left : fieldsFrom tab at line ≡ drop i fields
     pub decides : i + leading passes (take (wanted - i) (drop i fields)) ≡ leading passes (take wanted fields)
     pub so-kept : i ≤ length before → take i places ≡ map value (take i fields)
+    pub untouched : drop i places ≡ drop i before
     pub size : length places ≡ length before
 
   pub so-far-none : SoFar start 0 before
@@ -59,6 +60,7 @@ module _ {A : Type 0} (passes : List ℕ → Bool) (value : List ℕ → A) (bef
     left = refl;
     decides = ap (λ (n : ℕ). 0 + leading passes (take n fields)) (sub-zero wanted) ∙ nothing (leading passes (take wanted fields));
     so-kept = λ g. refl;
+    untouched = refl;
     size = refl;
   }
     where
@@ -76,6 +78,7 @@ module _ {A : Type 0} (passes : List ℕ → Bool) (value : List ℕ → A) (bef
           ∙ s .decides;
       left-are = s .left;
       kept = s .so-kept;
+      others = s .untouched;
     }
       where
         nothing : (n : ℕ) → n ≡ n + 0
@@ -89,6 +92,7 @@ module _ {A : Type 0} (passes : List ℕ → Bool) (value : List ℕ → A) (bef
           ∙ s .decides;
       left-are = s .left;
       kept = s .so-kept;
+      others = s .untouched;
     }
       where
         nothing : (n : ℕ) → n ≡ n + 0
@@ -123,6 +127,7 @@ module _ {A : Type 0} (passes : List ℕ → Bool) (value : List ℕ → A) (bef
             ∙ s .decides;
         left-are = s .left;
         kept = s .so-kept;
+        others = s .untouched;
       }
         where
           nothing : (n : ℕ) → n ≡ n + 0
@@ -148,6 +153,10 @@ module _ {A : Type 0} (passes : List ℕ → Bool) (value : List ℕ → A) (bef
             ∙ ap (λ (y : A). map value (take i fields) ++ (y ∷ [])) e
             ∙ sym (map-past value fields i _ _ next-field)
             ∙ ap (λ (k : ℕ). map value (take k fields)) (sym (add-one i));
+        untouched =
+            ap (drop (i + 1)) w ∙ same (ltb i (length places))
+            ∙ sym (drop-drop 1 i places)
+            ∙ ap (drop 1) (s .untouched) ∙ drop-drop 1 i before;
         size = ap length w ∙ long (ltb i (length places));
       }
         where
@@ -159,6 +168,13 @@ module _ {A : Type 0} (passes : List ℕ → Bool) (value : List ℕ → A) (bef
 
           under : i + 1 ≤ length before → i ≤ length before
           under g = omega arith
+
+          last : (i : ℕ) → i < i + 1
+          last i = omega arith
+
+          same : (t : Bool) → drop (i + 1) (cond t (set places i x) places) ≡ drop (i + 1) places
+          same true = drop-set-lt (i + 1) places i x (last i)
+          same false = refl
 
           long : (t : Bool) → length (cond t (set places i x) places) ≡ length before
           long true = length-set places i x ∙ s .size

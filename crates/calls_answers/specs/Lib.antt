@@ -2,3 +2,5 @@
 pub mod Lines
 pub mod Numbers
 pub mod Reading
+pub mod Kinds
+pub mod Families

@@ -16,12 +16,13 @@ unfoldable pub putAt : {A : Type 0} → ℕ → A → List A → List A
 putAt i x places = cond (ltb i (length places)) (set places i x) places
 
 -- A10: so many fields were read as pass, of at most so many; what is left starts at the next place; their values stand first in the places,
--- where there are as many
+-- where there are as many, and the other places are as they were
 pub record RunRead {A : Type 0} (passes : List ℕ → Bool) (value : List ℕ → A) (before : List A) (line : List ℕ) (start wanted : ℕ) (r : Run)
     (after : List A) : Type 0 where
   pub many-are : r .many ≡ leading passes (take wanted (fieldsFrom tab start line))
   pub left-are : fieldsFrom tab (r .next) line ≡ drop (r .many) (fieldsFrom tab start line)
   pub kept : r .many ≤ length before → take (r .many) after ≡ map value (take (r .many) (fieldsFrom tab start line))
+  pub others : drop (r .many) after ≡ drop (r .many) before
 
 abbrev pub CountsRead : List ℕ → List ℕ → ℕ → ℕ → Run → List ℕ → Type 0
 CountsRead = RunRead isCount countValue

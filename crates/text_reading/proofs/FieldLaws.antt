@@ -6,7 +6,7 @@ use Prim.Native.Nat.{ℕ, suc, _+_, _-_, _≤_, _<_, min}
 use native.Mathlib.Nat.{sub-self}
 use native.Mathlib.Numerals.{add-one}
 use native.Mathlib.Omega.{arith}
-use borrow.Author.Tests.{eq-eqb, ne-eqb, le-leb, lt-leb, lt-ltb, le-ltb, ltb-true, ltb-false}
+use borrow.Author.Tests.{eq-eqb, ne-eqb, le-leb, lt-leb, lt-ltb, le-ltb, ltb-true, ltb-false, leb-true, leb-false}
 use lib.Dec.{eqb, leb, ltb}
 use lib.ListN.{length, getD, take, drop, length-drop, drop-of-length-le}
 use lib.Seq.{drop-cons, drop-drop}
@@ -127,3 +127,26 @@ module _ (b start : ℕ) (l : List ℕ) where
 
       go : (s t : Bool) {f g : List (List ℕ)} → s ≡ t → f ≡ g → cond s f [] ≡ cond t g []
       go s t e f = rw (e, f)
+
+  -- the field at a place is the first of those from there on, and the next place has the others
+  pub fields-head : upTo b (drop start l) ≡ getD (fieldsFrom b start l) 0 []
+  fields-head = go (leb start (length l)) refl
+    where
+      go : (t : Bool) → leb start (length l) ≡ t → upTo b (drop start l) ≡ getD (fieldsFrom b start l) 0 []
+      go true e = ap (λ (f : List (List ℕ)). getD f 0 []) (sym (fields-step (leb-true start (length l) e)))
+      go false e =
+          let past : length l < start = leb-false start (length l) e in
+          let over : length l ≤ start = omega arith in
+          ap (upTo b) (drop-of-length-le l over) ∙ ap (λ (f : List (List ℕ)). getD f 0 []) (sym (fields-none past))
+
+  pub fields-rest : fieldsFrom b (fieldEnd b start l + 1) l ≡ drop 1 (fieldsFrom b start l)
+  fields-rest = go (leb start (length l)) refl
+    where
+      go : (t : Bool) → leb start (length l) ≡ t → fieldsFrom b (fieldEnd b start l + 1) l ≡ drop 1 (fieldsFrom b start l)
+      go true e = ap (drop 1) (sym (fields-step (leb-true start (length l) e)))
+      go false e =
+          let past : length l < start = leb-false start (length l) e in
+          let end : fieldEnd b start l ≡ length l = end-behind b start l (omega arith) in
+          ap (λ (k : ℕ). cond (leb k (length l)) (fieldsOf b (drop k l)) []) (ap (λ (k : ℕ). k + 1) end)
+          ∙ ap (λ (t : Bool). cond t (fieldsOf b (drop (length l + 1) l)) []) (lt-leb (length l + 1) (length l) (omega arith))
+          ∙ ap (drop 1) (sym (fields-none past))
