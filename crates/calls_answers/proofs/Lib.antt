@@ -4,3 +4,6 @@ pub mod ReadingLaws
 pub mod NumberLaws
 pub mod FamilyLaws
 pub mod CallLaws
+pub mod SiteLaws
+pub mod AnimalLaws
+pub mod AnswerLaws

@@ -37,6 +37,18 @@ pub body-empty : (l : List ℕ) → length l ≡ 0 → 0 ≡ length (body l)
 body-empty [] h = refl
 body-empty (b ∷ l) h = omega arith
 
+pub body-short : (l : List ℕ) (k : ℕ) → k ≡ length (body l) → k ≤ length l
+body-short l k e = omega (arith, e, shorter l)
+  where
+    shorter : (l : List ℕ) → length (body l) ≤ length l
+    shorter [] = omega arith
+    shorter (b ∷ []) = go (eqb b carriageReturn)
+      where
+        go : (t : Bool) → length (cond t [] (b ∷ [])) ≤ 1
+        go true = omega arith
+        go false = omega arith
+    shorter (b ∷ c ∷ l) = let h = shorter (c ∷ l) in omega arith
+
 -- ---- notes
 
 pub note-long : (l : List ℕ) → 16384 < length l → false ≡ isNote l

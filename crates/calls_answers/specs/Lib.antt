@@ -4,3 +4,4 @@ pub mod Numbers
 pub mod Reading
 pub mod Kinds
 pub mod Families
+pub mod Answers

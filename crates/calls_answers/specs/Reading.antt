@@ -7,6 +7,11 @@ use lib.Dec.{ltb}
 use lib.ListN.{length, take, drop, set}
 use lib.Ieee.{Float}
 use Rattle.text_reading.specs.Fields.{fieldsFrom}
+use Rattle.refusals.specs.declared.Refusal.the-variants.{TooMany}
+use Rattle.text_writing.specs.Laying.{laidEnd, laid}
+use Rattle.mosaic_params.specs.declared.params.Params.{Params}
+use Rattle.mosaic.specs.declared.genotype.MosaicResult.{MosaicResult}
+use Rattle.mosaic.specs.Genotype.{blankMosaic, mosaicOf}
 use Rattle.calls_answers.specs.declared.numbers.Run.{Run}
 use Rattle.calls_answers.specs.Lines.{tab}
 use Rattle.calls_answers.specs.Numbers.{isCount, countValue, isWeight, weightValue, leading}
@@ -29,3 +34,12 @@ CountsRead = RunRead isCount countValue
 
 abbrev pub WeightsRead : List Float → List ℕ → ℕ → ℕ → Run → List Float → Type 0
 WeightsRead = RunRead isWeight weightValue
+
+-- A15: the call of so many alleles; more than eight are refused, whatever their counts. It is that of all of them: `called-alleles`
+-- (proofs/AnimalLaws.antt)
+unfoldable pub allelesCalled : Params → ℕ → List ℕ → MosaicResult
+allelesCalled p many counts = cond (ltb 8 many) (blankMosaic TooMany) (mosaicOf p (take many counts))
+
+-- A5: where a text that is laid at a place ends, and the buffer that it leaves
+abbrev pub LaidAt : List ℕ → ℕ → List ℕ → ℕ → List ℕ → Type 0
+LaidAt before at t end after = (end ≡ laidEnd (length before) at (length t)) × (after ≡ laid before at t)

@@ -1,7 +1,9 @@
 // A line: what belongs to its newline, and which lines are notes (docs/RULES.md, A9).
 ghost use mathlib.Core.Path.{_≡_};
 ghost use lib.ListN.{length};
-ghost use Rattle.calls_answers.specs.Lines.{body, isNote, blank, isSpace};
+ghost use Rattle.calls_answers.specs.Lines.{tab, body, isNote, blank, isSpace};
+ghost use Rattle.text_reading.specs.Fields.{fieldsOf};
+use text_reading::fields::next_field;
 
 pub const TAB: u8 = b'\t';
 
@@ -9,6 +11,9 @@ pub const TAB: u8 = b'\t';
 pub const LONGEST_NOTE: usize = 16384;
 
 pub const LONGEST_SITE: usize = 4096;
+
+// A line of that length has at most one field more than bytes.
+pub const MOST_FIELDS: usize = 4097;
 
 // Where a line ends without the carriage return that belongs to its newline.
 pub fn body_end(line: &[u8]) -> usize
@@ -57,4 +62,17 @@ pub fn is_note(line: &[u8]) -> bool
         return true;
     }
     is_blank(line)
+}
+
+// How many fields a line has.
+pub fn field_count(line: &[u8]) -> usize
+    ensures { λ r. ⌜ r ≡ length (fieldsOf tab (now (line .entry))) ⌝ }
+{
+    let mut at = 0;
+    let mut many = 0;
+    while at <= line.len() {
+        many += 1;
+        at = next_field(line, at, TAB);
+    }
+    many
 }

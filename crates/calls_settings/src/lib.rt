@@ -1,0 +1,8 @@
+// The models that a run of the program `calls` uses, and the arguments that set them (docs/CALLS.md, Arguments).
+pub mod arguments;
+mod models;
+mod parameters;
+pub mod settings;
+mod tables;
+mod texts;
+pub mod values;

@@ -1,0 +1,58 @@
+-- `calls_writing::trio_site::lay_trio` meets its contract. Assumes nothing.
+use mathlib.Core.Path.{sym, _∙_}
+use Rattle.calls_writing.specs.Trio.{trioFields, trioText}
+use Rattle.calls_writing.specs.Words.{tab, behindEach, headText}
+use Rattle.calls_writing.proofs.AnswerLaws.{refused-text, called-text}
+use Rattle.calls_writing.proofs.ChainLaws.{first-laid, next-laid, all-laid}
+use borrow.Author.Needs.{needs}
+use Rattle.calls_writing.proofs.trio_site.lay_trio.Statement.{statement}
+use Rattle.calls_writing.proofs.trio_site.lay_trio.Tie as tie
+
+lay-head-requires : tie.Need-lay-head-requires
+lay-head-requires c κs = search needs
+
+number-requires : tie.Need-number-requires
+number-requires c κs = search needs
+
+same-length : tie.Need-same-length
+same-length c = search needs
+
+returns : tie.Need-returns
+unfolding trioText
+returns c =
+    let head = c .before .before .before .before in
+    let tested = c in
+    let counted = c .before in
+    let a = head .before .before .before .before .before .args in
+    let laid-head = first-laid (a .text .now) (a .at) (headText (a .kind .now) (a .site .now) (a .closed .refusal)) (head .lay-head .ensures) in
+    all-laid laid-head (refused-text (a .kind .now) (a .site .now) (a .closed .refusal) (trioFields (a .n) (a .closed)) (λ e. tested .if1 .taken (counted .number .ensures ∙ e)))
+
+lay-call-requires : tie.Need-lay-call-requires
+lay-call-requires c κs = search needs
+
+same-length-2 : tie.Need-same-length-2
+same-length-2 c = search needs
+
+returns-2 : tie.Need-returns-2
+unfolding trioText
+returns-2 c =
+    let call = c .before .before in
+    let head = call .before .before .before .before .before .before in
+    let tested = c .before .before .before .before in
+    let counted = c .before .before .before .before .before in
+    let a = head .before .before .before .before .before .args in
+    let laid-head = first-laid (a .text .now) (a .at) (headText (a .kind .now) (a .site .now) (a .closed .refusal)) (head .lay-head .ensures) in
+    let laid-call = next-laid (behindEach tab (trioFields (a .n) (a .closed))) laid-head (call .lay-call .ensures) in
+    all-laid laid-call (called-text (a .kind .now) (a .site .now) (a .closed .refusal) (trioFields (a .n) (a .closed)) (sym (counted .number .ensures) ∙ tested .if1 .left))
+
+pub lay-trio-spec : {M : Type 1} → statement M
+lay-trio-spec =
+    tie.close
+    (tie.spec
+    lay-head-requires
+    number-requires
+    same-length
+    returns
+    lay-call-requires
+    same-length-2
+    returns-2)
