@@ -129,6 +129,7 @@ use Rattle.text_reading.proofs.fields.field_end.Reads as field-end
 use Rattle.text_reading.proofs.fields.field.Reads as field
 use Rattle.text_reading.proofs.fields.next_field.Reads as next-field
 use Rattle.text_reading.proofs.names.packed.Reads as packed
+use Rattle.text_reading.proofs.wholes.read_behind.Reads as read-behind
 use Rattle.text_reading.proofs.wholes.read_whole.Reads as read-whole
 use Rattle.text_reading.proofs.wholes.read_up_to.Reads as read-up-to
 use Rattle.text_reading.proofs.decimals.read_decimal.Reads as read-decimal
@@ -694,6 +695,9 @@ next-field-once κ a v w e f = only
 
 pub packed-once : OneAnswer packed.Post
 packed-once κ a v w e f = only
+
+pub read-behind-once : OneAnswer read-behind.Post
+read-behind-once κ a v w e f = only
 
 pub read-whole-once : OneAnswer read-whole.Post
 read-whole-once κ a v w e f = only

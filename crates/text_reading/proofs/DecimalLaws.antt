@@ -1,33 +1,23 @@
--- The quotient of two whole numbers that an f64 holds is the f64 nearest to their fraction; and what the digits on both sides of a point
--- write. Assumes nothing.
-use mathlib.Core.Path.{_≡_, sym, ap, _∙_, subst}
-use mathlib.Core.Bool.{true, false, true≢false, and-false}
-use mathlib.Core.List.{List, _++_}
-use Prim.Native.Nat.{ℕ, suc, _+_, _-_, _*_, _^_, _≤_, _<_, zero-le}
-use native.Mathlib.Nat.{le-trans, lt-of-lt-of-le, lt-of-le-of-lt, le-of-lt, le-of-eq, zero-lt-suc, zero-add, mul-one, mul-comm, mul-assoc}
-use native.Mathlib.Nat.{mul-left-comm, mul-pos, mul-le-mul-right, suc-mul, one-le-pow, pow-suc, pow-le-pow-right}
+-- The quotient of two whole numbers that an f64 holds is the f64 nearest to their fraction; and a number over a power of ten, by the
+-- powers of five and of two in it. Assumes nothing.
+use mathlib.Core.Path.{_≡_, refl, sym, ap, _∙_, subst}
+use mathlib.Core.Bool.{true, false, true≢false}
+use Prim.Native.Nat.{ℕ, zero, suc, _+_, _-_, _*_, _/_, _^_, _≤_, _<_, suc-le-suc}
+use native.Mathlib.Nat.{le-of-eq, lt-of-le-of-lt, lt-of-lt-of-le, le-trans, zero-lt-suc, zero-mul, mul-one, mul-comm}
+use native.Mathlib.Nat.{mul-assoc, mul-left-comm, mul-pos, mul-mul-mul-comm, mul-le-mul-left, mul-le-mul-right, one-le-pow}
+use native.Mathlib.Nat.{pow-suc, pow-le-pow-right, le-div-iff-mul-le, div-lt-iff-lt-mul}
 use native.Mathlib.Numerals.{add-one}
 use native.Mathlib.Omega.{arith}
-use borrow.Author.Tests.{ne-eqb, le-leb, lt-leb, lt-ltb, le-ltb}
-use lib.Dec.{T, ltb, lit≤, lit<}
-use lib.Pow.{pow-add}
-use lib.ListN.{length, take, drop, length-drop}
-use lib.Seq.{take-all}
-use lib.Ieee.{Float, nan, inf, fin, binary64, up, down, div, ofInt}
-use lib.Ieee.Fits.{down-pos, and-r}
+use borrow.Author.Tests.{ne-eqb}
+use lib.Dec.{lit≤, lit<}
+use lib.Pow.{pow-add, pow-pos}
+use lib.Ieee.{Float, nan, inf, fin, binary64, up, down, round, div, ofInt, ofBits}
+use lib.Ieee.Fits.{down-pos}
 use lib.Ieee.Exact.{HasValue}
 use lib.Ieee.Scale.{round-same}
 use lib.Ieee.Positive.{first-pos}
-use Rattle.floats.specs.F64.{_⊘_, nat, ratio}
+use Rattle.floats.specs.F64.{_⊘_, nat, ratio, decimal}
 use Rattle.floats.proofs.Rounded.{exact-small}
-use Rattle.lists.specs.Every.{every}
-use Rattle.text_reading.specs.declared.wholes.Whole.the-variants as whole
-use Rattle.text_reading.specs.declared.decimals.Decimal.the-variants.{Is, Unreadable}
-use Rattle.text_reading.specs.Fields.{upTo, behind, fieldEnd}
-use Rattle.text_reading.specs.Wholes.{isDigit, allDigits, number, wholeNumberOf}
-use Rattle.text_reading.specs.Decimals.{point, plainDecimal, pointDecimal, decimalOf}
-use Rattle.text_reading.proofs.FieldLaws.{up-to-taken, end-there}
-use Rattle.text_reading.proofs.WholeLaws.{number-shift, number-append, number-lt, whole-number-read, whole-unreadable}
 
 cross : (M N a b D E : ℕ) → M * 1 ≡ a * D → N * 1 ≡ b * E → M * E * b ≡ a * (N * D)
 cross M N a b D E h k =
@@ -56,110 +46,84 @@ pub quotient-whole : (a b : ℕ) → 0 < b → a ≤ 2 ^ 53 → b ≤ 2 ^ 53 →
 unfolding ofInt
 quotient-whole a b B h k = quotient-values (nat a) (nat b) a b B (exact-small a h) (exact-small b k)
 
--- ---- the digits on both sides, as one number
+-- ---- a power, one factor more
 
-pub both-sides : (w p : List ℕ) → number (w ++ p) ≡ number w * 10 ^ length p + number p
-both-sides w p = number-append 0 w p ∙ number-shift (number w) p
+pub power-more : (b i k : ℕ) → i < k → 0 < b → b ^ k < 2 ^ 64 → b ^ i * b < 2 ^ 64
+power-more b i k h B g = lt-of-le-of-lt (le-trans (le-of-eq (sym (pow-suc b i))) (pow-le-pow-right B h)) g
 
-pub short-power : (k : ℕ) → k ≤ 15 → 10 ^ k ≤ 2 ^ 53
-short-power k h = le-trans (pow-le-pow-right (zero-lt-suc 9) h) (lit≤ tt)
+pub power-next : (b i : ℕ) → b ^ i * b ≡ b ^ (i + 1)
+power-next b i = rw (add-one i) (sym (pow-suc b i))
 
-pub short-number : (w : List ℕ) → length w ≤ 15 → T (every isDigit w) → number w ≤ 2 ^ 53
-short-number w h t = le-of-lt (lt-of-lt-of-le (number-lt w t) (short-power (length w) h))
+-- ---- n / 10^k by 5^k and 2^k
 
-pub short-both : (w p : List ℕ) → length w + length p ≤ 15 → T (every isDigit w) → T (every isDigit p)
-    → number w * 10 ^ length p + number p ≤ 2 ^ 53
-short-both w p h s t =
-    let less : suc (number w) * 10 ^ length p ≤ 10 ^ length w * 10 ^ length p = mul-le-mul-right (10 ^ length p) (number-lt w s) in
-    let same : 10 ^ length w * 10 ^ length p ≤ 2 ^ 53 =
-    le-trans (le-of-eq (sym (pow-add 10 (length w) (length p)))) (short-power (length w + length p) h) in
-    let rest : number p < 10 ^ length p = number-lt p t in
-    omega (arith, suc-mul (number w) (10 ^ length p))
+ten-parts : (k : ℕ) → 10 ^ k ≡ 5 ^ k * 2 ^ k
+ten-parts zero = refl
+ten-parts (suc k) =
+    pow-suc 10 k
+    ∙ ap (λ (n : ℕ). n * (5 * 2)) (ten-parts k)
+    ∙ mul-mul-mul-comm (5 ^ k) (2 ^ k) 5 2
+    ∙ ap (λ (n : ℕ). n * (2 ^ k * 2)) (sym (pow-suc 5 k))
+    ∙ ap (λ (n : ℕ). 5 ^ suc k * n) (sym (pow-suc 2 k))
 
--- ---- a power of ten, one factor more
+five-pos : (k : ℕ) → 0 < 5 ^ k
+five-pos k = one-le-pow k 5 (zero-lt-suc 4)
 
-pub ten-more : (i k : ℕ) → i < k → k ≤ 15 → 10 ^ i * 10 < 2 ^ 64
-ten-more i k h g = lt-of-le-of-lt (le-trans (le-of-eq (sym (pow-suc 10 i))) (short-power (suc i) (le-trans h g))) (lit< tt)
+pub ten-pos : (k : ℕ) → 0 < 10 ^ k
+ten-pos k = one-le-pow k 10 (zero-lt-suc 9)
 
-pub ten-next : (i : ℕ) → 10 ^ i * 10 ≡ 10 ^ (i + 1)
-ten-next i = rw (add-one i) (sym (pow-suc 10 i))
+nought : ofBits binary64 0 ≡ ratio 0 1
+unfolding round ofBits
+nought = refl
 
--- ---- digits alone
+-- what is divided by: for a large k, for a small one, and where the quotient of two floats will do
+module _ (k : ℕ) where
+  pub many-fives : k ≤ 27 → 5 ^ k < 2 ^ 63
+  many-fives h = lt-of-le-of-lt (pow-le-pow-right (zero-lt-suc 4) h) (lit< tt)
 
-all-digits : (l : List ℕ) → allDigits l ≡ true → T (every isDigit l)
-all-digits l e = and-r (ltb 0 (length l)) (every isDigit l) (subst T (sym e) tt)
+  pub few-fives : k ≤ 15 → 5 ^ k * 2048 < 2 ^ 63
+  few-fives h = lt-of-le-of-lt (mul-le-mul-right 2048 (pow-le-pow-right (zero-lt-suc 4) h)) (lit< tt)
 
-module _ (w : List ℕ) where
-  pub plain-long : 15 < length w → Unreadable ≡ plainDecimal w
-  unfolding plainDecimal
-  plain-long h = rw (lt-leb (length w) 15 h, and-false (allDigits w))
+  pub few-tens : k ≤ 15 → 10 ^ k ≤ 2 ^ 53
+  few-tens h = le-trans (pow-le-pow-right (zero-lt-suc 9) h) (lit≤ tt)
 
-  pub plain-unreadable : length w ≤ 15 → wholeNumberOf w ≡ whole.Unreadable → Unreadable ≡ plainDecimal w
-  unfolding plainDecimal
-  plain-unreadable h e = rw (whole-unreadable w h e)
+  pub zero-tenths : ofBits binary64 0 ≡ decimal 0 k
+  zero-tenths = nought ∙ round-same binary64 false 0 1 0 (10 ^ k) (zero-lt-suc 0) (ten-pos k) (zero-mul (10 ^ k) ∙ sym (zero-mul 1))
 
-  pub plain-small : (n : ℕ) → length w ≤ 15 → wholeNumberOf w ≡ whole.Is n → n ≤ 2 ^ 53
-  plain-small n h e =
-      let r = whole-number-read w n h e in
-      rw (r .1) (short-number w h (all-digits w (r .0)))
+-- the quotient
+module _ (n k : ℕ) where
+  pub many-enough : 15 < k → n < 2 ^ 64 → n < 2 ^ 53 * 5 ^ k
+  many-enough h g = lt-of-lt-of-le g (le-trans (lit≤ tt) (mul-le-mul-left (2 ^ 53) (pow-le-pow-right (zero-lt-suc 4) h)))
 
-  pub plain-read : (n : ℕ) → length w ≤ 15 → wholeNumberOf w ≡ whole.Is n → Is (nat n) ≡ plainDecimal w
-  unfolding plainDecimal ofInt
-  plain-read n h e =
-      let r = whole-number-read w n h e in
-      rw (r .0, le-leb (length w) 15 h, r .1)
+  pub many-tenths : ratio (n * 2 ^ 11) (5 ^ k * 2 ^ (k + 11)) ≡ decimal n k
+  many-tenths =
+      round-same binary64 false (n * 2 ^ 11) (5 ^ k * 2 ^ (k + 11)) n (10 ^ k) (mul-pos (five-pos k) (pow-pos (k + 11))) (ten-pos k)
+      (ap (λ (x : ℕ). n * 2 ^ 11 * x) (ten-parts k)
+      ∙ turned n (2 ^ 11) (5 ^ k) (2 ^ k)
+      ∙ ap (λ (x : ℕ). n * (5 ^ k * x)) (sym (pow-add 2 k 11)))
+    where
+      turned : (n a b c : ℕ) → n * a * (b * c) ≡ n * (b * (c * a))
+      turned n a b c = simp (mul-assoc, mul-comm, mul-left-comm)
 
--- ---- digits on both sides of a point
+  pub few-enough : n < 2 ^ 64 → n < 2 ^ 53 * (5 ^ k * 2048)
+  few-enough g = lt-of-lt-of-le g (mul-le-mul-left (2 ^ 53) (mul-le-mul-right 2048 (five-pos k)))
 
--- what the code divides is exact, and the quotient the definition's
-pub record Divided (w p : List ℕ) (n m : ℕ) : Type 0 where
-  pub small : n * 10 ^ length p + m ≤ 2 ^ 53
-  pub scale : 10 ^ length p ≤ 2 ^ 53
-  pub value : Is (nat (n * 10 ^ length p + m) ⊘ nat (10 ^ length p)) ≡ pointDecimal w p
+  pub few-tenths : ratio (n * 2 ^ 11) (5 ^ k * 2048 * 2 ^ k) ≡ decimal n k
+  few-tenths =
+      round-same binary64 false (n * 2 ^ 11) (5 ^ k * 2048 * 2 ^ k) n (10 ^ k)
+      (mul-pos (mul-pos (five-pos k) (lit< tt)) (pow-pos k)) (ten-pos k)
+      (ap (λ (x : ℕ). n * 2 ^ 11 * x) (ten-parts k) ∙ turned n (2 ^ 11) (5 ^ k) (2 ^ k))
+    where
+      turned : (n a b c : ℕ) → n * a * (b * c) ≡ n * (b * a * c)
+      turned n a b c = simp (mul-assoc, mul-comm)
 
-module _ (w p : List ℕ) where
-  pub point-long : 15 < length w + length p → Unreadable ≡ pointDecimal w p
-  unfolding pointDecimal
-  point-long h = rw (lt-leb (length w + length p) 15 h, and-false (allDigits p), and-false (allDigits w))
+-- ---- m · 10^j
 
-  pub point-left : length w + length p ≤ 15 → wholeNumberOf w ≡ whole.Unreadable → Unreadable ≡ pointDecimal w p
-  unfolding pointDecimal
-  point-left h e = rw (whole-unreadable w (omega arith) e)
+pub tens-fit : (j : ℕ) → j ≤ 19 → 10 ^ j < 2 ^ 64
+tens-fit j h = lt-of-le-of-lt (pow-le-pow-right (zero-lt-suc 9) h) (lit< tt)
 
-  pub point-right : length w + length p ≤ 15 → wholeNumberOf p ≡ whole.Unreadable → Unreadable ≡ pointDecimal w p
-  unfolding pointDecimal
-  point-right h e = rw (whole-unreadable p (omega arith) e, and-false (allDigits w))
+-- a quotient by p that m is above, or not
+pub too-large : (m p : ℕ) → 0 < p → (2 ^ 64 - 1) / p < m → 2 ^ 64 ≤ m * p
+too-large m p P h = div-lt-iff-lt-mul P .0 h
 
-  pub divided : (n m : ℕ) → length w + length p ≤ 15 → wholeNumberOf w ≡ whole.Is n → wholeNumberOf p ≡ whole.Is m → Divided w p n m
-  unfolding pointDecimal
-  divided n m h e f =
-      let r = whole-number-read w n (omega arith) e in
-      let s = whole-number-read p m (omega arith) f in
-      let few : n * 10 ^ length p + m ≤ 2 ^ 53 = rw (r .1, s .1) (short-both w p h (all-digits w (r .0)) (all-digits p (s .0))) in
-      let power : 10 ^ length p ≤ 2 ^ 53 = short-power (length p) (omega arith) in
-      record {
-        small = few;
-        scale = power;
-        value =
-            ap Is (quotient-whole (n * 10 ^ length p + m) (10 ^ length p) (one-le-pow (length p) 10 (zero-lt-suc 9)) few power)
-            ∙ rw (r .0, s .0, le-leb (length w + length p) 15 h, both-sides w p, r .1, s .1);
-      }
-
--- ---- where the point stands
-
-module _ (l : List ℕ) (e : ℕ) (at : e ≡ fieldEnd point 0 l) where
-  up-to-point : e ≡ length (upTo point l)
-  up-to-point = at ∙ end-there point 0 l zero-le ∙ zero-add (length (upTo point l))
-
-  pub by-point : e < length l → pointDecimal (take e l) (take (length l - (e + 1)) (drop (e + 1) l)) ≡ decimalOf l
-  unfolding decimalOf
-  by-point h =
-      let before : take e l ≡ upTo point l = ap (λ (n : ℕ). take n l) up-to-point ∙ up-to-taken point l in
-      let after : take (length l - (e + 1)) (drop (e + 1) l) ≡ behind point l =
-      take-all (length l - (e + 1)) (drop (e + 1) l) (le-of-eq (length-drop (e + 1) l))
-      ∙ ap (λ (n : ℕ). drop n l) (add-one e ∙ ap suc up-to-point) in
-      rw (lt-ltb (length (upTo point l)) (length l) (le-trans (le-of-eq (ap suc (sym up-to-point))) h), before, after)
-
-  pub by-none : length l ≤ e → plainDecimal l ≡ decimalOf l
-  unfolding decimalOf
-  by-none h = rw (le-ltb (length (upTo point l)) (length l) (le-trans h (le-of-eq up-to-point)))
+pub not-too-large : (m p : ℕ) → 0 < p → m ≤ (2 ^ 64 - 1) / p → m * p < 2 ^ 64
+not-too-large m p P h = le-trans (suc-le-suc (le-div-iff-mul-le P .0 h)) (lit≤ tt)

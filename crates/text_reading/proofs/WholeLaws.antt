@@ -14,6 +14,7 @@ use Rattle.lists.specs.Every.{every}
 use Rattle.lists.proofs.EveryLaws.{every-more, every-end}
 use Rattle.text_reading.specs.declared.wholes.Whole.the-variants.{Is, Unreadable}
 use Rattle.text_reading.specs.Wholes.{isDigit, allDigits, numberFrom, number, wholeNumberOf, wholeUpTo, digitOf, grownBy}
+use Rattle.text_reading.specs.Wholes.{wholeBehind}
 
 never : {n : ℕ} → Unreadable ≡ Is n → ⊥
 never h = let z : _≡_ {A = ℕ} 0 1 = cc in omega arith
@@ -71,15 +72,15 @@ step-no n b l h = go (n * 10 + (b - 48)) (leb 48 b) (leb b 57) refl refl h
 
 -- ---- what is left from place i on decides
 
--- the first i bytes are digits and write n
-pub record Read (l : List ℕ) (n i : ℕ) : Type 0 where
+-- the first i bytes are digits and write n behind b
+pub record Read (b : ℕ) (l : List ℕ) (n i : ℕ) : Type 0 where
   pub within : i ≤ length l
   pub all : every isDigit (drop i l) ≡ every isDigit l
-  pub same : numberFrom n (drop i l) ≡ number l
+  pub same : numberFrom n (drop i l) ≡ numberFrom b l
   pub fits : n < 2 ^ 64
 
-module _ (l : List ℕ) (n i : ℕ) (r : Read l n i) where
-  pub read-on : (m : ℕ) → i < length l → grownBy n (digitOf (getD l i 0)) ≡ Is m → Read l m (i + 1)
+module _ (b : ℕ) (l : List ℕ) (n i : ℕ) (r : Read b l n i) where
+  pub read-on : (m : ℕ) → i < length l → grownBy n (digitOf (getD l i 0)) ≡ Is m → Read b l m (i + 1)
   read-on m h e =
       let s = step-yes n (getD l i 0) m e in
       record {
@@ -89,24 +90,49 @@ module _ (l : List ℕ) (n i : ℕ) (r : Read l n i) where
         fits = s .fits;
       }
 
-  pub read-no : i < length l → grownBy n (digitOf (getD l i 0)) ≡ Unreadable → Unreadable ≡ wholeNumberOf l
-  unfolding wholeNumberOf
+  pub read-no : i < length l → grownBy n (digitOf (getD l i 0)) ≡ Unreadable → Unreadable ≡ wholeBehind b l
+  unfolding wholeBehind
   read-no h e =
-      let none : (every isDigit l && ltb (number l) (2 ^ 64)) ≡ false =
+      let none : (every isDigit l && ltb (numberFrom b l) (2 ^ 64)) ≡ false =
       rw (← r .all, ← r .same, drop-next l i 0 h) (step-no n (getD l i 0) (drop (i + 1) l) e) in
-      refused (ltb 0 (length l)) (every isDigit l) (ltb (number l) (2 ^ 64)) none
-    where
-      refused : (p q t : Bool) → (q && t) ≡ false → Unreadable ≡ cond ((p && q) && t) (Is (number l)) Unreadable
-      refused true q t h = rw h
-      refused false q t h = refl
+      rw none
 
-  pub read-end : 0 < length l → length l ≤ i → Is n ≡ wholeNumberOf l
-  unfolding wholeNumberOf
-  read-end p h =
+  pub read-end : length l ≤ i → Is n ≡ wholeBehind b l
+  unfolding wholeBehind
+  read-end h =
       let over : drop i l ≡ [] = drop-of-length-le l h in
-      let value : number l ≡ n = sym (r .same) ∙ ap (numberFrom n) over in
+      let value : numberFrom b l ≡ n = sym (r .same) ∙ ap (numberFrom n) over in
       let good : every isDigit l ≡ true = sym (every-end isDigit 0 l i h ∙ r .all) in
-      rw (lt-ltb 0 (length l) p, good, value, lt-ltb n (2 ^ 64) (r .fits))
+      rw (good, value, lt-ltb n (2 ^ 64) (r .fits))
+
+-- what is read behind n, and what is not
+module _ (n : ℕ) (l : List ℕ) where
+  pub behind-read : (m : ℕ) → wholeBehind n l ≡ Is m → (every isDigit l ≡ true) × (m ≡ numberFrom n l)
+  unfolding wholeBehind
+  behind-read m e = go (every isDigit l) (ltb (numberFrom n l) (2 ^ 64)) e
+    where
+      go : (t u : Bool) → cond (t && u) (Is (numberFrom n l)) Unreadable ≡ Is m → (t ≡ true) × (m ≡ numberFrom n l)
+      go true true e = (refl, cc)
+      go true false e = absurd (never e)
+      go false u e = absurd (never e)
+
+  pub behind-none : wholeBehind n l ≡ Unreadable → every isDigit l ≡ true → 2 ^ 64 ≤ numberFrom n l
+  unfolding wholeBehind
+  behind-none e d = go (ltb (numberFrom n l) (2 ^ 64)) refl (rw d at e)
+    where
+      go : (u : Bool) → ltb (numberFrom n l) (2 ^ 64) ≡ u → cond u (Is (numberFrom n l)) Unreadable ≡ Unreadable → 2 ^ 64 ≤ numberFrom n l
+      go true f e = absurd (never (sym e))
+      go false f e = ltb-false (numberFrom n l) (2 ^ 64) f
+
+-- digits behind nothing, at least one, are a whole number
+module _ (l : List ℕ) where
+  pub whole-none : length l ≤ 0 → Unreadable ≡ wholeNumberOf l
+  unfolding wholeNumberOf
+  whole-none h = rw (le-ltb 0 (length l) h)
+
+  pub whole-some : 0 < length l → wholeBehind 0 l ≡ wholeNumberOf l
+  unfolding wholeBehind wholeNumberOf
+  whole-some h = rw (lt-ltb 0 (length l) h)
 
 -- ---- numbers of so many digits
 

@@ -34,6 +34,10 @@ wholeUpTo m l = cond (allDigits l && leb (number l) m) (Is (number l)) Unreadabl
 
 -- ---- for the code
 
+-- A2, A3: digits, or none, behind n: their number where it is below 2^64
+unfoldable pub wholeBehind : ℕ → List ℕ → Whole
+wholeBehind n l = cond (every isDigit l && ltb (numberFrom n l) (2 ^ 64)) (Is (numberFrom n l)) Unreadable
+
 -- A2: the value of a byte, 10 where it is no digit; and a number with one digit more. Each step reads on or ends as
 -- `wholeNumberOf` says: `read-on`, `read-no` (proofs/WholeLaws.antt)
 abbrev pub digitOf : ℕ → ℕ

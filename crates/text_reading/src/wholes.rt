@@ -1,7 +1,7 @@
 // Whole numbers in decimal (docs/RULES.md, A2).
 ghost use mathlib.Core.Path.{_≡_};
 ghost use Prim.Native.Nat.{_<_};
-ghost use Rattle.text_reading.specs.Wholes.{digitOf, grownBy, wholeNumberOf, wholeUpTo};
+ghost use Rattle.text_reading.specs.Wholes.{digitOf, grownBy, wholeBehind, wholeNumberOf, wholeUpTo};
 
 pub enum Whole {
     Is(u64),
@@ -38,6 +38,22 @@ fn grown(n: u64, d: u64) -> Whole
     Whole::Is(tens + d)
 }
 
+// The number that digits write behind n, where it is a u64. No digit is n itself.
+pub fn read_behind(n: u64, digits: &[u8]) -> Whole
+    ensures { λ r. ⌜ r ≡ wholeBehind n (now (digits .entry)) ⌝ }
+{
+    let mut m = n;
+    let mut i = 0;
+    while i < digits.len() {
+        let Whole::Is(more) = grown(m, digit(digits[i])) else {
+            return Whole::Unreadable;
+        };
+        m = more;
+        i += 1;
+    }
+    Whole::Is(m)
+}
+
 // A u64 in decimal, with any number of zeros before it.
 pub fn read_whole(field: &[u8]) -> Whole
     ensures { λ r. ⌜ r ≡ wholeNumberOf (now (field .entry)) ⌝ }
@@ -45,16 +61,7 @@ pub fn read_whole(field: &[u8]) -> Whole
     if field.len() == 0 {
         return Whole::Unreadable;
     }
-    let mut n: u64 = 0;
-    let mut i = 0;
-    while i < field.len() {
-        let Whole::Is(m) = grown(n, digit(field[i])) else {
-            return Whole::Unreadable;
-        };
-        n = m;
-        i += 1;
-    }
-    Whole::Is(n)
+    read_behind(0, field)
 }
 
 // A whole number that is at most `most`.
