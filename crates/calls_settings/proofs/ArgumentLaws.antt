@@ -1,5 +1,5 @@
--- What an argument obeys: its own parameter is set and no other; one that is not taken changes nothing; of two with one name the last holds;
--- and whether it is taken lies in its name and its value alone. Assumes nothing.
+-- What an argument obeys: its own parameter is set and no other; one that is not taken changes nothing; of two with one name the last
+-- holds; and whether it is taken lies in its name and its value alone. Assumes nothing.
 use mathlib.Core.Path.{_≡_, refl, sym, ap, _∙_}
 use mathlib.Core.Bool.{Bool, true, false, cond, true≢false}
 use mathlib.Core.Logic.{_≢_}
@@ -9,12 +9,14 @@ use lib.Ieee.{Float}
 use lib.ListN.{getD, set, take}
 use lib.Seq.{getD-set-other}
 use Rattle.diploid_models.specs.declared.model.Mode.{Mode}
+use Rattle.diploid_models.specs.declared.model.Mode.the-variants.{Phased}
 use Rattle.text_reading.specs.declared.decimals.Decimal.{Decimal}
 use Rattle.text_reading.specs.declared.decimals.Decimal.the-variants as decimal
 use Rattle.text_reading.specs.declared.wholes.Whole.{Whole}
 use Rattle.text_reading.specs.declared.wholes.Whole.the-variants as whole
 use Rattle.text_reading.specs.Decimals.{decimalOf}
 use Rattle.text_reading.specs.Fields.{fieldsOf}
+use Rattle.text_reading.specs.Texts.{bytesOf}
 use Rattle.text_reading.specs.Wholes.{wholeUpTo}
 use Rattle.calls_settings.specs.declared.arguments.Argument.{Argument}
 use Rattle.calls_settings.specs.declared.arguments.Argument.the-variants as argument
@@ -24,10 +26,11 @@ use Rattle.calls_settings.specs.declared.values.Chosen.{Chosen}
 use Rattle.calls_settings.specs.declared.values.Chosen.the-variants as chosen
 use Rattle.calls_settings.specs.declared.values.Three.{Three}
 use Rattle.calls_settings.specs.declared.values.Three.the-variants as three
-use Rattle.calls_settings.specs.Settings.{defaultSettings, nowSet, asBefore, withMode, withFractions, withMeans, withPrecisions, withTable}
-use Rattle.calls_settings.specs.Settings.{withAlpha, withBeta, withHighest, withDepth}
+use Rattle.calls_settings.specs.Settings.{defaultSettings, nowSet, asBefore, withMode, withFractions, withMeans, withPrecisions}
+use Rattle.calls_settings.specs.Settings.{withTable, withAlpha, withBeta, withHighest, withDepth}
 use Rattle.calls_settings.specs.Values.{comma, modeOf, threeOf, arePairs, membersIn}
-use Rattle.calls_settings.specs.Arguments.{argumentOf, setMode, setThree, setOne, setWhole, setTable, givenAs, givenOf}
+use Rattle.calls_settings.specs.Arguments.{mosaicArgument, argumentOf, givenAs, givenOf}
+use Rattle.calls_settings.specs.Arguments.{setMode, setThree, setOne, setWhole, setTable}
 use Rattle.calls_settings.specs.Arguments.{Parameter, aMode, floats, aFloat, aWhole, parametersOf, placeOf}
 
 -- ---- what an argument with a value does to any settings
@@ -203,3 +206,22 @@ module _ (name v : List ℕ) where
       go : Acts it v → givenAs it s v .taken ≡ true → givenAs it (givenAs it s w .settings) v ≡ givenAs it s v
       go (nothing n) h = absurd (true≢false (sym h ∙ ap (λ (g : Given). g .taken) (n s)))
       go (sets e) h = e .gives (givenAs it s w .settings) ∙ ap nowSet (e .over s w) ∙ sym (e .gives s)
+
+-- ---- worked examples
+
+module _ (s : Settings) where
+  pub mode-named : givenOf s (bytesOf "--mode") (bytesOf "phased") ≡ nowSet (withMode s Phased)
+  unfolding givenOf argumentOf modeOf
+  mode-named = refl
+
+  pub depth-most : givenOf s (bytesOf "--depth") (bytesOf "4294967295") ≡ nowSet (withDepth s 4294967295)
+  unfolding givenOf argumentOf mosaicArgument wholeUpTo
+  depth-most = refl
+
+  pub depth-over : givenOf s (bytesOf "--depth") (bytesOf "4294967296") ≡ asBefore s
+  unfolding givenOf argumentOf mosaicArgument wholeUpTo
+  depth-over = refl
+
+  pub name-cut : givenOf s (bytesOf "--dept") (bytesOf "1") ≡ asBefore s
+  unfolding givenOf argumentOf mosaicArgument
+  name-cut = refl

@@ -11,6 +11,7 @@ use Rattle.text_reading.specs.declared.wholes.Whole.{Whole}
 use Rattle.text_reading.specs.declared.wholes.Whole.the-variants as whole
 use Rattle.text_reading.specs.Decimals.{decimalOf}
 use Rattle.text_reading.specs.Fields.{fieldsOf}
+use Rattle.text_reading.specs.Texts.{reads}
 use Rattle.text_reading.specs.Wholes.{wholeUpTo}
 use Rattle.calls_settings.specs.declared.arguments.Argument.{Argument}
 use Rattle.calls_settings.specs.declared.arguments.Argument.the-variants as argument
@@ -22,7 +23,7 @@ use Rattle.calls_settings.specs.declared.values.Three.{Three}
 use Rattle.calls_settings.specs.declared.values.Three.the-variants as three
 use Rattle.calls_settings.specs.Settings.{nowSet, asBefore, withMode, withFractions, withMeans, withPrecisions, withTable}
 use Rattle.calls_settings.specs.Settings.{withAlpha, withBeta, withHighest, withDepth}
-use Rattle.calls_settings.specs.Values.{reads, comma, modeOf, threeOf, arePairs, membersIn}
+use Rattle.calls_settings.specs.Values.{comma, modeOf, threeOf, arePairs, membersIn}
 
 -- an argument by its name: those of the mosaic calls, and all of them, those of the diploid calls first
 unfoldable pub mosaicArgument : List ℕ → Argument

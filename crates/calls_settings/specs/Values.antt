@@ -1,16 +1,14 @@
 -- What stands behind the name of an argument. Definitions only (CALLS.md, Arguments).
 use Prim.Native.Nat.{ℕ}
-use Prim.Native.Char.{code}
-use Prim.Native.String as text
 use mathlib.Core.Bool.{Bool, true, false, cond}
 use mathlib.Core.List.{List, [], _∷_, _++_}
 use lib.Ieee.{Float}
 use Rattle.lists.specs.Every.{every}
-use Rattle.lists.specs.Lists.{sameNumbers}
 use Rattle.text_reading.specs.declared.decimals.Decimal.{Decimal}
 use Rattle.text_reading.specs.declared.decimals.Decimal.the-variants as decimal
 use Rattle.text_reading.specs.Decimals.{decimalOf}
 use Rattle.text_reading.specs.Fields.{fieldsOf}
+use Rattle.text_reading.specs.Texts.{reads}
 use Rattle.diploid_models.specs.declared.model.Mode.the-variants.{Beta, Bino, Phased}
 use Rattle.calls_settings.specs.declared.values.Chosen.{Chosen}
 use Rattle.calls_settings.specs.declared.values.Chosen.the-variants as chosen
@@ -18,14 +16,6 @@ use Rattle.calls_settings.specs.declared.values.Three.{Three}
 use Rattle.calls_settings.specs.declared.values.Three.the-variants as three
 use Rattle.calls_settings.specs.declared.values.Couple.{Couple}
 use Rattle.calls_settings.specs.declared.values.Couple.the-variants as couple
-
--- the bytes of an ASCII text, and whether a text is made of them
-abbrev pub bytesOf : text.String → List ℕ
-bytesOf text.[] = []
-bytesOf (text._∷_ c s) = code c ∷ bytesOf s
-
-abbrev pub reads : List ℕ → text.String → Bool
-reads l s = sameNumbers l (bytesOf s)
 
 -- the bytes that part values
 abbrev pub comma : ℕ

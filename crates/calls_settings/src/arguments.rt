@@ -13,7 +13,7 @@ use crate::settings::Given;
 use crate::settings::Settings;
 use crate::settings::as_before;
 use crate::tables::set_table;
-use crate::texts::is_text;
+use text_reading::texts::is_text;
 
 pub enum Argument {
     Mode,

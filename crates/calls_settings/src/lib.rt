@@ -4,5 +4,4 @@ mod models;
 mod parameters;
 pub mod settings;
 mod tables;
-mod texts;
 pub mod values;

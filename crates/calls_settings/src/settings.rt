@@ -4,8 +4,8 @@ ghost use Rattle.calls_settings.specs.Settings.{defaultSettings, nowSet,
 use diploid_models::model::Model;
 use mosaic_params::params::Params;
 
-// The model and the calibration table of the diploid calls, and the parameters of the mosaic ones. Of the table `numbers` places are in use,
-// first and second members in turn: one pair more than a table may have, so that a longer one is refused too.
+// The model and the calibration table of the diploid calls, and the parameters of the mosaic ones. Of the table `numbers` places are in
+// use, first and second members in turn. It has room for one pair more than a table may have, so that a longer one is refused too.
 pub struct Settings {
     pub model: Model,
     pub table: [f64; 34],

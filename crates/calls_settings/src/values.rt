@@ -1,12 +1,12 @@
 // What stands behind the name of an argument: a mode, three decimals, a pair of decimals.
 ghost use mathlib.Core.Path.{_≡_};
 ghost use Rattle.calls_settings.specs.Values.{modeOf, threeFrom, threeOf, twoFrom, pairOf};
-use crate::texts::is_text;
 use diploid_models::model::Mode;
 use text_reading::decimals::Decimal;
 use text_reading::decimals::read_decimal;
 use text_reading::fields::field;
 use text_reading::fields::next_field;
+use text_reading::texts::is_text;
 
 pub const COMMA: u8 = b',';
 

@@ -19,7 +19,8 @@ pub next-laid : {l : List ℕ} {at : ℕ} {s : List ℕ} {end : ℕ} {after : Li
     → Laid l at s end after → IsLaid after end t end′ after′ → Laid l at (s ++ t) end′ after′
 next-laid t a e = behind-it t a (e .0) (e .1)
 
-pub all-laid : {l : List ℕ} {at : ℕ} {s : List ℕ} {end : ℕ} {after : List ℕ} {t : List ℕ} → Laid l at s end after → s ≡ t → IsLaid l at t end after
+pub all-laid : {l : List ℕ} {at : ℕ} {s : List ℕ} {end : ℕ} {after : List ℕ} {t : List ℕ}
+    → Laid l at s end after → s ≡ t → IsLaid l at t end after
 all-laid {l} {at} a e = (a .ends ∙ ap (λ (t : List ℕ). laidEnd (length l) at (length t)) e, a .gives ∙ ap (laid l at) e)
 
 -- where nothing was laid, laying nothing changes nothing

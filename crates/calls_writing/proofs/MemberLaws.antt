@@ -64,7 +64,9 @@ next-listed {l} {at} {a} {fs} {end} {any} {after} gs s e =
     let t = all-laid both same in
     record {
       text = record { ends = t .0; gives = t .1 };
-      some = e .2 ∙ ap (λ (b : Bool). b || someIn gs) (s .some) ∙ or-both a (someIn fs) (someIn gs) ∙ ap (λ (b : Bool). a || b) (some-both fs gs);
+      some =
+          e .2 ∙ ap (λ (b : Bool). b || someIn gs) (s .some) ∙ or-both a (someIn fs) (someIn gs)
+          ∙ ap (λ (b : Bool). a || b) (some-both fs gs);
     }
 
 pub listed-as : {l : List ℕ} {at : ℕ} {a : Bool} {fs gs : List (List ℕ)} {end : ℕ} {any : Bool} {after : List ℕ}

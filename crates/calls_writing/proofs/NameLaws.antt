@@ -7,7 +7,7 @@ use Rattle.refusals.specs.Names.{paddedText, spelled, nameOf}
 use Rattle.text_reading.specs.Fields.{upTo}
 use Rattle.trio_family.specs.declared.ground.Ground.{Ground}
 use Rattle.trio_family.specs.declared.ground.Ground.the-variants.{NoGround, Won, Tied, Unread, Inferred}
-use Rattle.calls_writing.specs.Words.{bytesOf}
+use Rattle.text_reading.specs.Texts.{bytesOf}
 use Rattle.calls_writing.specs.Trio.{groundName}
 
 pub refusal-name : (r : Refusal) → upTo 0 (nameOf r) ≡ bytesOf (spelled r)

@@ -5,7 +5,8 @@ use mathlib.Core.List.{List, [], _∷_}
 use Rattle.diploid.specs.declared.genotype.GenotypeResult.{GenotypeResult}
 use Rattle.diploid_models.specs.declared.state.State.{State}
 use Rattle.diploid_models.specs.declared.state.State.the-variants.{Ref, Het, Hom, Non}
-use Rattle.calls_writing.specs.Words.{bytesOf, figure, answerText}
+use Rattle.text_reading.specs.Texts.{bytesOf}
+use Rattle.calls_writing.specs.Words.{figure, siteAnswer}
 
 -- A14: the name of a state
 abbrev pub stateName : State → text.String
@@ -20,4 +21,4 @@ diploidFields r = bytesOf (stateName (r .state)) ∷ figure (r .gq) ∷ figure (
 
 -- A12, A14: the answer to three counts
 unfoldable pub diploidText : List ℕ → List ℕ → GenotypeResult → List ℕ
-diploidText kind site r = answerText kind site (r .refusal) (diploidFields r)
+diploidText kind site r = siteAnswer kind site (r .refusal) (diploidFields r)

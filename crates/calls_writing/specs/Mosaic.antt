@@ -10,7 +10,7 @@ use Rattle.mosaic.specs.declared.genotype.MosaicResult.{MosaicResult}
 use Rattle.text_writing.specs.Laying.{wholeText}
 use Rattle.trio_family.specs.declared.pair.Pair.{Pair}
 use Rattle.trio_family.specs.Genotypes.{pair}
-use Rattle.calls_writing.specs.Words.{colon, joined, listText, pairText, figure, answerText}
+use Rattle.calls_writing.specs.Words.{colon, joined, listText, pairText, figure, siteAnswer}
 
 -- A15: the germline alleles as a pair; where there is one, it is a pair of itself
 abbrev pub germlinePair : ℕ → List ℕ → Pair
@@ -31,4 +31,4 @@ mosaicFields r =
 
 -- A12, A15: the answer to the counts of alleles
 unfoldable pub mosaicText : List ℕ → List ℕ → MosaicResult → List ℕ
-mosaicText kind site r = answerText kind site (r .refusal) (mosaicFields r)
+mosaicText kind site r = siteAnswer kind site (r .refusal) (mosaicFields r)

@@ -14,7 +14,8 @@ use Rattle.trio_family.specs.declared.pair.Triple.{Triple}
 use Rattle.trio_reads.specs.declared.flags.PairRead.{PairRead}
 use Rattle.trio_reads.specs.declared.flags.TripleRead.{TripleRead}
 use Rattle.trio_triples.specs.Genotypes.{tripleOf}
-use Rattle.calls_writing.specs.Words.{bytesOf, colon, joined, dash, listText, pairText, figure, answerText}
+use Rattle.text_reading.specs.Texts.{bytesOf}
+use Rattle.calls_writing.specs.Words.{colon, joined, dash, listText, pairText, figure, siteAnswer}
 
 -- A13: the name of a ground
 abbrev pub groundName : Ground → text.String
@@ -72,4 +73,4 @@ trioFields n c =
 
 -- A12, A13: the answer to n clusters
 unfoldable pub trioText : List ℕ → List ℕ → ℕ → Closed → List ℕ
-trioText kind site n c = answerText kind site (c .refusal) (trioFields n c)
+trioText kind site n c = siteAnswer kind site (c .refusal) (trioFields n c)

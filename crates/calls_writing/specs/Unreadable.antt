@@ -2,7 +2,8 @@
 use Prim.Native.Nat.{ℕ}
 use mathlib.Core.List.{List, [], _∷_}
 use Rattle.text_writing.specs.Laying.{wholeText}
-use Rattle.calls_writing.specs.Words.{bytesOf, tab, joined, dash}
+use Rattle.text_reading.specs.Texts.{bytesOf}
+use Rattle.calls_writing.specs.Words.{tab, joined, dash}
 
 -- A11: the site, or a dash where there is none
 abbrev pub siteText : List ℕ → List ℕ

@@ -1,7 +1,5 @@
 -- What the answers of `calls` are put together from: bytes, fields, lists, pairs, figures. Definitions only (RULES.md, A11 to A15).
 use Prim.Native.Nat.{ℕ}
-use Prim.Native.Char.{code}
-use Prim.Native.String as text
 use mathlib.Core.Bool.{Bool, cond}
 use mathlib.Core.List.{List, [], _∷_, _++_}
 use lib.Dec.{eqb}
@@ -9,14 +7,10 @@ use lib.Ieee.{Float}
 use Rattle.refusals.specs.declared.Refusal.{Refusal}
 use Rattle.refusals.specs.Refusals.{numberOf}
 use Rattle.refusals.specs.Names.{spelled}
+use Rattle.text_reading.specs.Texts.{bytesOf}
 use Rattle.text_writing.specs.Figures.{figureOf, figureText}
 use Rattle.text_writing.specs.Laying.{wholeText}
 use Rattle.trio_family.specs.declared.pair.Pair.{Pair}
-
--- A11: the bytes of an ASCII text
-abbrev pub bytesOf : text.String → List ℕ
-bytesOf text.[] = []
-bytesOf (text._∷_ c s) = code c ∷ bytesOf s
 
 -- A11 to A15: what parts fields; the members of a list; the alleles of a pair; an allele from what is said of it
 abbrev pub tab : ℕ
@@ -59,8 +53,8 @@ abbrev pub figure : Float → List ℕ
 figure x = figureText (figureOf x)
 
 -- A12: the answer to a line that can be read: kind, site, number and name of the refusal; then, where nothing is refused, the call
-unfoldable pub answerText : List ℕ → List ℕ → Refusal → List (List ℕ) → List ℕ
-answerText kind site r call =
+unfoldable pub siteAnswer : List ℕ → List ℕ → Refusal → List (List ℕ) → List ℕ
+siteAnswer kind site r call =
     joined tab (kind ∷ site ∷ wholeText (numberOf r) ∷ bytesOf (spelled r) ∷ cond (eqb (numberOf r) 0) call [])
 
 -- ---- for the code

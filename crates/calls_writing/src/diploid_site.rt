@@ -2,7 +2,8 @@
 ghost use mathlib.Core.Path.{_≡_};
 ghost use lib.ListN.{length};
 ghost use Rattle.text_writing.specs.Laying.{laidEnd, laid};
-ghost use Rattle.calls_writing.specs.Words.{bytesOf, tab, behindEach};
+ghost use Rattle.text_reading.specs.Texts.{bytesOf};
+ghost use Rattle.calls_writing.specs.Words.{tab, behindEach};
 ghost use Rattle.calls_writing.specs.Diploid.{stateName, diploidFields, diploidText};
 use crate::fields::lay_field;
 use crate::fields::lay_float;
@@ -34,13 +35,7 @@ fn lay_call(text: &mut [u8], at: usize, r: GenotypeResult) -> usize
 }
 
 // Lays the answer to a site, of the kind that the line names.
-pub fn lay_diploid(
-    text: &mut [u8],
-    at: usize,
-    kind: &[u8],
-    site: &[u8],
-    r: GenotypeResult,
-) -> usize
+pub fn lay_diploid(text: &mut [u8], at: usize, kind: &[u8], site: &[u8], r: GenotypeResult) -> usize
     ensures { λ e. ⌜ (e ≡ laidEnd (length (now (text .entry))) at (length (diploidText (now (kind .entry)) (now (site .entry)) r)))
         × (now (text .exit) ≡ laid (now (text .entry)) at (diploidText (now (kind .entry)) (now (site .entry)) r)) ⌝ }
 {

@@ -36,9 +36,9 @@ fn germline(ploidy: usize, alleles: [usize; 2]) -> Pair
 // ends lie.
 fn lay_vaf(text: &mut [u8], shown: Shown, somatic: bool, allele: usize, vaf: f64) -> Shown
     ensures { λ r. ⌜ (r .end ≡ laidEnd (length (now (text .entry))) (shown .end)
-            (length (memberText (shown .any) (cond somatic (joined colon (wholeText allele ∷ figure vaf ∷ []) ∷ []) []))))
+        (length (memberText (shown .any) (cond somatic (joined colon (wholeText allele ∷ figure vaf ∷ []) ∷ []) []))))
         × (now (text .exit) ≡ laid (now (text .entry)) (shown .end)
-            (memberText (shown .any) (cond somatic (joined colon (wholeText allele ∷ figure vaf ∷ []) ∷ []) [])))
+        (memberText (shown .any) (cond somatic (joined colon (wholeText allele ∷ figure vaf ∷ []) ∷ []) [])))
         × (r .any ≡ (shown .any || someIn (cond somatic (joined colon (wholeText allele ∷ figure vaf ∷ []) ∷ []) []))) ⌝ }
 {
     let at = shown.end;
@@ -93,13 +93,7 @@ fn lay_call(text: &mut [u8], at: usize, r: MosaicResult) -> usize
 }
 
 // Lays the answer to a site, of the kind that the line names.
-pub fn lay_mosaic(
-    text: &mut [u8],
-    at: usize,
-    kind: &[u8],
-    site: &[u8],
-    r: MosaicResult,
-) -> usize
+pub fn lay_mosaic(text: &mut [u8], at: usize, kind: &[u8], site: &[u8], r: MosaicResult) -> usize
     ensures { λ e. ⌜ (e ≡ laidEnd (length (now (text .entry))) at (length (mosaicText (now (kind .entry)) (now (site .entry)) r)))
         × (now (text .exit) ≡ laid (now (text .entry)) at (mosaicText (now (kind .entry)) (now (site .entry)) r)) ⌝ }
 {

@@ -7,7 +7,8 @@ ghost use lib.ListN.{length};
 ghost use Rattle.lists.specs.Lists.{someIn};
 ghost use Rattle.refusals.specs.Names.{paddedText};
 ghost use Rattle.text_writing.specs.Laying.{laidEnd, laid};
-ghost use Rattle.calls_writing.specs.Words.{bytesOf, tab, behindEach, listText, memberText};
+ghost use Rattle.text_reading.specs.Texts.{bytesOf};
+ghost use Rattle.calls_writing.specs.Words.{tab, behindEach, listText, memberText};
 ghost use Rattle.calls_writing.specs.Trio.{groundName, pairFields, alleleText, notReadOf, notRead};
 ghost use Rattle.calls_writing.specs.Trio.{runnerFields, nothingCompared, scoreFields, trioFields, trioText};
 use crate::fields::lay_field;
@@ -77,17 +78,11 @@ fn lay_triple(text: &mut [u8], at: usize, t: Triple) -> usize
 
 // An allele of an animal joins the list, unless it has been read. Laying nothing brings an end past the buffer to the one place where all
 // such ends lie.
-fn lay_allele(
-    text: &mut [u8],
-    shown: Shown,
-    animal: &[u8],
-    allele: u64,
-    read: bool,
-) -> Shown
+fn lay_allele(text: &mut [u8], shown: Shown, animal: &[u8], allele: u64, read: bool) -> Shown
     ensures { λ r. ⌜ (r .end ≡ laidEnd (length (now (text .entry))) (shown .end)
-            (length (memberText (shown .any) (cond read [] (alleleText (now (animal .entry)) allele ∷ [])))))
+        (length (memberText (shown .any) (cond read [] (alleleText (now (animal .entry)) allele ∷ [])))))
         × (now (text .exit) ≡ laid (now (text .entry)) (shown .end)
-            (memberText (shown .any) (cond read [] (alleleText (now (animal .entry)) allele ∷ []))))
+        (memberText (shown .any) (cond read [] (alleleText (now (animal .entry)) allele ∷ []))))
         × (r .any ≡ (shown .any || someIn (cond read [] (alleleText (now (animal .entry)) allele ∷ [])))) ⌝ }
 {
     let at = shown.end;
@@ -115,23 +110,23 @@ fn nothing_said(read: bool, high: u64, low: u64) -> bool
 }
 
 // The alleles of an animal's pair that it has no read of join the list.
-fn lay_not_read_of(
-    text: &mut [u8],
-    shown: Shown,
-    animal: &[u8],
-    p: Pair,
-    read: PairRead,
-) -> Shown
+fn lay_not_read_of(text: &mut [u8], shown: Shown, animal: &[u8], p: Pair, read: PairRead) -> Shown
     ensures { λ r. ⌜ (r .end ≡ laidEnd (length (now (text .entry))) (shown .end)
-            (length (memberText (shown .any) (notReadOf (now (animal .entry)) p read))))
+        (length (memberText (shown .any) (notReadOf (now (animal .entry)) p read))))
         × (now (text .exit) ≡ laid (now (text .entry)) (shown .end)
-            (memberText (shown .any) (notReadOf (now (animal .entry)) p read)))
+        (memberText (shown .any) (notReadOf (now (animal .entry)) p read)))
         × (r .any ≡ (shown .any || someIn (notReadOf (now (animal .entry)) p read))) ⌝ }
 {
     let low = p.low;
     let high = p.high;
     let to_high = lay_allele(text, shown, animal, low, read.low);
-    lay_allele(text, to_high, animal, high, nothing_said(read.high, high, low))
+    lay_allele(
+        text,
+        to_high,
+        animal,
+        high,
+        nothing_said(read.high, high, low),
+    )
 }
 
 // All called alleles that their animals have no read of, as one list behind a tab.
@@ -165,8 +160,10 @@ fn lay_runner(text: &mut [u8], at: usize, n: u64, c: Closed) -> usize
         × (now (text .exit) ≡ laid (now (text .entry)) at (behindEach tab (runnerFields n c))) ⌝ }
 {
     let runner = c.runner;
+    let score = c.score;
+    let runner_score = runner.score;
     if c.has_runner {
-        let to_runner = lay_float(text, at, c.score - runner.score);
+        let to_runner = lay_float(text, at, score - runner_score);
         return lay_triple(text, to_runner, triple_of(n, runner.position));
     }
     lay(text, at, b"\t-\t-")

@@ -21,8 +21,15 @@ fn lay_site(text: &mut [u8], at: usize, site: &[u8]) -> usize
 }
 
 // Lays the answer to a line of a site, of whose fields one is bad: its number, and what was expected there.
-pub fn lay_unreadable(text: &mut [u8], at: usize, site: &[u8], number: u64, expected: &[u8]) -> usize
-    ensures { λ r. ⌜ (r ≡ laidEnd (length (now (text .entry))) at (length (unreadableText (now (site .entry)) number (now (expected .entry)))))
+pub fn lay_unreadable(
+    text: &mut [u8],
+    at: usize,
+    site: &[u8],
+    number: u64,
+    expected: &[u8],
+) -> usize
+    ensures { λ r. ⌜ (r ≡ laidEnd (length (now (text .entry))) at
+        (length (unreadableText (now (site .entry)) number (now (expected .entry)))))
         × (now (text .exit) ≡ laid (now (text .entry)) at (unreadableText (now (site .entry)) number (now (expected .entry)))) ⌝ }
 {
     let to_site = lay(text, at, b"?");

@@ -142,12 +142,21 @@ use Rattle.text_writing.proofs.laying.lay_whole.Reads as lay-whole
 use Rattle.text_writing.proofs.laying.lay_signed.Reads as lay-signed
 use Rattle.text_writing.proofs.hexadecimals.lay_hexadecimal.Reads as lay-hexadecimal
 use Rattle.text_writing.proofs.hexadecimals.lay_bits.Reads as lay-bits
+use Rattle.calls_writing.proofs.unreadable.lay_unreadable.Reads as lay-unreadable
+use Rattle.calls_writing.proofs.trio_site.lay_trio.Reads as lay-trio
+use Rattle.calls_writing.proofs.diploid_site.lay_diploid.Reads as lay-diploid
+use Rattle.calls_writing.proofs.mosaic_site.lay_mosaic.Reads as lay-mosaic
 use Rattle.text_lines.proofs.gathering.gather.Reads as gather
 use Rattle.text_lines.proofs.gathering.fits.Reads as fits
 use Rattle.text_lines.proofs.gathering.is_unended.Reads as is-unended
 use Rattle.text_lines.proofs.waiting.is_due.Reads as is-due
 use Rattle.text_lines.proofs.waiting.may_go.Reads as may-go
 use Rattle.text_lines.proofs.waiting.written.Reads as written
+use Rattle.calls_settings.proofs.settings.default_settings.Reads as default-settings
+use Rattle.calls_settings.proofs.arguments.with_argument.Reads as with-argument
+use Rattle.calls_tally.proofs.tally.no_tally.Reads as no-tally
+use Rattle.calls_tally.proofs.tally.counted.Reads as counted
+use Rattle.calls_tally.proofs.text.lay_tally.Reads as lay-tally
 
 -- Whatever the lifetimes and the arguments, and whatever these refer to at the end of either call, at most one result meets the contract.
 abbrev pub OneAnswer : {K : Type 0} {A R E : K → Type 0} → ((κ : K) → A κ → R κ → E κ → Type 0) → Type 0
@@ -752,6 +761,31 @@ lay-figure-once κ a v w e f p q = only (p .0) (q .0)
 pub lay-figure-ends : (κ : _) (a : _) (v w : _) (e f : _) → lay-figure.Post κ a v e → lay-figure.Post κ a w f → e .0 .now ≡ f .0 .now
 lay-figure-ends κ a v w e f p q = only (p .1) (q .1)
 
+pub lay-unreadable-once : OneAnswer lay-unreadable.Post
+lay-unreadable-once κ a v w e f p q = only (p .0) (q .0)
+
+pub lay-unreadable-ends : (κ : _) (a : _) (v w : _) (e f : _)
+    → lay-unreadable.Post κ a v e → lay-unreadable.Post κ a w f → e .0 .now ≡ f .0 .now
+lay-unreadable-ends κ a v w e f p q = only (p .1) (q .1)
+
+pub lay-trio-once : OneAnswer lay-trio.Post
+lay-trio-once κ a v w e f p q = only (p .0) (q .0)
+
+pub lay-trio-ends : (κ : _) (a : _) (v w : _) (e f : _) → lay-trio.Post κ a v e → lay-trio.Post κ a w f → e .0 .now ≡ f .0 .now
+lay-trio-ends κ a v w e f p q = only (p .1) (q .1)
+
+pub lay-diploid-once : OneAnswer lay-diploid.Post
+lay-diploid-once κ a v w e f p q = only (p .0) (q .0)
+
+pub lay-diploid-ends : (κ : _) (a : _) (v w : _) (e f : _) → lay-diploid.Post κ a v e → lay-diploid.Post κ a w f → e .0 .now ≡ f .0 .now
+lay-diploid-ends κ a v w e f p q = only (p .1) (q .1)
+
+pub lay-mosaic-once : OneAnswer lay-mosaic.Post
+lay-mosaic-once κ a v w e f p q = only (p .0) (q .0)
+
+pub lay-mosaic-ends : (κ : _) (a : _) (v w : _) (e f : _) → lay-mosaic.Post κ a v e → lay-mosaic.Post κ a w f → e .0 .now ≡ f .0 .now
+lay-mosaic-ends κ a v w e f p q = only (p .1) (q .1)
+
 pub gather-once : OneAnswer gather.Post
 gather-once κ a v w e f p q = only (p .result-is) (q .result-is)
 
@@ -772,3 +806,23 @@ may-go-once κ a v w e f = only
 
 pub written-once : OneAnswer written.Post
 written-once κ a v w e f = only
+
+-- ---- the program's settings and its tally
+
+pub default-settings-once : OneAnswer default-settings.Post
+default-settings-once κ a v w e f = only
+
+pub with-argument-once : OneAnswer with-argument.Post
+with-argument-once κ a v w e f = only
+
+pub no-tally-once : OneAnswer no-tally.Post
+no-tally-once κ a v w e f = only
+
+pub counted-once : OneAnswer counted.Post
+counted-once κ a v w e f = only
+
+pub lay-tally-once : OneAnswer lay-tally.Post
+lay-tally-once κ a v w e f p q = only (p .0) (q .0)
+
+pub lay-tally-ends : (κ : _) (a : _) (v w : _) (e f : _) → lay-tally.Post κ a v e → lay-tally.Post κ a w f → e .0 .now ≡ f .0 .now
+lay-tally-ends κ a v w e f p q = only (p .1) (q .1)

@@ -3,7 +3,7 @@ use mathlib.Core.Path.{_≡_}
 use mathlib.Core.Bool.{true, false}
 use borrow.Author.Needs.{needs}
 use Rattle.calls_settings.specs.Arguments.{argumentOf}
-use Rattle.calls_settings.specs.Values.{reads}
+use Rattle.text_reading.specs.Texts.{reads}
 use Rattle.calls_settings.proofs.arguments.argument_named.Statement.{statement}
 use Rattle.calls_settings.proofs.arguments.argument_named.Tie as tie
 
@@ -29,7 +29,8 @@ is-text-requires-2 c κs = search needs
 returns-2 : tie.Need-returns-2
 unfolding argumentOf
 returns-2 c =
-    let name = c .before .before .before .before .before .before .before .args .name .now in
+    let past-mode = c .before .before .before in
+    let name = past-mode .before .before .before .before .args .name .now in
     let t1 : reads name "--mode" ≡ false = cc in
     let t2 : reads name "--fractions" ≡ true = cc in
     rw (t1, t2)
@@ -43,7 +44,9 @@ is-text-requires-3 c κs = search needs
 returns-3 : tie.Need-returns-3
 unfolding argumentOf
 returns-3 c =
-    let name = c .before .before .before .before .before .before .before .before .before .before .args .name .now in
+    let past-fractions = c .before .before .before in
+    let past-mode = past-fractions .before .before .before in
+    let name = past-mode .before .before .before .before .args .name .now in
     let t1 : reads name "--mode" ≡ false = cc in
     let t2 : reads name "--fractions" ≡ false = cc in
     let t3 : reads name "--means" ≡ true = cc in
@@ -58,7 +61,10 @@ is-text-requires-4 c κs = search needs
 returns-4 : tie.Need-returns-4
 unfolding argumentOf
 returns-4 c =
-    let name = c .before .before .before .before .before .before .before .before .before .before .before .before .before .args .name .now in
+    let past-means = c .before .before .before in
+    let past-fractions = past-means .before .before .before in
+    let past-mode = past-fractions .before .before .before in
+    let name = past-mode .before .before .before .before .args .name .now in
     let t1 : reads name "--mode" ≡ false = cc in
     let t2 : reads name "--fractions" ≡ false = cc in
     let t3 : reads name "--means" ≡ false = cc in
@@ -74,7 +80,11 @@ is-text-requires-5 c κs = search needs
 returns-5 : tie.Need-returns-5
 unfolding argumentOf
 returns-5 c =
-    let name = c .before .before .before .before .before .before .before .before .before .before .before .before .before .before .before .before .args .name .now in
+    let past-precisions = c .before .before .before in
+    let past-means = past-precisions .before .before .before in
+    let past-fractions = past-means .before .before .before in
+    let past-mode = past-fractions .before .before .before in
+    let name = past-mode .before .before .before .before .args .name .now in
     let t1 : reads name "--mode" ≡ false = cc in
     let t2 : reads name "--fractions" ≡ false = cc in
     let t3 : reads name "--means" ≡ false = cc in
@@ -88,7 +98,12 @@ mosaic-argument-requires c κs = search needs
 returns-6 : tie.Need-returns-6
 unfolding argumentOf
 returns-6 c =
-    let name = c .before .before .before .before .before .before .before .before .before .before .before .before .before .before .before .before .before .args .name .now in
+    let past-table = c .before in
+    let past-precisions = past-table .before .before .before in
+    let past-means = past-precisions .before .before .before in
+    let past-fractions = past-means .before .before .before in
+    let past-mode = past-fractions .before .before .before in
+    let name = past-mode .before .before .before .before .args .name .now in
     let t1 : reads name "--mode" ≡ false = cc in
     let t2 : reads name "--fractions" ≡ false = cc in
     let t3 : reads name "--means" ≡ false = cc in

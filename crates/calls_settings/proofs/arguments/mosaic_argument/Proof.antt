@@ -3,7 +3,7 @@ use mathlib.Core.Path.{_≡_}
 use mathlib.Core.Bool.{true, false}
 use borrow.Author.Needs.{needs}
 use Rattle.calls_settings.specs.Arguments.{mosaicArgument}
-use Rattle.calls_settings.specs.Values.{reads}
+use Rattle.text_reading.specs.Texts.{reads}
 use Rattle.calls_settings.proofs.arguments.mosaic_argument.Statement.{statement}
 use Rattle.calls_settings.proofs.arguments.mosaic_argument.Tie as tie
 
@@ -29,7 +29,8 @@ is-text-requires-2 c κs = search needs
 returns-2 : tie.Need-returns-2
 unfolding mosaicArgument
 returns-2 c =
-    let name = c .before .before .before .before .before .before .before .args .name .now in
+    let past-alpha = c .before .before .before in
+    let name = past-alpha .before .before .before .before .args .name .now in
     let t1 : reads name "--alpha" ≡ false = cc in
     let t2 : reads name "--beta" ≡ true = cc in
     rw (t1, t2)
@@ -43,7 +44,9 @@ is-text-requires-3 c κs = search needs
 returns-3 : tie.Need-returns-3
 unfolding mosaicArgument
 returns-3 c =
-    let name = c .before .before .before .before .before .before .before .before .before .before .args .name .now in
+    let past-beta = c .before .before .before in
+    let past-alpha = past-beta .before .before .before in
+    let name = past-alpha .before .before .before .before .args .name .now in
     let t1 : reads name "--alpha" ≡ false = cc in
     let t2 : reads name "--beta" ≡ false = cc in
     let t3 : reads name "--highest-vaf" ≡ true = cc in
@@ -58,7 +61,10 @@ is-text-requires-4 c κs = search needs
 returns-4 : tie.Need-returns-4
 unfolding mosaicArgument
 returns-4 c =
-    let name = c .before .before .before .before .before .before .before .before .before .before .before .before .before .args .name .now in
+    let past-highest-vaf = c .before .before .before in
+    let past-beta = past-highest-vaf .before .before .before in
+    let past-alpha = past-beta .before .before .before in
+    let name = past-alpha .before .before .before .before .args .name .now in
     let t1 : reads name "--alpha" ≡ false = cc in
     let t2 : reads name "--beta" ≡ false = cc in
     let t3 : reads name "--highest-vaf" ≡ false = cc in
@@ -68,7 +74,10 @@ returns-4 c =
 returns-5 : tie.Need-returns-5
 unfolding mosaicArgument
 returns-5 c =
-    let name = c .before .before .before .before .before .before .before .before .before .before .before .before .before .args .name .now in
+    let past-highest-vaf = c .before .before .before in
+    let past-beta = past-highest-vaf .before .before .before in
+    let past-alpha = past-beta .before .before .before in
+    let name = past-alpha .before .before .before .before .args .name .now in
     let t1 : reads name "--alpha" ≡ false = cc in
     let t2 : reads name "--beta" ≡ false = cc in
     let t3 : reads name "--highest-vaf" ≡ false = cc in

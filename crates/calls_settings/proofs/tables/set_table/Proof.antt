@@ -1,5 +1,5 @@
--- `calls_settings::tables::set_table` meets its contract. The loop's invariant: the pairs before the place are read, their members held, and
--- what is left decides. Assumes nothing.
+-- `calls_settings::tables::set_table` meets its contract. The loop's invariant: the pairs before the place are read, their members held,
+-- and what is left decides. Assumes nothing.
 use mathlib.Core.Path.{sym, ap, _∙_}
 use mathlib.Core.Logic.{⊎-elim}
 use Prim.Native.Nat.{_+_, _-_}

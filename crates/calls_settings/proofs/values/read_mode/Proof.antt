@@ -2,7 +2,8 @@
 use mathlib.Core.Path.{_≡_}
 use mathlib.Core.Bool.{true, false}
 use borrow.Author.Needs.{needs}
-use Rattle.calls_settings.specs.Values.{reads, modeOf}
+use Rattle.text_reading.specs.Texts.{reads}
+use Rattle.calls_settings.specs.Values.{modeOf}
 use Rattle.calls_settings.proofs.values.read_mode.Statement.{statement}
 use Rattle.calls_settings.proofs.values.read_mode.Tie as tie
 
@@ -28,7 +29,8 @@ is-text-requires-2 c κs = search needs
 returns-2 : tie.Need-returns-2
 unfolding modeOf
 returns-2 c =
-    let name = c .before .before .before .before .before .before .before .args .value .now in
+    let past-beta = c .before .before .before in
+    let name = past-beta .before .before .before .before .args .value .now in
     let t1 : reads name "beta" ≡ false = cc in
     let t2 : reads name "bino" ≡ true = cc in
     rw (t1, t2)
@@ -42,7 +44,9 @@ is-text-requires-3 c κs = search needs
 returns-3 : tie.Need-returns-3
 unfolding modeOf
 returns-3 c =
-    let name = c .before .before .before .before .before .before .before .before .before .before .args .value .now in
+    let past-bino = c .before .before .before in
+    let past-beta = past-bino .before .before .before in
+    let name = past-beta .before .before .before .before .args .value .now in
     let t1 : reads name "beta" ≡ false = cc in
     let t2 : reads name "bino" ≡ false = cc in
     let t3 : reads name "phased" ≡ true = cc in
@@ -51,7 +55,9 @@ returns-3 c =
 returns-4 : tie.Need-returns-4
 unfolding modeOf
 returns-4 c =
-    let name = c .before .before .before .before .before .before .before .before .before .before .args .value .now in
+    let past-bino = c .before .before .before in
+    let past-beta = past-bino .before .before .before in
+    let name = past-beta .before .before .before .before .args .value .now in
     let t1 : reads name "beta" ≡ false = cc in
     let t2 : reads name "bino" ≡ false = cc in
     let t3 : reads name "phased" ≡ false = cc in

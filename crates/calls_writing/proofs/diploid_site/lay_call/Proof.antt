@@ -1,4 +1,4 @@
--- `calls_writing::diploid_site::lay_call` meets its contract. Assumes nothing.
+-- `calls_writing::diploid_site::lay_call` meets its contract: three fields, one behind the other. Assumes nothing.
 use Prim.Native.Nat.{ℕ}
 use mathlib.Core.Path.{ap, _∙_}
 use mathlib.Core.List.{List, _∷_, _++_, append-assoc, append-nil}

@@ -1,4 +1,4 @@
--- `calls_writing::fields::lay_field` meets its contract. Assumes nothing.
+-- `calls_writing::fields::lay_field` meets its contract: a tab, and the field behind it. Assumes nothing.
 use mathlib.Core.Path.{refl}
 use mathlib.Core.List.{[], _∷_}
 use Rattle.calls_writing.specs.Words.{tab}

@@ -1,4 +1,4 @@
--- `calls_writing::fields::lay_number` meets its contract. Assumes nothing.
+-- `calls_writing::fields::lay_number` meets its contract: a tab, and the number behind it. Assumes nothing.
 use mathlib.Core.Path.{refl}
 use mathlib.Core.List.{[], _∷_}
 use Rattle.text_writing.specs.Laying.{wholeText}

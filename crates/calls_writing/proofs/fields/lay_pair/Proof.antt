@@ -1,4 +1,4 @@
--- `calls_writing::fields::lay_pair` meets its contract. Assumes nothing.
+-- `calls_writing::fields::lay_pair` meets its contract: the lower allele, a slash, the higher. Assumes nothing.
 use mathlib.Core.List.{[], _∷_, append-assoc, append-nil}
 use Rattle.text_writing.specs.Laying.{wholeText}
 use Rattle.calls_writing.specs.Words.{tab, slash}

@@ -1,10 +1,11 @@
--- `calls_writing::heads::lay_head` meets its contract. Assumes nothing.
+-- `calls_writing::heads::lay_head` meets its contract: four fields, one behind the other. Assumes nothing.
 use Prim.Native.Nat.{ℕ}
 use mathlib.Core.Path.{ap, _∙_}
 use mathlib.Core.List.{List, _∷_, _++_, append-assoc, append-nil}
 use Rattle.text_writing.specs.Laying.{wholeText}
 use Rattle.refusals.specs.Names.{spelled}
-use Rattle.calls_writing.specs.Words.{tab, bytesOf}
+use Rattle.text_reading.specs.Texts.{bytesOf}
+use Rattle.calls_writing.specs.Words.{tab}
 use Rattle.calls_writing.proofs.ChainLaws.{first-laid, next-laid, all-laid}
 use borrow.Author.Needs.{needs}
 use Rattle.calls_writing.proofs.heads.lay_head.Statement.{statement}

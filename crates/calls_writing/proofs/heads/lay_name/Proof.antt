@@ -1,4 +1,4 @@
--- `calls_writing::heads::lay_name` meets its contract. Assumes nothing.
+-- `calls_writing::heads::lay_name` meets its contract: the name ends before the first zero. Assumes nothing.
 use Prim.Native.Nat.{ℕ}
 use mathlib.Core.Path.{ap, _∙_}
 use mathlib.Core.List.{List, _∷_}
@@ -28,11 +28,12 @@ same-length c = search needs
 returns : tie.Need-returns
 returns c =
     let all = c .before .before in
-    let taken = c .before .before .before in
-    let named = c .before .before .before .before .before .before in
-    let a = all .before .before .before .before .before .before .args in
+    let taken = all .before in
+    let named = taken .before .before .before in
+    let a = named .before .before .args in
     let laid-all = first-laid (a .text .now) (a .at) (tab ∷ taken .field .result .now) (all .lay-field .ensures) in
-    all-laid laid-all (ap (λ (f : List ℕ). tab ∷ f) (taken .field .ensures ∙ ap (upTo 0) (named .name .ensures) ∙ refusal-name (a .refusal)))
+    let same = taken .field .ensures ∙ ap (upTo 0) (named .name .ensures) ∙ refusal-name (a .refusal) in
+    all-laid laid-all (ap (λ (f : List ℕ). tab ∷ f) same)
 
 pub lay-name-spec : {M : Type 1} → statement M
 lay-name-spec =

@@ -1,4 +1,4 @@
--- `calls_writing::mosaic_site::germline` meets its contract. Assumes nothing.
+-- `calls_writing::mosaic_site::germline` meets its contract: by whether there is one allele. Assumes nothing.
 use mathlib.Core.Path.{refl}
 use borrow.Author.Tests.{eq-eqb, ne-eqb}
 use borrow.Author.Needs.{needs}

@@ -1,4 +1,4 @@
--- `calls_writing::mosaic_site::lay_call` meets its contract. Assumes nothing.
+-- `calls_writing::mosaic_site::lay_call` meets its contract: three fields, one behind the other. Assumes nothing.
 use Prim.Native.Nat.{ℕ}
 use mathlib.Core.Path.{ap, _∙_}
 use Rattle.trio_family.specs.declared.pair.Pair.{Pair}
@@ -30,11 +30,12 @@ returns c =
     let quality = c .before .before in
     let somatic = quality .before .before .before .before in
     let pair = somatic .before .before .before .before in
-    let found = c .before .before .before .before .before .before .before .before .before .before .before in
-    let a = pair .before .before .before .before .before .before .before .args in
-    let joint : Pair → List ℕ = λ p. (tab ∷ pairText p) ++ (tab ∷ listText (somaticTexts (a .r .somatic) (a .r .vafs))) ++ (tab ∷ figure (a .r .quality)) in
+    let found = pair .before in
+    let a = found .before .before .before .before .before .before .args in
+    let list = listText (somaticTexts (a .r .somatic) (a .r .vafs)) in
+    let joint : Pair → List ℕ = λ p. (tab ∷ pairText p) ++ (tab ∷ list) ++ (tab ∷ figure (a .r .quality)) in
     let laid-pair = first-laid (a .text .now) (a .at) (tab ∷ pairText (found .germline .result)) (pair .lay-pair .ensures) in
-    let laid-somatic = next-laid (tab ∷ listText (somaticTexts (a .r .somatic) (a .r .vafs))) laid-pair (somatic .lay-somatic .ensures) in
+    let laid-somatic = next-laid (tab ∷ list) laid-pair (somatic .lay-somatic .ensures) in
     let laid-quality = next-laid (tab ∷ figure (a .r .quality)) laid-somatic (quality .lay-float .ensures) in
     all-laid laid-quality (ap joint (found .germline .ensures) ∙ simp (append-assoc, append-nil))
 

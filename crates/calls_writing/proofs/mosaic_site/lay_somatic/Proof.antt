@@ -1,13 +1,14 @@
--- `calls_writing::mosaic_site::lay_somatic` meets its contract. Assumes nothing.
+-- `calls_writing::mosaic_site::lay_somatic` meets its contract. The loop's invariant: the members of the first `i`
+-- alleles are laid. Assumes nothing.
 use mathlib.Core.Path.{_≡_, refl, sym, _∙_}
 use native.Mathlib.Omega.{arith}
 use native.Mathlib.Numerals.{add-one}
 use lib.ListN.{length, getD}
-use mathlib.Core.List.{[], _∷_}
+use mathlib.Core.List.{List, [], _∷_}
 use Rattle.calls_writing.specs.Mosaic.{vafText, somaticTexts}
 use Rattle.calls_writing.specs.Words.{tab, dash, memberText}
 use mathlib.Core.Bool.{false, cond}
-use Prim.Native.Nat.{_≤_, _-_}
+use Prim.Native.Nat.{ℕ, _≤_, _-_}
 use Rattle.calls_writing.proofs.MosaicLaws.{firstSomatic, somatic-next}
 use Rattle.calls_writing.proofs.MemberLaws.{Listed, next-listed, listed-as, list-some, list-none}
 use Rattle.calls_writing.proofs.ChainLaws.{first-laid, next-laid, all-laid, nothing-again}
@@ -22,6 +23,26 @@ Inv-loop text₀ at somatic vafs shown₀ i₀ t11 text shown i =
 abbrev μ-loop : tie.MeasureT-loop
 μ-loop text₀ at somatic vafs shown₀ i₀ t11 text shown i = 8 - i
 
+-- the members of all eight alleles
+module _ (c : tie.After-loop Inv-loop μ-loop) where
+  abbrev at-start : tie.Start Inv-loop μ-loop
+  at-start = c .before .before .before .before .before .before .before .before
+
+  abbrev members : List (List ℕ)
+  members = somaticTexts (at-start .args .t3) (at-start .args .t4)
+
+  listed :
+      Listed (at-start .args .text .now) (at-start .args .at) false members
+      (c .before .loop .shown .end) (c .before .loop .shown .any) (c .before .loop .text)
+  listed =
+      let s = c .before .loop in
+      let nothing = c .before .before .before .before in
+      let a = at-start .args in
+      let all : s .i ≡ 8 = omega arith in
+      let list = rw all at (s .inv .2) in
+      let laid-nothing = first-laid (a .text .now) (a .at) [] (nothing .lay .ensures) in
+      record { text = next-laid (memberText false members) laid-nothing (list .text .ends, list .text .gives); some = list .some }
+
 slice-aggregate-lay : tie.Need-slice-aggregate-lay Inv-loop μ-loop
 slice-aggregate-lay c = search needs
 
@@ -32,7 +53,8 @@ loop-holds : tie.Need-loop-holds Inv-loop μ-loop
 loop-holds c =
     let nothing = c .before .before in
     let a = nothing .before .before .before .before .args in
-    (search needs, search needs, record { text = nothing-again (first-laid (a .text .now) (a .at) [] (nothing .lay .ensures)); some = refl })
+    let laid-nothing = first-laid (a .text .now) (a .at) [] (nothing .lay .ensures) in
+    (search needs, search needs, record { text = nothing-again laid-nothing; some = refl })
 
 array-read-lay-vaf : tie.Need-array-read-lay-vaf Inv-loop μ-loop
 array-read-lay-vaf c = search needs
@@ -66,14 +88,9 @@ same-length c = search needs
 
 returns : tie.Need-returns Inv-loop μ-loop
 returns c =
-    let s = c .before .before .loop in
-    let nothing = c .before .before .before .before .before in
-    let a = nothing .before .before .before .before .args in
-    let all : s .i ≡ 8 = omega arith in
-    let members = rw all at (s .inv .2) in
-    let laid-nothing = first-laid (a .text .now) (a .at) [] (nothing .lay .ensures) in
-    let laid-members = next-laid (memberText false (somaticTexts (a .t3) (a .t4))) laid-nothing (members .text .ends, members .text .gives) in
-    all-laid laid-members (list-some (somaticTexts (a .t3) (a .t4)) (sym (members .some) ∙ c .if1 .taken))
+    let looped = c .before in
+    let all = listed looped in
+    all-laid (all .text) (list-some (members looped) (sym (all .some) ∙ c .if1 .taken))
 
 slice-aggregate-lay-2 : tie.Need-slice-aggregate-lay-2 Inv-loop μ-loop
 slice-aggregate-lay-2 c = search needs
@@ -88,15 +105,10 @@ returns-2 : tie.Need-returns-2 Inv-loop μ-loop
 returns-2 c =
     let dashed = c .before .before in
     let tested = dashed .before .before .before in
-    let s = tested .before .before .loop in
-    let nothing = tested .before .before .before .before .before in
-    let a = nothing .before .before .before .before .args in
-    let all : s .i ≡ 8 = omega arith in
-    let members = rw all at (s .inv .2) in
-    let laid-nothing = first-laid (a .text .now) (a .at) [] (nothing .lay .ensures) in
-    let laid-members = next-laid (memberText false (somaticTexts (a .t3) (a .t4))) laid-nothing (members .text .ends, members .text .gives) in
-    let laid-dash = next-laid (tab ∷ dash) laid-members (dashed .lay2 .ensures) in
-    all-laid laid-dash (list-none (somaticTexts (a .t3) (a .t4)) (sym (members .some) ∙ tested .if1 .left))
+    let looped = tested .before in
+    let all = listed looped in
+    let laid-dash = next-laid (tab ∷ dash) (all .text) (dashed .lay2 .ensures) in
+    all-laid laid-dash (list-none (members looped) (sym (all .some) ∙ tested .if1 .left))
 
 pub lay-somatic-spec : {M : Type 1} → statement M
 lay-somatic-spec =

@@ -1,4 +1,4 @@
--- `calls_writing::mosaic_site::lay_vaf` meets its contract. Assumes nothing.
+-- `calls_writing::mosaic_site::lay_vaf` meets its contract: by whether the allele is somatic. Assumes nothing.
 use mathlib.Core.Bool.{cond}
 use mathlib.Core.List.{[], _∷_}
 use Rattle.text_writing.specs.Laying.{wholeText}

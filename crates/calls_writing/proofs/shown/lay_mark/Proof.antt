@@ -1,4 +1,4 @@
--- `calls_writing::shown::lay_mark` meets its contract. Assumes nothing.
+-- `calls_writing::shown::lay_mark` meets its contract: by whether a member stands before. Assumes nothing.
 use mathlib.Core.Path.{refl}
 use mathlib.Core.List.{[], _∷_}
 use Rattle.calls_writing.specs.Words.{tab, comma}

@@ -1,4 +1,4 @@
--- `calls_writing::trio_site::ground_name` meets its contract. Assumes nothing.
+-- `calls_writing::trio_site::ground_name` meets its contract: each arm has the bytes of its case's name. Assumes nothing.
 use mathlib.Core.Path.{refl}
 use borrow.Author.Needs.{needs}
 use Rattle.calls_writing.proofs.trio_site.ground_name.Statement.{statement}

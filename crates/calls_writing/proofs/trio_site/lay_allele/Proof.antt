@@ -1,4 +1,4 @@
--- `calls_writing::trio_site::lay_allele` meets its contract. Assumes nothing.
+-- `calls_writing::trio_site::lay_allele` meets its contract: by whether the allele was read. Assumes nothing.
 use mathlib.Core.Bool.{cond}
 use mathlib.Core.List.{[], _∷_}
 use Rattle.text_writing.specs.Laying.{wholeText}

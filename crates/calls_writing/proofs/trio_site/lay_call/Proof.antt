@@ -1,9 +1,10 @@
--- `calls_writing::trio_site::lay_call` meets its contract. Assumes nothing.
+-- `calls_writing::trio_site::lay_call` meets its contract: the fields, one behind the other. Assumes nothing.
 use Rattle.calls_writing.proofs.TrioLaws.{call-text}
 use mathlib.Core.List.{_∷_}
 use Rattle.text_writing.specs.Laying.{wholeText}
 use Rattle.calls_writing.specs.Trio.{groundName, pairFields, notRead, scoreFields}
-use Rattle.calls_writing.specs.Words.{bytesOf, tab, behindEach, listText, pairText}
+use Rattle.text_reading.specs.Texts.{bytesOf}
+use Rattle.calls_writing.specs.Words.{tab, behindEach, listText, pairText}
 use Rattle.calls_writing.proofs.ChainLaws.{first-laid, next-laid, all-laid}
 use borrow.Author.Needs.{needs}
 use Rattle.calls_writing.proofs.trio_site.lay_call.Statement.{statement}
@@ -38,12 +39,17 @@ returns c =
     let ground = quality .before .before .before .before .before in
     let pairs = ground .before .before .before .before in
     let a = pairs .before .before .before .before .before .args in
-    let laid-pairs = first-laid (a .text .now) (a .at) (behindEach tab (pairFields (a .c .triple))) (pairs .lay-triple .ensures) in
-    let laid-ground = next-laid (tab ∷ bytesOf (groundName (a .c .ground))) laid-pairs (ground .lay-ground .ensures) in
-    let laid-quality = next-laid (tab ∷ wholeText (a .c .quality)) laid-ground (quality .lay-number .ensures) in
-    let laid-unread = next-laid (tab ∷ listText (notRead (a .c .triple) (a .c .read))) laid-quality (unread .lay-not-read .ensures) in
-    let laid-scores = next-laid (behindEach tab (scoreFields (a .n) (a .c))) laid-unread (scores .lay-scores .ensures) in
-    all-laid laid-scores (call-text (pairText (a .c .triple .child)) (pairText (a .c .triple .father)) (pairText (a .c .triple .mother)) (bytesOf (groundName (a .c .ground))) (wholeText (a .c .quality)) (listText (notRead (a .c .triple) (a .c .read))) (scoreFields (a .n) (a .c)))
+    let t = a .c .triple in
+    let name = bytesOf (groundName (a .c .ground)) in
+    let number = wholeText (a .c .quality) in
+    let list = listText (notRead t (a .c .read)) in
+    let rest = scoreFields (a .n) (a .c) in
+    let laid-pairs = first-laid (a .text .now) (a .at) (behindEach tab (pairFields t)) (pairs .lay-triple .ensures) in
+    let laid-ground = next-laid (tab ∷ name) laid-pairs (ground .lay-ground .ensures) in
+    let laid-quality = next-laid (tab ∷ number) laid-ground (quality .lay-number .ensures) in
+    let laid-unread = next-laid (tab ∷ list) laid-quality (unread .lay-not-read .ensures) in
+    let laid-scores = next-laid (behindEach tab rest) laid-unread (scores .lay-scores .ensures) in
+    all-laid laid-scores (call-text (pairText (t .child)) (pairText (t .father)) (pairText (t .mother)) name number list rest)
 
 pub lay-call-spec : {M : Type 1} → statement M
 lay-call-spec =

@@ -1,14 +1,37 @@
--- `calls_writing::trio_site::lay_not_read` meets its contract. Assumes nothing.
+-- `calls_writing::trio_site::lay_not_read` meets its contract: the members of three animals, or a dash. Assumes nothing.
 use mathlib.Core.Path.{sym, _∙_}
 use mathlib.Core.Bool.{false}
-use mathlib.Core.List.{[], _∷_, append-assoc}
-use Rattle.calls_writing.specs.Words.{bytesOf, tab, dash, memberText}
+use mathlib.Core.List.{_∷_, append-assoc}
+use Rattle.text_reading.specs.Texts.{bytesOf}
+use Rattle.calls_writing.specs.Words.{tab, dash, memberText}
 use Rattle.calls_writing.specs.Trio.{notReadOf, notRead}
-use Rattle.calls_writing.proofs.MemberLaws.{first-listed, next-listed, all-listed, list-some, list-none}
+use Rattle.calls_writing.proofs.MemberLaws.{IsListed, first-listed, next-listed, all-listed, list-some, list-none}
 use Rattle.calls_writing.proofs.ChainLaws.{first-laid, next-laid, all-laid}
 use borrow.Author.Needs.{needs}
 use Rattle.calls_writing.proofs.trio_site.lay_not_read.Statement.{statement}
 use Rattle.calls_writing.proofs.trio_site.lay_not_read.Tie as tie
+
+-- the three animals' members, one behind the other
+module _ (c : tie.After-lay-not-read-of3) where
+  abbrev at-start : tie.Start
+  at-start =
+      let calf = c .before .before .before .before .before .before .before .before .before .before in
+      calf .before .before .before .before .before .before .before .before .before .before
+
+  listed :
+      IsListed (at-start .args .text .now) (at-start .args .at) false (notRead (at-start .args .t) (at-start .args .read))
+      (c .lay-not-read-of3 .result .end) (c .lay-not-read-of3 .result .any) (c .lay-not-read-of3 .last .0)
+  listed =
+      let sire = c .before .before .before .before .before in
+      let calf = sire .before .before .before .before .before in
+      let a = at-start .args in
+      let of-calf = notReadOf (bytesOf "calf") (a .t .child) (a .read .child) in
+      let of-sire = notReadOf (bytesOf "sire") (a .t .father) (a .read .father) in
+      let of-dam = notReadOf (bytesOf "dam") (a .t .mother) (a .read .mother) in
+      let listed-calf = first-listed (a .text .now) (a .at) false of-calf (calf .lay-not-read-of .ensures) in
+      let listed-sire = next-listed of-sire listed-calf (sire .lay-not-read-of2 .ensures) in
+      let listed-dam = next-listed of-dam listed-sire (c .lay-not-read-of3 .ensures) in
+      all-listed listed-dam (append-assoc of-calf of-sire of-dam)
 
 slice-aggregate-lay-not-read-of : tie.Need-slice-aggregate-lay-not-read-of
 slice-aggregate-lay-not-read-of c = search needs
@@ -34,14 +57,11 @@ same-length c = search needs
 returns : tie.Need-returns
 returns c =
     let dam = c .before .before .before in
-    let sire = dam .before .before .before .before .before in
-    let calf = sire .before .before .before .before .before in
-    let a = calf .before .before .before .before .before .before .before .before .before .before .args in
-    let listed-calf = first-listed (a .text .now) (a .at) false (notReadOf (bytesOf "calf") (a .t .child) (a .read .child)) (calf .lay-not-read-of .ensures) in
-    let listed-sire = next-listed (notReadOf (bytesOf "sire") (a .t .father) (a .read .father)) listed-calf (sire .lay-not-read-of2 .ensures) in
-    let listed-dam = next-listed (notReadOf (bytesOf "dam") (a .t .mother) (a .read .mother)) listed-sire (dam .lay-not-read-of3 .ensures) in
-    let all = all-listed listed-dam (append-assoc (notReadOf (bytesOf "calf") (a .t .child) (a .read .child)) (notReadOf (bytesOf "sire") (a .t .father) (a .read .father)) (notReadOf (bytesOf "dam") (a .t .mother) (a .read .mother))) in
-    all-laid (first-laid (a .text .now) (a .at) (memberText false (notRead (a .t) (a .read))) (all .0, all .1)) (list-some (notRead (a .t) (a .read)) (sym (all .2) ∙ c .if1 .taken))
+    let a = at-start dam .args in
+    let all = listed dam in
+    let members = notRead (a .t) (a .read) in
+    let laid-members = first-laid (a .text .now) (a .at) (memberText false members) (all .0, all .1) in
+    all-laid laid-members (list-some members (sym (all .2) ∙ c .if1 .taken))
 
 slice-aggregate-lay : tie.Need-slice-aggregate-lay
 slice-aggregate-lay c = search needs
@@ -57,15 +77,12 @@ returns-2 c =
     let dashed = c .before .before in
     let tested = dashed .before .before .before in
     let dam = tested .before .before .before in
-    let sire = dam .before .before .before .before .before in
-    let calf = sire .before .before .before .before .before in
-    let a = calf .before .before .before .before .before .before .before .before .before .before .args in
-    let listed-calf = first-listed (a .text .now) (a .at) false (notReadOf (bytesOf "calf") (a .t .child) (a .read .child)) (calf .lay-not-read-of .ensures) in
-    let listed-sire = next-listed (notReadOf (bytesOf "sire") (a .t .father) (a .read .father)) listed-calf (sire .lay-not-read-of2 .ensures) in
-    let listed-dam = next-listed (notReadOf (bytesOf "dam") (a .t .mother) (a .read .mother)) listed-sire (dam .lay-not-read-of3 .ensures) in
-    let all = all-listed listed-dam (append-assoc (notReadOf (bytesOf "calf") (a .t .child) (a .read .child)) (notReadOf (bytesOf "sire") (a .t .father) (a .read .father)) (notReadOf (bytesOf "dam") (a .t .mother) (a .read .mother))) in
-    let members = first-laid (a .text .now) (a .at) (memberText false (notRead (a .t) (a .read))) (all .0, all .1) in
-    all-laid (next-laid (tab ∷ dash) members (dashed .lay .ensures)) (list-none (notRead (a .t) (a .read)) (sym (all .2) ∙ tested .if1 .left))
+    let a = at-start dam .args in
+    let all = listed dam in
+    let members = notRead (a .t) (a .read) in
+    let laid-members = first-laid (a .text .now) (a .at) (memberText false members) (all .0, all .1) in
+    let laid-dash = next-laid (tab ∷ dash) laid-members (dashed .lay .ensures) in
+    all-laid laid-dash (list-none members (sym (all .2) ∙ tested .if1 .left))
 
 pub lay-not-read-spec : {M : Type 1} → statement M
 lay-not-read-spec =

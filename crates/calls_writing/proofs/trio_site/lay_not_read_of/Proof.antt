@@ -1,4 +1,4 @@
--- `calls_writing::trio_site::lay_not_read_of` meets its contract. Assumes nothing.
+-- `calls_writing::trio_site::lay_not_read_of` meets its contract: the lower allele, then the higher. Assumes nothing.
 use Prim.Native.Nat.{ℕ}
 use mathlib.Core.Path.{ap}
 use mathlib.Core.Bool.{Bool, cond}

@@ -1,4 +1,4 @@
--- `calls_writing::trio_site::lay_runner` meets its contract. Assumes nothing.
+-- `calls_writing::trio_site::lay_runner` meets its contract: by whether there is a runner-up. Assumes nothing.
 use mathlib.Core.List.{[], _∷_}
 use Rattle.floats.specs.F64.{_⊖_}
 use Rattle.calls_writing.specs.Trio.{pairFields}
@@ -24,13 +24,13 @@ same-length c = search needs
 returns : tie.Need-returns
 returns c =
     let runner = c .before .before in
+    let found = runner .before .triple-of in
     let lead = runner .before .before .before .before .before in
-    let found = c .before .before .before in
-    let tested = c .before .before .before .before .before .before .before .before .before .before .before in
-    let a = lead .before .before .before .before .before .before .before .args in
+    let tested = lead .before .before in
+    let a = tested .before .before .before .args in
     let laid-lead = first-laid (a .text .now) (a .at) (tab ∷ figure (a .c .score ⊖ a .c .runner .score)) (lead .lay-float .ensures) in
-    let laid-runner = next-laid (behindEach tab (pairFields (found .triple-of .result))) laid-lead (runner .lay-triple .ensures) in
-    all-laid laid-runner (runner-some (a .n) (a .c) (found .triple-of .result) (tested .if1 .taken) (found .triple-of .ensures))
+    let laid-runner = next-laid (behindEach tab (pairFields (found .result))) laid-lead (runner .lay-triple .ensures) in
+    all-laid laid-runner (runner-some (a .n) (a .c) (found .result) (tested .if1 .taken) (found .ensures))
 
 slice-aggregate-lay : tie.Need-slice-aggregate-lay
 slice-aggregate-lay c = search needs
@@ -44,8 +44,8 @@ same-length-2 c = search needs
 returns-2 : tie.Need-returns-2
 returns-2 c =
     let dashes = c .before .before in
-    let tested = c .before .before .before .before .before in
-    let a = dashes .before .before .before .before .before .before .args in
+    let tested = dashes .before .before .before in
+    let a = tested .before .before .before .args in
     let laid-dashes = first-laid (a .text .now) (a .at) (behindEach tab (dash ∷ dash ∷ [])) (dashes .lay .ensures) in
     all-laid laid-dashes (runner-none (a .n) (a .c) (tested .if1 .left))
 

@@ -1,4 +1,4 @@
--- `calls_writing::trio_site::lay_scores` meets its contract. Assumes nothing.
+-- `calls_writing::trio_site::lay_scores` meets its contract: by whether anything was compared. Assumes nothing.
 use mathlib.Core.List.{[], _∷_}
 use Rattle.calls_writing.specs.Trio.{runnerFields}
 use Rattle.calls_writing.specs.Words.{tab, behindEach, dash, figure}
@@ -23,11 +23,11 @@ same-length c = search needs
 returns : tie.Need-returns
 returns c =
     let dashes = c .before .before in
-    let asked = c .before .before .before .before .before .before in
-    let tested = c .before .before .before .before .before in
-    let a = dashes .before .before .before .before .before .before .args in
+    let tested = dashes .before .before .before in
+    let asked = tested .before .nothing-compared in
+    let a = tested .before .before .before .args in
     let laid-dashes = first-laid (a .text .now) (a .at) (behindEach tab (dash ∷ dash ∷ dash ∷ [])) (dashes .lay .ensures) in
-    all-laid laid-dashes (scores-none (a .n) (a .c) (asked .nothing-compared .result) (asked .nothing-compared .ensures) (tested .if1 .taken))
+    all-laid laid-dashes (scores-none (a .n) (a .c) (asked .result) (asked .ensures) (tested .if1 .taken))
 
 lay-float-requires : tie.Need-lay-float-requires
 lay-float-requires c κs = search needs
@@ -42,12 +42,12 @@ returns-2 : tie.Need-returns-2
 returns-2 c =
     let runner = c .before .before in
     let score = runner .before .before .before .before in
-    let asked = c .before .before .before .before .before .before .before .before .before in
-    let tested = c .before .before .before .before .before .before .before .before in
-    let a = score .before .before .before .before .before .args in
+    let tested = score .before .before in
+    let asked = tested .before .nothing-compared in
+    let a = tested .before .before .before .args in
     let laid-score = first-laid (a .text .now) (a .at) (tab ∷ figure (a .c .score)) (score .lay-float .ensures) in
     let laid-runner = next-laid (behindEach tab (runnerFields (a .n) (a .c))) laid-score (runner .lay-runner .ensures) in
-    all-laid laid-runner (scores-some (a .n) (a .c) (asked .nothing-compared .result) (asked .nothing-compared .ensures) (tested .if1 .left))
+    all-laid laid-runner (scores-some (a .n) (a .c) (asked .result) (asked .ensures) (tested .if1 .left))
 
 pub lay-scores-spec : {M : Type 1} → statement M
 lay-scores-spec =

@@ -1,4 +1,4 @@
--- `calls_writing::trio_site::lay_triple` meets its contract. Assumes nothing.
+-- `calls_writing::trio_site::lay_triple` meets its contract: three fields, one behind the other. Assumes nothing.
 use mathlib.Core.List.{_∷_, append-assoc, append-nil}
 use Rattle.calls_writing.specs.Words.{tab, pairText}
 use Rattle.calls_writing.proofs.ChainLaws.{first-laid, next-laid, all-laid}

@@ -1,4 +1,4 @@
--- `calls_writing::trio_site::nothing_said` meets its contract. Assumes nothing.
+-- `calls_writing::trio_site::nothing_said` meets its contract: by whether the allele was read. Assumes nothing.
 use mathlib.Core.Path.{refl}
 use borrow.Author.Needs.{needs}
 use Rattle.calls_writing.proofs.trio_site.nothing_said.Statement.{statement}

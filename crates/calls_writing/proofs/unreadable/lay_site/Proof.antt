@@ -1,4 +1,4 @@
--- `calls_writing::unreadable::lay_site` meets its contract. Assumes nothing.
+-- `calls_writing::unreadable::lay_site` meets its contract: by whether the site has a byte. Assumes nothing.
 use mathlib.Core.List.{_∷_}
 use Rattle.calls_writing.specs.Words.{tab, dash}
 use Rattle.calls_writing.proofs.SiteLaws.{no-site, some-site}

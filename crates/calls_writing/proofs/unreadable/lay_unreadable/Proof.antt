@@ -1,7 +1,8 @@
--- `calls_writing::unreadable::lay_unreadable` meets its contract. Assumes nothing.
+-- `calls_writing::unreadable::lay_unreadable` meets its contract: four fields, one behind the other. Assumes nothing.
 use mathlib.Core.List.{_∷_, append-assoc, append-nil}
 use Rattle.text_writing.specs.Laying.{wholeText}
-use Rattle.calls_writing.specs.Words.{bytesOf, tab}
+use Rattle.text_reading.specs.Texts.{bytesOf}
+use Rattle.calls_writing.specs.Words.{tab}
 use Rattle.calls_writing.specs.Unreadable.{siteText, unreadableText}
 use Rattle.calls_writing.proofs.ChainLaws.{first-laid, next-laid, all-laid}
 use borrow.Author.Needs.{needs}
