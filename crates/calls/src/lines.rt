@@ -1,9 +1,10 @@
 // Each line of the input is gathered in a lent buffer until it ends, and then answered.
-use crate::answers;
-use crate::sites;
-use crate::sites::End;
+use calls_answers::answers::answer;
+use calls_settings::settings::Settings;
+use calls_tally::tally::Tally;
+use calls_tally::tally::counted;
+use calls_tally::tally::no_tally;
 use libc::STDOUT_FILENO;
-use text_lines::gathering::fits;
 use text_lines::gathering::gather;
 use text_lines::gathering::is_unended;
 use text_lines::waiting::Waiting;
@@ -13,18 +14,18 @@ use text_lines::waiting::written;
 use text_writing::laying::first_bytes;
 use text_writing::laying::lay;
 
-// What is kept between two pieces: how many bytes of an unended line have come, how many lines have ended, and the answers that wait.
+// What is kept between two pieces: how many bytes of an unended line have come, the answers that wait, and what the answers come to.
 pub struct Carried {
     pub count: usize,
-    pub ended: u64,
     pub waiting: Waiting,
+    pub tally: Tally,
 }
 
 pub fn nothing_carried() -> Carried {
     Carried {
         count: 0,
-        ended: 0,
         waiting: written(true),
+        tally: no_tally(),
     }
 }
 
@@ -36,30 +37,27 @@ fn flush(text: &[u8], waiting: Waiting) -> Waiting {
     written(false)
 }
 
-// One line more.
-fn one_more(ended: u64) -> u64 {
-    if ended < u64::MAX {
-        return ended + 1;
+// The tally with the answer that stands between two places of the text, where anybody is told.
+fn tallied(told: bool, tally: Tally, text: &[u8], start: usize, end: usize) -> Tally {
+    if !told {
+        return tally;
     }
-    ended
-}
-
-// The answer to a line of so many bytes, which is the line of this number.
-fn answer(line: &[u8], count: usize, number: u64, text: &mut [u8], at: usize) -> usize {
-    if !fits(line, count) {
-        return answers::unreadable(text, at, number);
+    if end > text.len() {
+        return tally;
     }
-    let End::At(end) = sites::answer(first_bytes(line, count), text, at) else {
-        return answers::unreadable(text, at, number);
-    };
-    end
+    if end < start {
+        return tally;
+    }
+    counted(tally, &text[start..end])
 }
 
 // Answers a line that has ended.
-fn answered(line: &[u8], text: &mut [u8], carried: Carried) -> Carried {
+fn answered(settings: Settings, told: bool, line: &[u8], text: &mut [u8], carried: Carried) -> Carried {
     let waiting = carried.waiting;
-    let number = one_more(carried.ended);
-    let end = answer(line, carried.count, number, text, waiting.count);
+    let before = carried.tally;
+    let start = waiting.count;
+    let end = answer(settings, first_bytes(line, carried.count), text, start);
+    let tally = tallied(told, before, text, start, end);
     let mut after = Waiting {
         count: lay(text, end, b"\n"),
         well: waiting.well,
@@ -69,33 +67,43 @@ fn answered(line: &[u8], text: &mut [u8], carried: Carried) -> Carried {
     }
     Carried {
         count: 0,
-        ended: number,
         waiting: after,
+        tally,
     }
 }
 
 // Takes the next piece of the input, and writes the answers to the lines that end in it.
-pub fn feed(piece: &[u8], line: &mut [u8], text: &mut [u8], carried: Carried) -> Carried {
+pub fn feed(
+    settings: Settings,
+    told: bool,
+    piece: &[u8],
+    line: &mut [u8],
+    text: &mut [u8],
+    carried: Carried,
+) -> Carried {
     let mut h = carried;
     let mut gathered = gather(line, carried.count, piece, 0);
     while gathered.next <= piece.len() {
         h.count = gathered.count;
-        h = answered(line, text, h);
+        h = answered(settings, told, line, text, h);
         gathered = gather(line, 0, piece, gathered.next);
     }
     let waiting = h.waiting;
+    let tally = h.tally;
     Carried {
         count: gathered.count,
-        ended: h.ended,
         waiting: flush(text, waiting),
+        tally,
     }
 }
 
 // The input has ended: a last line without its newline is answered too.
-pub fn end(line: &[u8], text: &mut [u8], carried: Carried) {
+pub fn end(settings: Settings, told: bool, line: &[u8], text: &mut [u8], carried: Carried) -> Tally {
     if is_unended(carried.count) {
-        let last = answered(line, text, carried);
+        let last = answered(settings, told, line, text, carried);
         let waiting = last.waiting;
         flush(text, waiting);
+        return last.tally;
     }
+    carried.tally
 }
