@@ -25,7 +25,7 @@ use Rattle.calls_writing.specs.Unreadable.{unreadableText}
 use Rattle.calls_writing.specs.Diploid.{diploidText}
 use Rattle.calls_writing.specs.Mosaic.{mosaicText}
 use Rattle.calls_answers.specs.declared.numbers.Run.{Run}
-use Rattle.calls_answers.specs.Lines.{tab}
+use Rattle.calls_lines.specs.Lines.{tab}
 use Rattle.calls_answers.specs.Numbers.{isCount, countValue, leading}
 use Rattle.calls_answers.specs.Reading.{CountsRead, allelesCalled}
 use Rattle.calls_answers.specs.Answers.{fieldAt, threeCountsText, allelesText}

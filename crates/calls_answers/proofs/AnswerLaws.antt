@@ -16,10 +16,10 @@ use Rattle.calls_settings.specs.declared.settings.Settings.{Settings}
 use Rattle.calls_writing.specs.Unreadable.{unreadableText}
 use Rattle.calls_answers.specs.declared.kinds.Kind.{Kind}
 use Rattle.calls_answers.specs.declared.kinds.Kind.the-variants.{Trio, Trio2, Family, Family2, Diploid, Mosaic, Unknown}
-use Rattle.calls_answers.specs.Lines.{tab}
+use Rattle.calls_lines.specs.Lines.{tab}
 use Rattle.calls_answers.specs.Kinds.{kindOf}
 use Rattle.calls_answers.specs.Answers.{fieldAt, numbersText, isKnown, fieldsText, tooLongText}
-use Rattle.calls_answers.proofs.SiteLaws.{fields-whole}
+use Rattle.calls_lines.proofs.CountLaws.{fields-whole}
 
 -- ---- the fields of a line, from its first two
 

@@ -13,7 +13,7 @@ use lib.Seq.{take-suc-set, drop-set-lt, drop-drop}
 use Rattle.text_reading.specs.Fields.{upTo, fieldEnd, fieldsFrom}
 use Rattle.text_reading.proofs.FieldLaws.{fields-none, fields-step}
 use Rattle.calls_answers.specs.declared.numbers.Run.{Run}
-use Rattle.calls_answers.specs.Lines.{tab}
+use Rattle.calls_lines.specs.Lines.{tab}
 use Rattle.calls_answers.specs.Numbers.{leading}
 use Rattle.calls_answers.specs.Reading.{putAt, RunRead}
 

@@ -6,7 +6,7 @@ use mathlib.Core.List.{List, [], _∷_, map}
 use Prim.Native.Nat.{ℕ, zero, suc, _+_, _-_, _*_, _≤_, _<_}
 use native.Mathlib.Nat.{lt-of-lt-of-le, le-trans, zero-lt-suc, pow-le-pow-right}
 use native.Mathlib.Omega.{arith}
-use borrow.Author.Tests.{lt-ltb, le-ltb, le-leb}
+use borrow.Author.Tests.{lt-ltb, le-ltb}
 use lib.Dec.{T, eqb, leb, ltb, leb→le, lit≤}
 use lib.Ieee.Fits.{and-l, and-r}
 use lib.ListN.{length, getD, take, drop, replicate, length-take, length-drop, drop-of-length-le, length-map}
@@ -18,14 +18,14 @@ use Rattle.text_reading.specs.declared.wholes.Whole.{Whole}
 use Rattle.text_reading.specs.declared.wholes.Whole.the-variants as whole
 use Rattle.text_reading.specs.Wholes.{isDigit, allDigits, number}
 use Rattle.text_reading.proofs.WholeLaws.{number-lt}
-use Rattle.text_reading.specs.Fields.{fieldEnd, onFirst, fieldsOf, fieldsFrom}
+use Rattle.text_reading.specs.Fields.{onFirst, fieldsOf, fieldsFrom}
 use Rattle.text_reading.specs.Texts.{bytesOf}
-use Rattle.text_reading.proofs.FieldLaws.{end-there, fields-none, fields-step}
+use Rattle.text_reading.proofs.FieldLaws.{fields-none, fields-step}
 use Rattle.trio_closings.specs.declared.closing.Closed.{Closed}
 use Rattle.calls_writing.specs.Unreadable.{unreadableText}
 use Rattle.calls_writing.specs.Trio.{trioText}
 use Rattle.calls_answers.specs.declared.numbers.Run.{Run}
-use Rattle.calls_answers.specs.Lines.{tab}
+use Rattle.calls_lines.specs.Lines.{tab}
 use Rattle.calls_answers.specs.Numbers.{isCount, isWeight, weightValue, leading, shortWholeOf}
 use Rattle.calls_answers.specs.Families.{callIn, calledFrom}
 use Rattle.calls_answers.specs.Reading.{RunRead, CountsRead, WeightsRead, LaidAt}
@@ -69,47 +69,6 @@ leading-most passes (f ∷ l) = go (passes f) (leading-most passes l)
     go : (t : Bool) → leading passes l ≤ length l → cond t (suc (leading passes l)) zero ≤ suc (length l)
     go true h = omega arith
     go false h = omega arith
-
--- ---- the fields of a line, counted
-
-pub fields-whole : (line : List ℕ) → fieldsFrom tab 0 line ≡ fieldsOf tab line
-fields-whole line = rw (le-leb 0 (length line) (omega arith))
-
-pub record Counted (line : List ℕ) (at many : ℕ) : Type 0 where
-  pub all-fields : many + length (fieldsFrom tab at line) ≡ length (fieldsOf tab line)
-  pub behind : many ≤ at
-
-pub counted-none : (line : List ℕ) → Counted line 0 0
-counted-none line = record {
-  all-fields = nothing (length (fieldsFrom tab 0 line)) ∙ ap length (fields-whole line);
-  behind = omega arith;
-}
-  where
-    nothing : (n : ℕ) → 0 + n ≡ n
-    nothing n = omega arith
-
-pub field-end-past : (at : ℕ) (line : List ℕ) → at ≤ length line → at ≤ fieldEnd tab at line
-field-end-past at line h = omega (arith, end-there tab at line h)
-
-pub counted-more : (line : List ℕ) (at many : ℕ) → Counted line at many → at ≤ length line → (next : ℕ) → next ≡ fieldEnd tab at line + 1
-    → Counted line next (many + 1)
-counted-more line at many s h next e = record {
-  all-fields =
-      ap (λ (k : ℕ). many + 1 + length (fieldsFrom tab k line)) e
-      ∙ one (length (fieldsFrom tab (fieldEnd tab at line + 1) line)) (length (fieldsFrom tab at line)) (ap length (fields-step tab at line h))
-      ∙ s .all-fields;
-  behind = let past = field-end-past at line h in omega (arith, s .behind);
-}
-  where
-    one : (n k : ℕ) → k ≡ suc n → many + 1 + n ≡ many + k
-    one n k q = omega arith
-
-pub counted-all : (line : List ℕ) (at many : ℕ) → Counted line at many → length line < at → many ≡ length (fieldsOf tab line)
-counted-all line at many s h =
-    none (length (fieldsFrom tab at line)) (ap length (fields-none tab at line h)) ∙ s .all-fields
-  where
-    none : (k : ℕ) → k ≡ 0 → many ≡ many + k
-    none k q = omega arith
 
 -- ---- a run that was read, and what is left
 

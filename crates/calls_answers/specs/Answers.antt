@@ -18,7 +18,7 @@ use Rattle.calls_writing.specs.Diploid.{diploidText}
 use Rattle.calls_writing.specs.Mosaic.{mosaicText}
 use Rattle.calls_answers.specs.declared.kinds.Kind.{Kind}
 use Rattle.calls_answers.specs.declared.kinds.Kind.the-variants.{Trio, Trio2, Family, Family2, Diploid, Mosaic, Unknown}
-use Rattle.calls_answers.specs.Lines.{tab, body, isNote}
+use Rattle.calls_lines.specs.Lines.{tab, body, isNote}
 use Rattle.calls_answers.specs.Numbers.{isCount, countValue, isWeight, leading}
 use Rattle.calls_answers.specs.Kinds.{kindOf}
 use Rattle.calls_answers.specs.Families.{callIn}

@@ -13,7 +13,7 @@ use Rattle.mosaic_params.specs.declared.params.Params.{Params}
 use Rattle.mosaic.specs.declared.genotype.MosaicResult.{MosaicResult}
 use Rattle.mosaic.specs.Genotype.{blankMosaic, mosaicOf}
 use Rattle.calls_answers.specs.declared.numbers.Run.{Run}
-use Rattle.calls_answers.specs.Lines.{tab}
+use Rattle.calls_lines.specs.Lines.{tab}
 use Rattle.calls_answers.specs.Numbers.{isCount, countValue, isWeight, weightValue, leading}
 
 -- A10: a value at a place, where there is one

@@ -4,5 +4,4 @@ pub mod answers;
 mod families;
 mod family_sites;
 mod kinds;
-mod lines;
 mod numbers;

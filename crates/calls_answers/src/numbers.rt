@@ -2,7 +2,7 @@
 ghost use mathlib.Core.Path.{_≡_};
 ghost use Rattle.calls_answers.specs.Numbers.{shortWholeOf, countOf};
 ghost use Rattle.calls_answers.specs.Reading.{putAt, CountsRead, WeightsRead};
-use crate::lines::TAB;
+use calls_lines::lines::TAB;
 use text_reading::decimals::Decimal;
 use text_reading::decimals::read_decimal;
 use text_reading::fields::field;

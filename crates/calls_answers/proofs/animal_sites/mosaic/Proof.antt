@@ -10,7 +10,7 @@ use Rattle.text_reading.specs.Texts.{bytesOf}
 use Rattle.text_reading.proofs.FieldLaws.{fields-rest}
 use Rattle.calls_writing.specs.Unreadable.{unreadableText}
 use Rattle.calls_writing.specs.Mosaic.{mosaicText}
-use Rattle.calls_answers.specs.Lines.{tab}
+use Rattle.calls_lines.specs.Lines.{tab}
 use Rattle.calls_answers.proofs.SiteLaws.{laid-as}
 use Rattle.calls_answers.proofs.AnimalLaws.{few-many, bad-allele, alleles-called}
 use Rattle.calls_answers.proofs.animal_sites.mosaic.Statement.{statement}

@@ -5,9 +5,9 @@ use Prim.Native.Nat.{ℕ}
 use lib.ListN.{take}
 use lib.Seq.{length-take-le}
 use borrow.Author.Needs.{needs}
-use Rattle.calls_answers.specs.Lines.{body}
+use Rattle.calls_lines.specs.Lines.{body}
 use Rattle.calls_answers.specs.Answers.{bodyText, answerText}
-use Rattle.calls_answers.proofs.LineLaws.{body-taken, body-short}
+use Rattle.calls_lines.proofs.LineLaws.{body-taken, body-short}
 use Rattle.calls_answers.proofs.SiteLaws.{laid-as}
 use Rattle.calls_answers.proofs.answers.answer.Statement.{statement}
 use Rattle.calls_answers.proofs.answers.answer.Tie as tie

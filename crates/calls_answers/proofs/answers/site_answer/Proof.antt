@@ -7,7 +7,7 @@ use lib.ListN.{length, drop}
 use borrow.Author.Needs.{needs}
 use borrow.Author.Tests.{eqb-true, eqb-false}
 use Rattle.text_reading.specs.Fields.{upTo}
-use Rattle.calls_answers.specs.Lines.{tab}
+use Rattle.calls_lines.specs.Lines.{tab}
 use Rattle.calls_answers.specs.Kinds.{kindOf}
 use Rattle.calls_answers.specs.Answers.{isKnown}
 use Rattle.calls_answers.proofs.SiteLaws.{laid-as}

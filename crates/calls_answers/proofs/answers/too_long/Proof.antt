@@ -8,7 +8,7 @@ use borrow.Author.Needs.{needs}
 use Rattle.text_reading.specs.Fields.{upTo, fieldsOf}
 use Rattle.text_reading.specs.Texts.{bytesOf}
 use Rattle.calls_writing.specs.Unreadable.{unreadableText}
-use Rattle.calls_answers.specs.Lines.{tab}
+use Rattle.calls_lines.specs.Lines.{tab}
 use Rattle.calls_answers.proofs.SiteLaws.{laid-as}
 use Rattle.calls_answers.proofs.AnswerLaws.{long-sited, long-alone}
 use Rattle.calls_answers.proofs.answers.too_long.Statement.{statement}

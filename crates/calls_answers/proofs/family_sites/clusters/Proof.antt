@@ -12,7 +12,7 @@ use Rattle.text_reading.specs.Fields.{upTo, fieldsFrom}
 use Rattle.text_reading.specs.Texts.{bytesOf}
 use Rattle.calls_writing.specs.Unreadable.{unreadableText}
 use Rattle.calls_writing.specs.Trio.{trioText}
-use Rattle.calls_answers.specs.Lines.{tab}
+use Rattle.calls_lines.specs.Lines.{tab}
 use Rattle.calls_answers.proofs.SiteLaws.{laid-as, many-within, bad-count, bad-weight, called-clusters}
 use Rattle.calls_answers.proofs.family_sites.clusters.Statement.{statement}
 use Rattle.calls_answers.proofs.family_sites.clusters.Tie as tie

@@ -8,7 +8,7 @@ use Rattle.text_reading.specs.Fields.{upTo, fieldsFrom}
 use Rattle.text_reading.specs.Texts.{bytesOf}
 use Rattle.text_reading.proofs.FieldLaws.{fields-head, fields-rest}
 use Rattle.calls_writing.specs.Unreadable.{unreadableText}
-use Rattle.calls_answers.specs.Lines.{tab}
+use Rattle.calls_lines.specs.Lines.{tab}
 use Rattle.calls_answers.specs.Numbers.{shortWholeOf}
 use Rattle.calls_answers.specs.Answers.{fieldAt, clustersText}
 use Rattle.calls_answers.proofs.SiteLaws.{laid-as, no-clusters, some-clusters, few-clusters-read}

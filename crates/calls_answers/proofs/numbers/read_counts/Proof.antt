@@ -6,7 +6,7 @@ use borrow.Author.Needs.{needs}
 use lib.ListN.{drop}
 use Rattle.text_reading.specs.Fields.{upTo}
 use Rattle.calls_answers.specs.Numbers.{isCount, countValue, countOf}
-use Rattle.calls_answers.specs.Lines.{tab}
+use Rattle.calls_lines.specs.Lines.{tab}
 use Rattle.calls_answers.proofs.NumberLaws.{count-passes, count-stops}
 use Rattle.calls_answers.proofs.ReadingLaws.{SoFar, so-far-none, so-far-more, run-ended, run-full, run-stopped}
 use Rattle.calls_answers.proofs.numbers.read_counts.Statement.{statement}

@@ -7,7 +7,7 @@ use lib.ListN.{drop}
 use Rattle.text_reading.specs.Fields.{upTo}
 use Rattle.text_reading.specs.Decimals.{decimalOf}
 use Rattle.calls_answers.specs.Numbers.{isWeight, weightValue}
-use Rattle.calls_answers.specs.Lines.{tab}
+use Rattle.calls_lines.specs.Lines.{tab}
 use Rattle.calls_answers.proofs.NumberLaws.{weight-passes, weight-stops}
 use Rattle.calls_answers.proofs.ReadingLaws.{SoFar, so-far-none, so-far-more, run-ended, run-full, run-stopped}
 use Rattle.calls_answers.proofs.numbers.read_weights.Statement.{statement}

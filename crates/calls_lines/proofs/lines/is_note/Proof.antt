@@ -1,9 +1,9 @@
--- `calls_answers::lines::is_note` meets its contract: each return is one case of the definition. Assumes nothing.
+-- `calls_lines::lines::is_note` meets its contract: each return is one case of the definition. Assumes nothing.
 use mathlib.Core.Path.{_∙_}
 use borrow.Author.Needs.{needs}
-use Rattle.calls_answers.proofs.LineLaws.{note-long, note-empty, note-hashed, note-blank}
-use Rattle.calls_answers.proofs.lines.is_note.Statement.{statement}
-use Rattle.calls_answers.proofs.lines.is_note.Tie as tie
+use Rattle.calls_lines.proofs.LineLaws.{note-long, note-empty, note-hashed, note-blank}
+use Rattle.calls_lines.proofs.lines.is_note.Statement.{statement}
+use Rattle.calls_lines.proofs.lines.is_note.Tie as tie
 
 returns : tie.Need-returns
 returns c = note-long (c .before .before .args .line .now) (search needs)

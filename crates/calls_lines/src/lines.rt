@@ -1,7 +1,7 @@
 // A line: what belongs to its newline, and which lines are notes (docs/RULES.md, A9).
 ghost use mathlib.Core.Path.{_≡_};
 ghost use lib.ListN.{length};
-ghost use Rattle.calls_answers.specs.Lines.{tab, body, isNote, blank, isSpace};
+ghost use Rattle.calls_lines.specs.Lines.{tab, body, isNote, blank, isSpace};
 ghost use Rattle.text_reading.specs.Fields.{fieldsOf};
 use text_reading::fields::next_field;
 

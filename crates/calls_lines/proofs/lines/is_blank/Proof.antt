@@ -1,13 +1,13 @@
--- `calls_answers::lines::is_blank` meets its contract. The loop's invariant: what is left of the line decides. Assumes nothing.
+-- `calls_lines::lines::is_blank` meets its contract. The loop's invariant: what is left of the line decides. Assumes nothing.
 use mathlib.Core.Path.{_≡_, sym, _∙_}
 use Prim.Native.Nat.{_≤_, _-_}
 use lib.ListN.{length, drop}
 use borrow.Author.Tests.{not-true, not-false}
 use borrow.Author.Needs.{needs}
 use Rattle.lists.proofs.EveryLaws.{every-more, every-bad, every-end}
-use Rattle.calls_answers.specs.Lines.{isSpace, blank}
-use Rattle.calls_answers.proofs.lines.is_blank.Statement.{statement}
-use Rattle.calls_answers.proofs.lines.is_blank.Tie as tie
+use Rattle.calls_lines.specs.Lines.{isSpace, blank}
+use Rattle.calls_lines.proofs.lines.is_blank.Statement.{statement}
+use Rattle.calls_lines.proofs.lines.is_blank.Tie as tie
 
 abbrev Inv-loop : tie.InvT-loop
 Inv-loop line i₀ i = (i ≤ length line) × (blank (drop i line) ≡ blank line)

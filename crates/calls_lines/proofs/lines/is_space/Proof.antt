@@ -1,7 +1,7 @@
--- `calls_answers::lines::is_space` meets its contract. Assumes nothing.
+-- `calls_lines::lines::is_space` meets its contract. Assumes nothing.
 use borrow.Author.Tests.{eq-eqb, ne-eqb}
-use Rattle.calls_answers.proofs.lines.is_space.Statement.{statement}
-use Rattle.calls_answers.proofs.lines.is_space.Tie as tie
+use Rattle.calls_lines.proofs.lines.is_space.Statement.{statement}
+use Rattle.calls_lines.proofs.lines.is_space.Tie as tie
 
 returns : tie.Need-returns
 returns c = rw (eq-eqb _ _ (c .if1 .taken))

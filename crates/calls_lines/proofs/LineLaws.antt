@@ -7,7 +7,7 @@ use native.Mathlib.Omega.{arith}
 use borrow.Author.Tests.{eq-eqb, ne-eqb, le-leb, lt-leb}
 use lib.Dec.{eqb}
 use lib.ListN.{length, getD, take}
-use Rattle.calls_answers.specs.Lines.{carriageReturn, hash, body, blank, isNote}
+use Rattle.calls_lines.specs.Lines.{carriageReturn, hash, body, blank, isNote}
 
 -- the last byte, at place i
 pub body-kept : (l : List ℕ) (i d : ℕ) → length l ≡ suc i → (getD l i d ≡ carriageReturn → ⊥) → body l ≡ l

@@ -1,12 +1,12 @@
--- `calls_answers::lines::body_end` meets its contract: by the last byte. Assumes nothing.
+-- `calls_lines::lines::body_end` meets its contract: by the last byte. Assumes nothing.
 use mathlib.Core.Path.{_≡_, sym, ap}
 use Prim.Native.Nat.{ℕ, suc, _-_, _≤_}
 use native.Mathlib.Omega.{arith}
 use borrow.Author.Needs.{needs}
 use lib.ListN.{length}
-use Rattle.calls_answers.proofs.LineLaws.{body-kept, body-cut, body-empty}
-use Rattle.calls_answers.proofs.lines.body_end.Statement.{statement}
-use Rattle.calls_answers.proofs.lines.body_end.Tie as tie
+use Rattle.calls_lines.proofs.LineLaws.{body-kept, body-cut, body-empty}
+use Rattle.calls_lines.proofs.lines.body_end.Statement.{statement}
+use Rattle.calls_lines.proofs.lines.body_end.Tie as tie
 
 returns : tie.Need-returns
 returns c = body-empty (c .before .args .line .now) (search needs)
