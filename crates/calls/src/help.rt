@@ -18,7 +18,9 @@ fn sites() {
 
 fn answers() {
     line(b"An answer has kind, site, refusal and its name, and behind 0 done");
-    line(b"  trio      pairs of calf, sire, dam; ground; quality; not read; score; lead; runner-up");
+    line(
+        b"  trio      pairs of calf, sire, dam; ground; quality; not read; score; lead; runner-up",
+    );
     line(b"  diploid   state; gq; sq");
     line(b"  mosaic    germline pair; somatic alleles with VAFs; quality");
     line(b"or ?, the site, the number of the field that cannot be read, and what was expected.");

@@ -52,7 +52,13 @@ fn tallied(told: bool, tally: Tally, text: &[u8], start: usize, end: usize) -> T
 }
 
 // Answers a line that has ended.
-fn answered(settings: Settings, told: bool, line: &[u8], text: &mut [u8], carried: Carried) -> Carried {
+fn answered(
+    settings: Settings,
+    told: bool,
+    line: &[u8],
+    text: &mut [u8],
+    carried: Carried,
+) -> Carried {
     let waiting = carried.waiting;
     let before = carried.tally;
     let start = waiting.count;
@@ -98,7 +104,13 @@ pub fn feed(
 }
 
 // The input has ended: a last line without its newline is answered too.
-pub fn end(settings: Settings, told: bool, line: &[u8], text: &mut [u8], carried: Carried) -> Tally {
+pub fn end(
+    settings: Settings,
+    told: bool,
+    line: &[u8],
+    text: &mut [u8],
+    carried: Carried,
+) -> Tally {
     if is_unended(carried.count) {
         let last = answered(settings, told, line, text, carried);
         let waiting = last.waiting;

@@ -8,11 +8,7 @@ use text_writing::laying::lay_whole;
 
 // A time that is not before 1970.
 fn since(seconds: i64) -> u64 {
-    if seconds < 0 {
-        0
-    } else {
-        seconds as u64
-    }
+    if seconds < 0 { 0 } else { seconds as u64 }
 }
 
 // The seconds since 1970.

@@ -84,8 +84,14 @@ module _ (n : ℕ) (counts : List ℕ) where
           let third : z ≡ getD dam c 0 = ez ∙ sym (getD-drop (2 * n) counts c 0) ∙ sym (getD-take n (drop (2 * n) counts) c 0 h) in
           let rest = interleaved (drop (c + 1) calf) (drop (c + 1) sire) (drop (c + 1) dam) in
           let next : interleaved (drop c calf) (drop c sire) (drop c dam) ≡ x ∷ y ∷ z ∷ rest =
-          rw (drop-next calf c 0 (below (length calf) calf-many), drop-next sire c 0 (below (length sire) sire-many),
-          drop-next dam c 0 (below (length dam) dam-many), first, second, third) in
+          rw (
+            drop-next calf c 0 (below (length calf) calf-many),
+            drop-next sire c 0 (below (length sire) sire-many),
+            drop-next dam c 0 (below (length dam) dam-many),
+            first,
+            second,
+            third,
+          ) in
           record {
             upto = omega arith;
             places =

@@ -8,9 +8,9 @@ ghost use Rattle.calls_answers.specs.Reading.{LaidAt, allelesCalled};
 ghost use Rattle.calls_answers.specs.Answers.{threeCountsText, allelesText};
 ghost use Rattle.diploid.specs.Genotype.{genotypeOf};
 ghost use lib.ListN.{take, getD};
+use crate::numbers::read_counts;
 use calls_lines::lines::MOST_FIELDS;
 use calls_lines::lines::TAB;
-use crate::numbers::read_counts;
 use calls_settings::settings::Settings;
 use calls_writing::diploid_site::lay_diploid;
 use calls_writing::mosaic_site::lay_mosaic;
@@ -42,7 +42,13 @@ pub fn diploid(settings: Settings, line: &[u8], site: usize, text: &mut [u8], at
     let start = next_field(line, site, TAB);
     let c = read_counts(line, start, 3, &mut counts);
     if c.many < 3 {
-        return lay_unreadable(text, at, field(line, site, TAB), 3 + c.many as u64, b"a count");
+        return lay_unreadable(
+            text,
+            at,
+            field(line, site, TAB),
+            3 + c.many as u64,
+            b"a count",
+        );
     }
     if c.next <= line.len() {
         return lay_unreadable(text, at, field(line, site, TAB), 6, b"the end of the line");
@@ -71,7 +77,13 @@ pub fn mosaic(settings: Settings, line: &[u8], site: usize, text: &mut [u8], at:
     let start = next_field(line, site, TAB);
     let c = read_counts(line, start, MOST_FIELDS, &mut counts);
     if c.next <= line.len() {
-        return lay_unreadable(text, at, field(line, site, TAB), 3 + c.many as u64, b"a count");
+        return lay_unreadable(
+            text,
+            at,
+            field(line, site, TAB),
+            3 + c.many as u64,
+            b"a count",
+        );
     }
     let r = called(params, c.many, counts);
     lay_mosaic(text, at, field(line, 0, TAB), field(line, site, TAB), r)

@@ -44,7 +44,13 @@ fn of_kind(
         Kind::Family2 => family(line, site, true, 2, text, at),
         Kind::Diploid => diploid(settings, line, site, text, at),
         Kind::Mosaic => mosaic(settings, line, site, text, at),
-        Kind::Unknown => lay_unreadable(text, at, field(line, site, TAB), 1, b"trio, trio2, family, family2, diploid or mosaic"),
+        Kind::Unknown => lay_unreadable(
+            text,
+            at,
+            field(line, site, TAB),
+            1,
+            b"trio, trio2, family, family2, diploid or mosaic",
+        ),
     }
 }
 
@@ -85,7 +91,13 @@ fn too_long(line: &[u8], text: &mut [u8], at: usize) -> usize
     let many = field_count(seen);
     if many > 2 {
         let site = next_field(seen, 0, TAB);
-        return lay_unreadable(text, at, field(seen, site, TAB), many as u64, b"a shorter line");
+        return lay_unreadable(
+            text,
+            at,
+            field(seen, site, TAB),
+            many as u64,
+            b"a shorter line",
+        );
     }
     lay_unreadable(text, at, &seen[..0], many as u64, b"a shorter line")
 }

@@ -7,11 +7,11 @@ ghost use Rattle.calls_lines.specs.Lines.{tab};
 ghost use Rattle.calls_answers.specs.Reading.{LaidAt};
 ghost use Rattle.calls_answers.specs.Answers.{clustersText, familyText};
 use crate::families::call_from;
-use calls_lines::lines::MOST_FIELDS;
-use calls_lines::lines::TAB;
 use crate::numbers::read_counts;
 use crate::numbers::read_weights;
 use crate::numbers::short_whole;
+use calls_lines::lines::MOST_FIELDS;
+use calls_lines::lines::TAB;
 use calls_writing::trio_site::lay_trio;
 use calls_writing::unreadable::lay_unreadable;
 use text_reading::fields::field;
@@ -38,7 +38,13 @@ fn clusters(
     let wanted = 3 * n as usize;
     let c = read_counts(line, start, wanted, &mut counts);
     if c.many < wanted && c.next <= line.len() {
-        return lay_unreadable(text, at, field(line, site, TAB), 4 + c.many as u64, b"a count");
+        return lay_unreadable(
+            text,
+            at,
+            field(line, site, TAB),
+            4 + c.many as u64,
+            b"a count",
+        );
     }
     let w = read_weights(line, c.next, MOST_FIELDS, &mut weights);
     if w.next <= line.len() {
@@ -46,7 +52,14 @@ fn clusters(
         return lay_unreadable(text, at, field(line, site, TAB), number, b"a weight");
     }
     let closed = call_from(by_animal, rule, n, c.many, w.many, counts, weights);
-    lay_trio(text, at, field(line, 0, TAB), field(line, site, TAB), n, closed)
+    lay_trio(
+        text,
+        at,
+        field(line, 0, TAB),
+        field(line, site, TAB),
+        n,
+        closed,
+    )
 }
 
 // The answer to a site of a kind that starts at a place.

@@ -142,6 +142,11 @@ use Rattle.text_writing.proofs.laying.lay_whole.Reads as lay-whole
 use Rattle.text_writing.proofs.laying.lay_signed.Reads as lay-signed
 use Rattle.text_writing.proofs.hexadecimals.lay_hexadecimal.Reads as lay-hexadecimal
 use Rattle.text_writing.proofs.hexadecimals.lay_bits.Reads as lay-bits
+use Rattle.text_reading.proofs.texts.is_text.Reads as is-text
+use Rattle.calls_lines.proofs.lines.body_end.Reads as body-end
+use Rattle.calls_lines.proofs.lines.is_note.Reads as is-note
+use Rattle.calls_lines.proofs.lines.field_count.Reads as field-count
+use Rattle.calls_answers.proofs.answers.answer.Reads as answer-line
 use Rattle.calls_writing.proofs.unreadable.lay_unreadable.Reads as lay-unreadable
 use Rattle.calls_writing.proofs.trio_site.lay_trio.Reads as lay-trio
 use Rattle.calls_writing.proofs.diploid_site.lay_diploid.Reads as lay-diploid
@@ -760,6 +765,25 @@ lay-figure-once κ a v w e f p q = only (p .0) (q .0)
 
 pub lay-figure-ends : (κ : _) (a : _) (v w : _) (e f : _) → lay-figure.Post κ a v e → lay-figure.Post κ a w f → e .0 .now ≡ f .0 .now
 lay-figure-ends κ a v w e f p q = only (p .1) (q .1)
+
+pub is-text-once : OneAnswer is-text.Post
+is-text-once κ a v w e f = only
+
+pub body-end-once : OneAnswer body-end.Post
+body-end-once κ a v w e f = only
+
+pub is-note-once : OneAnswer is-note.Post
+is-note-once κ a v w e f = only
+
+pub field-count-once : OneAnswer field-count.Post
+field-count-once κ a v w e f = only
+
+pub answer-line-once : OneAnswer answer-line.Post
+answer-line-once κ a v w e f p q = only (p .0) (q .0)
+
+pub answer-line-ends : (κ : _) (a : _) (v w : _) (e f : _)
+    → answer-line.Post κ a v e → answer-line.Post κ a w f → e .0 .now ≡ f .0 .now
+answer-line-ends κ a v w e f p q = only (p .1) (q .1)
 
 pub lay-unreadable-once : OneAnswer lay-unreadable.Post
 lay-unreadable-once κ a v w e f p q = only (p .0) (q .0)
