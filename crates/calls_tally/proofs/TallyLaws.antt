@@ -16,7 +16,7 @@ use Rattle.calls_tally.specs.declared.classes.Class.{Class}
 use Rattle.calls_tally.specs.declared.classes.Class.the-variants.{Note, Unreadable, Refused, Won, Tied, Inferred, Unread, Other}
 use Rattle.calls_tally.specs.declared.tally.Tally.{Tally}
 use Rattle.calls_tally.specs.Classes.{tab, noteByte, startsNote, groundClass, fieldAt, classOf, classNumber}
-use Rattle.calls_tally.specs.Tallies.{noTally, grown, countedOf, callsText, tallyText}
+use Rattle.calls_tally.specs.Tallies.{noTally, more, grown, grownSites, countedOf, callsText, tallyText}
 
 pub starts-empty : (l : List ℕ) → length l ≡ 0 → true ≡ startsNote l
 starts-empty [] h = refl
@@ -50,20 +50,15 @@ module _ (class of : Class) (n x y : ℕ) (is-class : x ≡ classNumber class) (
   pub grown-not : (x ≡ y → ⊥) → n ≡ grown class of n
   grown-not h = rw (ne-eqb (classNumber class) (classNumber of) (λ e. h (is-class ∙ e ∙ sym is-of)))
 
-  same-class : x ≡ y → classNumber class ≡ classNumber of
-  same-class h = sym is-class ∙ h ∙ is-of
+  pub grown-more : x ≡ y → more n ≡ grown class of n
+  grown-more h = rw (eq-eqb (classNumber class) (classNumber of) (sym is-class ∙ h ∙ is-of))
 
-  pub grown-full : x ≡ y → n ≡ 2 ^ 64 - 1 → n ≡ grown class of n
-  grown-full h e = rw (eq-eqb (classNumber class) (classNumber of) (same-class h)) (full n e)
-    where
-      full : (n : ℕ) → n ≡ 2 ^ 64 - 1 → n ≡ min (suc n) (2 ^ 64 - 1)
-      full n e = omega arith
+module _ (class : Class) (n x y : ℕ) (is-class : x ≡ classNumber class) (is-note : y ≡ classNumber Note) where
+  pub note-not : x ≡ y → n ≡ grownSites class n
+  note-not h = rw (eq-eqb (classNumber class) (classNumber Note) (sym is-class ∙ h ∙ is-note))
 
-  pub grown-more : x ≡ y → (n ≡ 2 ^ 64 - 1 → ⊥) → n < 2 ^ 64 → n + 1 ≡ grown class of n
-  grown-more h e f = rw (eq-eqb (classNumber class) (classNumber of) (same-class h)) (room n e f)
-    where
-      room : (n : ℕ) → (n ≡ 2 ^ 64 - 1 → ⊥) → n < 2 ^ 64 → n + 1 ≡ min (suc n) (2 ^ 64 - 1)
-      room n e f = omega arith
+  pub site-more : (x ≡ y → ⊥) → more n ≡ grownSites class n
+  site-more h = rw (ne-eqb (classNumber class) (classNumber Note) (λ e. h (is-class ∙ e ∙ sym is-note)))
 
 -- ---- what a tally says
 
@@ -77,6 +72,7 @@ unfolding countedOf
 one-more t answer h = go (classOf answer)
   where
     go : (k : Class) → answersOf (record {
+      sites = grownSites k (t .sites);
       notes = grown k Note (t .notes);
       unreadable = grown k Unreadable (t .unreadable);
       refused = grown k Refused (t .refused);
@@ -86,6 +82,36 @@ one-more t answer h = go (classOf answer)
       unread = grown k Unread (t .unread);
       others = grown k Other (t .others);
     }) ≡ answersOf t + 1
+    go Note = omega arith
+    go Unreadable = omega arith
+    go Refused = omega arith
+    go Won = omega arith
+    go Tied = omega arith
+    go Inferred = omega arith
+    go Unread = omega arith
+    go Other = omega arith
+
+-- all its counts but that of notes
+abbrev pub sitesOf : Tally → ℕ
+sitesOf t = t .unreadable + t .refused + t .won + t .tied + t .inferred + t .unread + t .others
+
+-- the number of sites stays what the other counts come to
+pub sites-kept : (t : Tally) (answer : List ℕ) → t .sites < 2 ^ 64 - 1 → t .sites ≡ sitesOf t
+    → countedOf t answer .sites ≡ sitesOf (countedOf t answer)
+unfolding countedOf
+sites-kept t answer h e = go (classOf answer)
+  where
+    go : (k : Class) → grownSites k (t .sites) ≡ sitesOf (record {
+      sites = grownSites k (t .sites);
+      notes = grown k Note (t .notes);
+      unreadable = grown k Unreadable (t .unreadable);
+      refused = grown k Refused (t .refused);
+      won = grown k Won (t .won);
+      tied = grown k Tied (t .tied);
+      inferred = grown k Inferred (t .inferred);
+      unread = grown k Unread (t .unread);
+      others = grown k Other (t .others);
+    })
     go Note = omega arith
     go Unreadable = omega arith
     go Refused = omega arith
@@ -118,6 +144,6 @@ unfolding classOf
 note-counted = refl
 
 pub nothing-counted : tallyText noTally
-    ≡ bytesOf "calls: Won 0, Tied 0, Inferred 0, Unread 0, other 0\nno calls: refused 0, unreadable 0, notes 0\n"
+    ≡ bytesOf "sites 0; calls: Won 0, Tied 0, Inferred 0, Unread 0, other 0\nno calls: refused 0, unreadable 0, notes 0\n"
 unfolding tallyText callsText wholeText
 nothing-counted = refl

@@ -13,7 +13,7 @@ use Rattle.calls_tally.specs.Classes.{classOf, classNumber}
 
 -- before the first answer
 abbrev pub noTally : Tally
-noTally = record { notes = 0; unreadable = 0; refused = 0; won = 0; tied = 0; inferred = 0; unread = 0; others = 0 }
+noTally = record { sites = 0; notes = 0; unreadable = 0; refused = 0; won = 0; tied = 0; inferred = 0; unread = 0; others = 0 }
 
 -- one more, up to the largest u64
 abbrev pub more : ℕ → ℕ
@@ -23,11 +23,16 @@ more n = min (suc n) (2 ^ 64 - 1)
 abbrev pub grown : Class → Class → ℕ → ℕ
 grown class of n = cond (eqb (classNumber class) (classNumber of)) (more n) n
 
+-- the count of sites, behind an answer of a class: every answer but a note is that of a site
+abbrev pub grownSites : Class → ℕ → ℕ
+grownSites class n = cond (eqb (classNumber class) (classNumber Note)) n (more n)
+
 -- the tally with one answer more
 unfoldable pub countedOf : Tally → List ℕ → Tally
 countedOf t answer =
     let c = classOf answer in
     record {
+      sites = grownSites c (t .sites);
       notes = grown c Note (t .notes);
       unreadable = grown c Unreadable (t .unreadable);
       refused = grown c Refused (t .refused);
@@ -38,7 +43,7 @@ countedOf t answer =
       others = grown c Other (t .others);
     }
 
--- the tally as a text of two lines: the calls, and what is no call
+-- the tally as a text of two lines: the sites and the calls, and what is no call
 abbrev pub counted : text.String → ℕ → List ℕ
 counted name n = bytesOf name ++ wholeText n
 
@@ -47,10 +52,10 @@ newline = 10 ∷ []
 
 unfoldable pub callsText : Tally → List ℕ
 callsText t =
-    counted "calls: Won " (t .won) ++ counted ", Tied " (t .tied) ++ counted ", Inferred " (t .inferred)
+    counted "; calls: Won " (t .won) ++ counted ", Tied " (t .tied) ++ counted ", Inferred " (t .inferred)
     ++ counted ", Unread " (t .unread) ++ counted ", other " (t .others) ++ newline
 
 unfoldable pub tallyText : Tally → List ℕ
 tallyText t =
-    callsText t ++ counted "no calls: refused " (t .refused) ++ counted ", unreadable " (t .unreadable)
-    ++ counted ", notes " (t .notes) ++ newline
+    counted "sites " (t .sites) ++ callsText t ++ counted "no calls: refused " (t .refused)
+    ++ counted ", unreadable " (t .unreadable) ++ counted ", notes " (t .notes) ++ newline

@@ -1,12 +1,13 @@
 // How many answers of each class there were.
 ghost use mathlib.Core.Path.{_≡_};
 ghost use Rattle.calls_tally.specs.Classes.{classNumber};
-ghost use Rattle.calls_tally.specs.Tallies.{noTally, grown, countedOf};
+ghost use Rattle.calls_tally.specs.Tallies.{noTally, more, grown, grownSites, countedOf};
 use crate::classes::Class;
 use crate::classes::class_of;
 
-// Calls of trios stand under their ground; `others` are diploid and mosaic calls.
+// Every answer that is no note is that of a site. Calls of trios stand under their ground; `others` are diploid and mosaic calls.
 pub struct Tally {
+    pub sites: u64,
     pub notes: u64,
     pub unreadable: u64,
     pub refused: u64,
@@ -21,6 +22,7 @@ pub fn no_tally() -> Tally
     ensures { λ r. ⌜ r ≡ noTally ⌝ }
 {
     Tally {
+        sites: 0,
         notes: 0,
         unreadable: 0,
         refused: 0,
@@ -47,17 +49,34 @@ fn class_number(class: Class) -> u64
     }
 }
 
-// One more where the answer is of a count's class; a count that is full stays.
+// One more; a count that is full stays.
+fn one_more(count: u64) -> u64
+    ensures { λ r. ⌜ r ≡ more count ⌝ }
+{
+    if count == u64::MAX {
+        return count;
+    }
+    count + 1
+}
+
+// One more where the answer is of a count's class.
 fn grown_if(class: Class, of: Class, count: u64) -> u64
     ensures { λ r. ⌜ r ≡ grown class of count ⌝ }
 {
     if class_number(class) != class_number(of) {
         return count;
     }
-    if count == u64::MAX {
+    one_more(count)
+}
+
+// One more where the answer is no note.
+fn grown_sites(class: Class, count: u64) -> u64
+    ensures { λ r. ⌜ r ≡ grownSites class count ⌝ }
+{
+    if class_number(class) == class_number(Class::Note) {
         return count;
     }
-    count + 1
+    one_more(count)
 }
 
 // The tally with one answer more.
@@ -66,6 +85,7 @@ pub fn counted(t: Tally, answer: &[u8]) -> Tally
 {
     let class = class_of(answer);
     Tally {
+        sites: grown_sites(class, t.sites),
         notes: grown_if(class, Class::Note, t.notes),
         unreadable: grown_if(class, Class::Unreadable, t.unreadable),
         refused: grown_if(class, Class::Refused, t.refused),

@@ -22,7 +22,7 @@ fn lay_calls(text: &mut [u8], at: usize, t: Tally) -> usize
     ensures { λ r. ⌜ (r ≡ laidEnd (length (now (text .entry))) at (length (callsText t)))
         × (now (text .exit) ≡ laid (now (text .entry)) at (callsText t)) ⌝ }
 {
-    let won = lay_count(text, at, b"calls: Won ", t.won);
+    let won = lay_count(text, at, b"; calls: Won ", t.won);
     let tied = lay_count(text, won, b", Tied ", t.tied);
     let inferred = lay_count(text, tied, b", Inferred ", t.inferred);
     let unread = lay_count(text, inferred, b", Unread ", t.unread);
@@ -30,12 +30,13 @@ fn lay_calls(text: &mut [u8], at: usize, t: Tally) -> usize
     lay(text, others, b"\n")
 }
 
-// The calls, and what is no call.
+// The sites and the calls, and what is no call.
 pub fn lay_tally(text: &mut [u8], at: usize, t: Tally) -> usize
     ensures { λ r. ⌜ (r ≡ laidEnd (length (now (text .entry))) at (length (tallyText t)))
         × (now (text .exit) ≡ laid (now (text .entry)) at (tallyText t)) ⌝ }
 {
-    let calls = lay_calls(text, at, t);
+    let sites = lay_count(text, at, b"sites ", t.sites);
+    let calls = lay_calls(text, sites, t);
     let refused = lay_count(text, calls, b"no calls: refused ", t.refused);
     let unreadable = lay_count(text, refused, b", unreadable ", t.unreadable);
     let notes = lay_count(text, unreadable, b", notes ", t.notes);

@@ -7,6 +7,9 @@ use Rattle.calls_tally.proofs.tally.counted.Tie as tie
 class-of-requires : tie.Need-class-of-requires
 class-of-requires c κs = search needs
 
+grown-sites-requires : tie.Need-grown-sites-requires
+grown-sites-requires c κs = search needs
+
 grown-if-requires : tie.Need-grown-if-requires
 grown-if-requires c κs = search needs
 
@@ -50,7 +53,8 @@ returns c =
       refused .grown-if3 .ensures,
       unreadable .grown-if2 .ensures,
       notes .grown-if .ensures,
-      notes .before .class-of .ensures,
+      notes .before .grown-sites .ensures,
+      notes .before .before .class-of .ensures,
     )
 
 pub counted-spec : {M : Type 1} → statement M
@@ -58,6 +62,7 @@ counted-spec =
     tie.close
     (tie.spec
     class-of-requires
+    grown-sites-requires
     grown-if-requires
     grown-if-requires-2
     grown-if-requires-3

@@ -1,6 +1,7 @@
 -- `calls_tally::tally::grown_if` meets its contract: each return is one case of the definition. Assumes nothing.
+use mathlib.Core.Path.{_∙_}
 use borrow.Author.Needs.{needs}
-use Rattle.calls_tally.proofs.TallyLaws.{grown-not, grown-full, grown-more}
+use Rattle.calls_tally.proofs.TallyLaws.{grown-not, grown-more}
 use Rattle.calls_tally.proofs.tally.grown_if.Statement.{statement}
 use Rattle.calls_tally.proofs.tally.grown_if.Tie as tie
 
@@ -18,25 +19,18 @@ returns c =
     grown-not (a .class) (a .of) (a .count) (class .class-number .result) (of .class-number2 .result) (class .class-number .ensures)
     (of .class-number2 .ensures) (c .if1 .taken)
 
+one-more-requires : tie.Need-one-more-requires
+one-more-requires c κs = search needs
+
 returns-2 : tie.Need-returns-2
 returns-2 c =
     let of = c .before .before in
     let class = of .before in
     let a = class .before .args in
-    grown-full (a .class) (a .of) (a .count) (class .class-number .result) (of .class-number2 .result) (class .class-number .ensures)
-    (of .class-number2 .ensures) (c .before .if1 .left) (c .if2 .taken)
-
-add-result : tie.Need-add-result
-add-result c = search needs
-
-returns-3 : tie.Need-returns-3
-returns-3 c =
-    let of = c .before .before in
-    let class = of .before in
-    let a = class .before .args in
-    grown-more (a .class) (a .of) (a .count) (class .class-number .result) (of .class-number2 .result) (class .class-number .ensures)
-    (of .class-number2 .ensures) (c .before .if1 .left) (c .if2 .left) (class .before .fits .count .fits)
+    c .one-more .ensures
+    ∙ grown-more (a .class) (a .of) (a .count) (class .class-number .result) (of .class-number2 .result) (class .class-number .ensures)
+    (of .class-number2 .ensures) (c .before .if1 .left)
 
 pub grown-if-spec : {M : Type 1} → statement M
 grown-if-spec =
-    tie.close (tie.spec class-number-requires class-number-requires-2 returns returns-2 add-result returns-3)
+    tie.close (tie.spec class-number-requires class-number-requires-2 returns one-more-requires returns-2)

@@ -55,7 +55,7 @@ returns c =
     let won = tied .before .before .before .before .before in
     let a = won .before .before .before .before .args in
     let t = a .t in
-    let first : Laid (a .text .now) (a .at) (counted "calls: Won " (t .won)) (won .lay-count .result) (won .lay-count .last .0) =
+    let first : Laid (a .text .now) (a .at) (counted "; calls: Won " (t .won)) (won .lay-count .result) (won .lay-count .last .0) =
     record { ends = won .lay-count .ensures .0; gives = won .lay-count .ensures .1 } in
     let second = behind-it (counted ", Tied " (t .tied)) first (tied .lay-count2 .ensures .0) (tied .lay-count2 .ensures .1) in
     let of-inferred = inferred .lay-count3 .ensures in
