@@ -17,7 +17,7 @@ fn run(settings: Settings) {
     let mut text = io::large_buffer();
     let told = libc::isatty(STDERR_FILENO) == 1;
     let mut carried = lines::nothing_carried();
-    let mut shown: u64 = 0;
+    let mut shown = reports::now();
     let mut turns = u64::MAX;
     let mut more = true;
     while turns > 0 && more {

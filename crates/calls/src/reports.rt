@@ -12,7 +12,7 @@ fn since(seconds: i64) -> u64 {
 }
 
 // The seconds since 1970.
-fn now() -> u64 {
+pub fn now() -> u64 {
     let mut seconds: i64 = 0;
     libc::time(&mut seconds);
     since(seconds)
@@ -33,7 +33,7 @@ pub fn progress(told: bool, tally: Tally, shown: u64) -> u64 {
     }
     let mut text = [0u8; 64];
     let named = lay(&mut text, 0, b"\rsites ");
-    let end = lay_whole(&mut text, named, tally.won);
+    let end = lay_whole(&mut text, named, tally.sites);
     io::write_all(STDERR_FILENO, first_bytes(&text, end));
     seconds
 }

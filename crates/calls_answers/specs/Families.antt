@@ -43,7 +43,7 @@ unfoldable pub shaped : ℕ → ℕ → ℕ → Bool
 shaped n counts weights = leb n 8 && (eqb counts (3 * n) && (eqb weights 0 || eqb weights n))
 
 -- A10: the call of so many counts and weights out of as many places as eight clusters take. It is `callIn` of the fields that they were
--- read from: `call-read` (proofs/FamilyLaws.antt)
+-- read from: `call-read` (proofs/CallLaws.antt)
 unfoldable pub calledFrom : Bool → ℕ → ℕ → ℕ → ℕ → List ℕ → List Float → Closed
 calledFrom animals rule n many weighed counts weights =
     cond (shaped n many weighed) (callOf n (ordered animals n (take (3 * n) counts)) (take n weights) rule) (callOf n [] [] rule)

@@ -1,4 +1,4 @@
--- The arguments: their names, and the settings behind each. Definitions only (CALLS.md, Arguments).
+-- The arguments: their names, and the settings behind each. Definitions only (RULES.md, A16).
 use Prim.Native.Nat.{ℕ}
 use mathlib.Core.Bool.{cond}
 use mathlib.Core.List.{List, [], _∷_}
@@ -25,7 +25,7 @@ use Rattle.calls_settings.specs.Settings.{nowSet, asBefore, withMode, wi
 use Rattle.calls_settings.specs.Settings.{withAlpha, withBeta, withHighest, withDepth}
 use Rattle.calls_settings.specs.Values.{comma, modeOf, threeOf, arePairs, membersIn}
 
--- an argument by its name: those of the mosaic calls, and all of them, those of the diploid calls first
+-- A16: an argument by its name: those of the mosaic calls, and all of them, those of the diploid calls first
 unfoldable pub mosaicArgument : List ℕ → Argument
 mosaicArgument l =
     cond (reads l "--alpha") argument.Alpha
@@ -43,7 +43,7 @@ argumentOf l =
     (cond (reads l "--table") argument.Table
     (mosaicArgument l)))))
 
--- a value that can be read is set, and any other changes nothing: of a mode, three decimals, one decimal, a whole number, a table
+-- A16: a value that can be read is set, and any other changes nothing: of a mode, three decimals, one decimal, a whole number, a table
 abbrev pub setMode : Settings → Chosen → Given
 setMode s (chosen.Is m) = nowSet (withMode s m)
 setMode s chosen.Unreadable = asBefore s
@@ -63,7 +63,7 @@ setWhole set s whole.Unreadable = asBefore s
 unfoldable pub setTable : Settings → List ℕ → Given
 setTable s v = cond (arePairs (fieldsOf comma v)) (nowSet (withTable s (membersIn (fieldsOf comma v)))) (asBefore s)
 
--- the settings behind an argument with a value
+-- A16: the settings behind an argument with a value
 abbrev pub givenAs : Argument → Settings → List ℕ → Given
 givenAs argument.Mode s v = setMode s (modeOf v)
 givenAs argument.Fractions s v = setThree (withFractions s) s (threeOf v)
@@ -76,13 +76,13 @@ givenAs argument.HighestVaf s v = setOne (withHighest s) s (decimalOf v)
 givenAs argument.Depth s v = setWhole (withDepth s) s (wholeUpTo 4294967295 v)
 givenAs argument.Unknown s v = asBefore s
 
--- the settings behind the argument of a name
+-- A16: the settings behind the argument of a name
 unfoldable pub givenOf : Settings → List ℕ → List ℕ → Given
 givenOf s name v = givenAs (argumentOf name) s v
 
 -- ---- for the laws
 
--- the parameters of a run, in the order of their arguments, and the place of each; an unknown argument has none
+-- A16: the parameters of a run, in the order of their arguments, and the place of each; an unknown argument has none
 pub data Parameter : Type 0 where
   aMode : Mode → Parameter
   floats : List Float → Parameter

@@ -1,4 +1,4 @@
--- The models of a run, and one of their parameters set. Definitions only (CALLS.md, Arguments).
+-- The models of a run, and one of their parameters set. Definitions only (RULES.md, A16).
 use Prim.Native.Nat.{ℕ}
 use mathlib.Core.Bool.{true, false}
 use mathlib.Core.List.{List, []}
@@ -14,18 +14,18 @@ use Rattle.mosaic_params.specs.Params.{defaultParams}
 use Rattle.calls_settings.specs.declared.settings.Settings.{Settings}
 use Rattle.calls_settings.specs.declared.settings.Given.{Given}
 
--- a run without arguments: the default models, and no table
+-- A16: a run without arguments: the default models, and no table
 abbrev pub defaultSettings : Settings
 defaultSettings = record { model = defaultModel; table = padded 34 (nat 0) []; numbers = 0; params = defaultParams }
 
--- an argument that is taken, and one that is not: it changes nothing
+-- A16: an argument that is taken, and one that is not: it changes nothing
 abbrev pub nowSet : Settings → Given
 nowSet s = record { taken = true; settings = s }
 
 abbrev pub asBefore : Settings → Given
 asBefore s = record { taken = false; settings = s }
 
--- another model, table or parameters, and all else as it was; of a table the first 34 numbers
+-- A16: another model, table or parameters, and all else as it was; of a table the first 34 numbers
 abbrev pub withModel : Settings → Model → Settings
 withModel s m = record { model = m; table = s .table; numbers = s .numbers; params = s .params }
 
@@ -35,7 +35,7 @@ withTable s l = record { model = s .model; table = padded 34 (nat 0) (take 34 l)
 abbrev pub withParams : Settings → Params → Settings
 withParams s p = record { model = s .model; table = s .table; numbers = s .numbers; params = p }
 
--- another mode, other fractions, means or precisions
+-- A16: another mode, other fractions, means or precisions
 abbrev pub withMode : Settings → Mode → Settings
 withMode s x =
     let m = s .model in
@@ -56,7 +56,7 @@ withPrecisions s x =
     let m = s .model in
     withModel s (record { mode = m .mode; fractions = m .fractions; means = m .means; precisions = x })
 
--- another alpha, beta, highest VAF or least depth
+-- A16: another alpha, beta, highest VAF or least depth
 abbrev pub withAlpha : Settings → Float → Settings
 withAlpha s x =
     let p = s .params in

@@ -1,4 +1,4 @@
--- What stands behind the name of an argument. Definitions only (CALLS.md, Arguments).
+-- What stands behind the name of an argument. Definitions only (RULES.md, A16).
 use Prim.Native.Nat.{ℕ}
 use mathlib.Core.Bool.{Bool, true, false, cond}
 use mathlib.Core.List.{List, [], _∷_, _++_}
@@ -17,14 +17,14 @@ use Rattle.calls_settings.specs.declared.values.Three.the-variants as th
 use Rattle.calls_settings.specs.declared.values.Couple.{Couple}
 use Rattle.calls_settings.specs.declared.values.Couple.the-variants as couple
 
--- the bytes that part values
+-- A16: the bytes that part values
 abbrev pub comma : ℕ
 comma = 44
 
 abbrev pub colon : ℕ
 colon = 58
 
--- a mode, by its name
+-- A16: a mode, by its name
 unfoldable pub modeOf : List ℕ → Chosen
 modeOf l =
     cond (reads l "beta") (chosen.Is Beta)
@@ -32,7 +32,7 @@ modeOf l =
     (cond (reads l "phased") (chosen.Is Phased)
     chosen.Unreadable))
 
--- three decimals, and two
+-- A16: three decimals, and two
 abbrev pub threeFrom : Decimal → Decimal → Decimal → Three
 threeFrom (decimal.Is a) (decimal.Is b) (decimal.Is c) = three.Are a b c
 threeFrom (decimal.Is a) (decimal.Is b) decimal.Unreadable = three.Unreadable
@@ -44,7 +44,7 @@ twoFrom (decimal.Is x) (decimal.Is y) = couple.Are x y
 twoFrom (decimal.Is x) decimal.Unreadable = couple.Unreadable
 twoFrom decimal.Unreadable y = couple.Unreadable
 
--- fields that are three decimals, neither more nor fewer, and two
+-- A16: fields that are three decimals, neither more nor fewer, and two
 abbrev pub threeIn : List (List ℕ) → Three
 threeIn [] = three.Unreadable
 threeIn (a ∷ []) = three.Unreadable
@@ -58,11 +58,11 @@ twoIn (x ∷ []) = couple.Unreadable
 twoIn (x ∷ y ∷ []) = twoFrom (decimalOf x) (decimalOf y)
 twoIn (x ∷ y ∷ z ∷ rest) = couple.Unreadable
 
--- `a,b,c`
+-- A16: `a,b,c`
 unfoldable pub threeOf : List ℕ → Three
 threeOf l = threeIn (fieldsOf comma l)
 
--- `x:y`, whether it can be read, and its members
+-- A16: `x:y`, whether it can be read, and its members
 unfoldable pub pairOf : List ℕ → Couple
 pairOf l = twoIn (fieldsOf colon l)
 
@@ -74,7 +74,7 @@ abbrev pub members : Couple → List Float
 members (couple.Are x y) = x ∷ y ∷ []
 members couple.Unreadable = []
 
--- `x:y,x:y,...`: every one of the fields is a pair; and the members of all of them
+-- A16: `x:y,x:y,...`: every one of the fields is a pair; and the members of all of them
 abbrev pub arePairs : List (List ℕ) → Bool
 arePairs fields = every (λ f. isRead (pairOf f)) fields
 

@@ -1,4 +1,4 @@
-// The models that a run of the program `calls` uses, and the arguments that set them (docs/CALLS.md, Arguments).
+// The models that a run of the program `calls` uses, and the arguments that set them (docs/RULES.md, A16).
 pub mod arguments;
 mod models;
 mod parameters;

@@ -1,4 +1,4 @@
--- The class of an answer, from its bytes. Definitions only (CALLS.md, Answers).
+-- The class of an answer, from its bytes. Definitions only (RULES.md, A17).
 use Prim.Native.Nat.{ℕ}
 use mathlib.Core.Bool.{Bool, true, cond, _||_}
 use mathlib.Core.List.{List, [], _∷_}
@@ -9,11 +9,11 @@ use Rattle.text_reading.specs.Texts.{reads}
 use Rattle.calls_tally.specs.declared.classes.Class.{Class}
 use Rattle.calls_tally.specs.declared.classes.Class.the-variants.{Note, Unreadable, Refused, Won, Tied, Inferred, Unread, Other}
 
--- the byte that parts fields
+-- A17: the byte that parts fields
 abbrev pub tab : ℕ
 tab = 9
 
--- a note starts with `#`; a blank line, which is one too, with a space or a tab if it has a byte; no answer to a site does
+-- A17: a note starts with `#`; a blank line, which is one too, with a space or a tab if it has a byte; no answer to a site does
 abbrev pub noteByte : ℕ → Bool
 noteByte b = eqb b 35 || (eqb b 32 || eqb b tab)
 
@@ -21,16 +21,16 @@ abbrev pub startsNote : List ℕ → Bool
 startsNote [] = true
 startsNote (b ∷ l) = noteByte b
 
--- the call of a trio by the name of its ground; a call that has none is a diploid or a mosaic one
+-- A17: the call of a trio by the name of its ground; a call that has none is a diploid or a mosaic one
 unfoldable pub groundClass : List ℕ → Class
 groundClass f =
     cond (reads f "Won") Won (cond (reads f "Tied") Tied (cond (reads f "Inferred") Inferred (cond (reads f "Unread") Unread Other)))
 
--- the field of a number, the first being 0; an empty one where there is none
+-- A17: the field of a number, the first being 0; an empty one where there is none
 abbrev pub fieldAt : ℕ → List ℕ → List ℕ
 fieldAt i l = getD (fieldsOf tab l) i []
 
--- a note; `?` in the first field: it cannot be read; another number than `0` in the third: it is refused; else a call, whose ground would
+-- A17: a note; `?` in the first field: it cannot be read; another number than `0` in the third: it is refused; else a call, whose ground would
 -- be the eighth
 unfoldable pub classOf : List ℕ → Class
 classOf l =
@@ -41,7 +41,7 @@ classOf l =
 
 -- ---- for the code
 
--- classes as numbers, so that they can be compared
+-- A17: classes as numbers, so that they can be compared
 abbrev pub classNumber : Class → ℕ
 classNumber Note = 0
 classNumber Unreadable = 1

@@ -1,4 +1,4 @@
--- How many answers of each class there were, and this as a text. Definitions only (CALLS.md, Answers).
+-- How many answers of each class there were, and this as a text. Definitions only (RULES.md, A17).
 use Prim.Native.Nat.{ℕ, suc, _^_, _-_, min}
 use Prim.Native.String as text
 use mathlib.Core.Bool.{cond}
@@ -11,23 +11,23 @@ use Rattle.calls_tally.specs.declared.classes.Class.the-variants.{Note, 
 use Rattle.calls_tally.specs.declared.tally.Tally.{Tally}
 use Rattle.calls_tally.specs.Classes.{classOf, classNumber}
 
--- before the first answer
+-- A17: before the first answer
 abbrev pub noTally : Tally
 noTally = record { sites = 0; notes = 0; unreadable = 0; refused = 0; won = 0; tied = 0; inferred = 0; unread = 0; others = 0 }
 
--- one more, up to the largest u64
+-- A17: one more, up to the largest u64
 abbrev pub more : ℕ → ℕ
 more n = min (suc n) (2 ^ 64 - 1)
 
--- a count of a class, behind an answer of a class
+-- A17: a count of a class, behind an answer of a class
 abbrev pub grown : Class → Class → ℕ → ℕ
 grown class of n = cond (eqb (classNumber class) (classNumber of)) (more n) n
 
--- the count of sites, behind an answer of a class: every answer but a note is that of a site
+-- A17: the count of sites, behind an answer of a class: every answer but a note is that of a site
 abbrev pub grownSites : Class → ℕ → ℕ
 grownSites class n = cond (eqb (classNumber class) (classNumber Note)) n (more n)
 
--- the tally with one answer more
+-- A17: the tally with one answer more
 unfoldable pub countedOf : Tally → List ℕ → Tally
 countedOf t answer =
     let c = classOf answer in
@@ -43,7 +43,7 @@ countedOf t answer =
       others = grown c Other (t .others);
     }
 
--- the tally as a text of two lines: the sites and the calls, and what is no call
+-- A17: the tally as a text of two lines: the sites and the calls, and what is no call
 abbrev pub counted : text.String → ℕ → List ℕ
 counted name n = bytesOf name ++ wholeText n
 
