@@ -20,6 +20,7 @@ SUBJECTS = {
     "trio": ("#eaf2fb", "#b4d3f2"),
     "mosaic": ("#f7eef8", "#e0bfe4"),
     "text": ("#eaf7f6", "#aee0da"),
+    "calls": ("#f6f3e8", "#ddd0a8"),
     "callers": ("#fdeeea", "#f5c1b2"),
     "programs": ("#f0f0f0", "#c9c9c9"),
     "examples": ("#ffffff", "#ffffff"),
