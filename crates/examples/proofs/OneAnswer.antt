@@ -782,7 +782,7 @@ pub answer-line-once : OneAnswer answer-line.Post
 answer-line-once κ a v w e f p q = only (p .0) (q .0)
 
 pub answer-line-ends : (κ : _) (a : _) (v w : _) (e f : _)
-    → answer-line.Post κ a v e → answer-line.Post κ a w f → e .1 .0 .now ≡ f .1 .0 .now
+    → answer-line.Post κ a v e → answer-line.Post κ a w f → e .1 .1 .0 .now ≡ f .1 .1 .0 .now
 answer-line-ends κ a v w e f p q = only (p .1) (q .1)
 
 pub lay-unreadable-once : OneAnswer lay-unreadable.Post
