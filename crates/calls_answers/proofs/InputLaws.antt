@@ -40,7 +40,7 @@ rest-none l b (c ∷ a) h = go (eqb b newline) (rest-none [] c a h) (rest-none (
     go true ended going = ended
     go false ended going = going
 
-nothing-behind : (a : List ℕ) → T (endsLine a) → restFrom [] a ≡ []
+pub nothing-behind : (a : List ℕ) → T (endsLine a) → restFrom [] a ≡ []
 nothing-behind [] h = refl
 nothing-behind (b ∷ a) h = rest-none [] b a h
 
@@ -64,7 +64,7 @@ pub cut-at-lines : (s : Settings) (a b : List ℕ) → T (endsLine a) → answer
 unfolding answersText
 cut-at-lines s a b ends = ap (answersTo s) (lines-parted a b ends) ∙ answers-append s (linesOf a) (linesOf b)
 
-ends-newline : (a : List ℕ) → T (endsLine (a ++ (newline ∷ [])))
+pub ends-newline : (a : List ℕ) → T (endsLine (a ++ (newline ∷ [])))
 ends-newline [] = tt
 ends-newline (b ∷ []) = tt
 ends-newline (b ∷ c ∷ a) = ends-newline (c ∷ a)

@@ -1,25 +1,30 @@
 -- A number that was written is read back as that number. Assumes nothing.
-use mathlib.Core.Path.{_≡_, refl, sym, ap, _∙_}
-use mathlib.Core.Bool.{Bool, true, false, cond, _&&_}
-use mathlib.Core.List.{List, [], _∷_, _++_}
-use Prim.Native.Nat.{ℕ, zero, suc, _+_, _-_, _*_, _/_, _%_, _^_, _≤_, _<_, min}
-use native.Mathlib.Nat.{le-trans, lt-of-lt-of-le, zero-lt-suc, mod-lt, pow-suc}
+use mathlib.Core.Path.{_≡_, refl, sym, ap, _∙_, subst}
+use mathlib.Core.Bool.{Bool, true, false, not, cond}
+use mathlib.Core.List.{List, [], _∷_, _++_, map}
+use Prim.Native.Nat.{ℕ, zero, suc, _+_, _-_, _*_, _/_, _%_, _^_, _≤_, _<_}
+use native.Mathlib.Nat.{lt-of-lt-of-le, zero-lt-suc, mod-lt, pow-suc}
 use native.Mathlib.Omega.{arith}
-use borrow.Author.Tests.{le-leb, lt-ltb, ltb-true, ltb-false}
-use lib.Dec.{ltb, lit≤}
+use borrow.Author.Tests.{le-leb, lt-ltb, ltb-true, ltb-false, leb-true, ne-eqb}
+use lib.Dec.{eqb, leb, ltb, lit≤, T}
+use lib.Ieee.Fits.{and-i}
 use lib.ListN.{length, length-append}
 use Rattle.floats.specs.F64.{decimal}
 use Rattle.floats_nearest.specs.declared.nearest.Nearest.the-variants as nearest
 use Rattle.lists.specs.Every.{every}
 use Rattle.text_reading.specs.declared.wholes.Whole.the-variants as whole
 use Rattle.text_reading.specs.declared.decimals.Decimal.the-variants as read
-use Rattle.text_reading.specs.Wholes.{isDigit, allDigits, numberFrom, number, wholeNumberOf}
+use Rattle.text_reading.specs.Fields.{fieldsOf}
+use Rattle.text_reading.specs.Wholes.{isDigit, allDigits, number, wholeNumberOf}
 use Rattle.text_reading.specs.Decimals.{decimalOf}
 use Rattle.text_reading.proofs.WholeLaws.{number-append}
-use Rattle.text_reading.proofs.DecimalTexts.{every-append}
+use Rattle.text_reading.proofs.DecimalTexts.{every-append, and-true-l, and-true-r}
 use Rattle.text_reading.proofs.DecimalBack.{point-read}
 use Rattle.text_writing.specs.Laying.{glyphOf, textOf, wholeText}
 use Rattle.text_writing.specs.Figures.{figureText}
+use Rattle.trio_family.specs.declared.pair.Pair.{Pair}
+use Rattle.calls_writing.specs.Words.{slash, pairText}
+use Rattle.calls_writing.proofs.FieldLaws.{without, fields-back}
 
 -- ---- digits
 
@@ -125,3 +130,26 @@ figure-back h small =
         number-append 0 w b
         ∙ ap (λ (n : ℕ). (n * 10 + (48 + h / 10 % 10 - 48)) * 10 + (48 + h % 10 - 48)) (whole-number (h / 100) (omega arith))
         ∙ parts h
+
+-- ---- a pair of alleles
+
+no-slash : (l : List ℕ) → every isDigit l ≡ true → T (without slash l)
+no-slash [] d = tt
+no-slash (b ∷ l) d =
+    and-i (not (eqb b slash)) (without slash l) other (no-slash l (and-true-r (isDigit b) (every isDigit l) d))
+  where
+    other : T (not (eqb b slash))
+    other =
+        let far = leb-true 48 b (and-true-l (leb 48 b) (leb b 57) (and-true-l (isDigit b) (every isDigit l) d)) in
+        subst (λ (t : Bool). T (not t)) (sym (ne-eqb b slash (λ (e : b ≡ slash). omega arith))) tt
+
+-- A13, A15: the two numbers of a pair that was written
+pub pair-back : (p : Pair) → p .low < 2 ^ 64 → p .high < 2 ^ 64
+    → map wholeNumberOf (fieldsOf slash (pairText p)) ≡ whole.Is (p .low) ∷ whole.Is (p .high) ∷ []
+pair-back p l h =
+    ap (map wholeNumberOf)
+    (fields-back slash (wholeText (p .low)) (wholeText (p .high) ∷ [])
+    (and-i (without slash (wholeText (p .low))) (every (without slash) (wholeText (p .high) ∷ []))
+    (no-slash (wholeText (p .low)) (whole-digits (p .low)))
+    (and-i (without slash (wholeText (p .high))) true (no-slash (wholeText (p .high)) (whole-digits (p .high))) tt)))
+    ∙ rw (whole-back (p .low) l, whole-back (p .high) h)
