@@ -1,5 +1,5 @@
 -- `calls_answers::kinds::animal_kind` meets its contract: one name after another. Assumes nothing.
-use mathlib.Core.Path.{_≡_}
+use mathlib.Core.Path.{_≡_, sym, _∙_}
 use mathlib.Core.Bool.{true, false}
 use borrow.Author.Needs.{needs}
 use Rattle.text_reading.specs.Texts.{reads}
@@ -16,8 +16,9 @@ is-text-requires c κs = search needs
 returns : tie.Need-returns
 unfolding animalKind
 returns c =
-    let field = c .before .before .before .before .args .field .now in
-    let t1 : reads field "diploid" ≡ true = cc in
+    let first = c in
+    let field = first .before .before .before .before .args .field .now in
+    let t1 : reads field "diploid" ≡ true = sym (first .before .is-text .ensures) ∙ first .if1 .taken in
     rw (t1)
 
 slice-aggregate-is-text-2 : tie.Need-slice-aggregate-is-text-2
@@ -29,17 +30,21 @@ is-text-requires-2 c κs = search needs
 returns-2 : tie.Need-returns-2
 unfolding animalKind
 returns-2 c =
-    let field = c .before .before .before .before .before .before .before .args .field .now in
-    let t1 : reads field "diploid" ≡ false = cc in
-    let t2 : reads field "mosaic" ≡ true = cc in
+    let second = c in
+    let first = second .before .before .before in
+    let field = first .before .before .before .before .args .field .now in
+    let t1 : reads field "diploid" ≡ false = sym (first .before .is-text .ensures) ∙ first .if1 .left in
+    let t2 : reads field "mosaic" ≡ true = sym (second .before .is-text2 .ensures) ∙ second .if2 .taken in
     rw (t1, t2)
 
 returns-3 : tie.Need-returns-3
 unfolding animalKind
 returns-3 c =
-    let field = c .before .before .before .before .before .before .before .args .field .now in
-    let t1 : reads field "diploid" ≡ false = cc in
-    let t2 : reads field "mosaic" ≡ false = cc in
+    let second = c in
+    let first = second .before .before .before in
+    let field = first .before .before .before .before .args .field .now in
+    let t1 : reads field "diploid" ≡ false = sym (first .before .is-text .ensures) ∙ first .if1 .left in
+    let t2 : reads field "mosaic" ≡ false = sym (second .before .is-text2 .ensures) ∙ second .if2 .left in
     rw (t1, t2)
 
 pub animal-kind-spec : {M : Type 1} → statement M

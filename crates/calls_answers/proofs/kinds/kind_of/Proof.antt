@@ -1,5 +1,5 @@
 -- `calls_answers::kinds::kind_of` meets its contract: one name after another. Assumes nothing.
-use mathlib.Core.Path.{_≡_}
+use mathlib.Core.Path.{_≡_, sym, _∙_}
 use mathlib.Core.Bool.{true, false}
 use borrow.Author.Needs.{needs}
 use Rattle.text_reading.specs.Texts.{reads}
@@ -16,8 +16,9 @@ is-text-requires c κs = search needs
 returns : tie.Need-returns
 unfolding kindOf
 returns c =
-    let field = c .before .before .before .before .args .field .now in
-    let t1 : reads field "trio" ≡ true = cc in
+    let first = c in
+    let field = first .before .before .before .before .args .field .now in
+    let t1 : reads field "trio" ≡ true = sym (first .before .is-text .ensures) ∙ first .if1 .taken in
     rw (t1)
 
 slice-aggregate-is-text-2 : tie.Need-slice-aggregate-is-text-2
@@ -29,9 +30,11 @@ is-text-requires-2 c κs = search needs
 returns-2 : tie.Need-returns-2
 unfolding kindOf
 returns-2 c =
-    let field = c .before .before .before .before .before .before .before .args .field .now in
-    let t1 : reads field "trio" ≡ false = cc in
-    let t2 : reads field "family" ≡ true = cc in
+    let second = c in
+    let first = second .before .before .before in
+    let field = first .before .before .before .before .args .field .now in
+    let t1 : reads field "trio" ≡ false = sym (first .before .is-text .ensures) ∙ first .if1 .left in
+    let t2 : reads field "family" ≡ true = sym (second .before .is-text2 .ensures) ∙ second .if2 .taken in
     rw (t1, t2)
 
 slice-aggregate-is-text-3 : tie.Need-slice-aggregate-is-text-3
@@ -43,10 +46,13 @@ is-text-requires-3 c κs = search needs
 returns-3 : tie.Need-returns-3
 unfolding kindOf
 returns-3 c =
-    let field = c .before .before .before .before .before .before .before .before .before .before .args .field .now in
-    let t1 : reads field "trio" ≡ false = cc in
-    let t2 : reads field "family" ≡ false = cc in
-    let t3 : reads field "trio2" ≡ true = cc in
+    let third = c in
+    let second = third .before .before .before in
+    let first = second .before .before .before in
+    let field = first .before .before .before .before .args .field .now in
+    let t1 : reads field "trio" ≡ false = sym (first .before .is-text .ensures) ∙ first .if1 .left in
+    let t2 : reads field "family" ≡ false = sym (second .before .is-text2 .ensures) ∙ second .if2 .left in
+    let t3 : reads field "trio2" ≡ true = sym (third .before .is-text3 .ensures) ∙ third .if3 .taken in
     rw (t1, t2, t3)
 
 slice-aggregate-is-text-4 : tie.Need-slice-aggregate-is-text-4
@@ -58,11 +64,15 @@ is-text-requires-4 c κs = search needs
 returns-4 : tie.Need-returns-4
 unfolding kindOf
 returns-4 c =
-    let field = c .before .before .before .before .before .before .before .before .before .before .before .before .before .args .field .now in
-    let t1 : reads field "trio" ≡ false = cc in
-    let t2 : reads field "family" ≡ false = cc in
-    let t3 : reads field "trio2" ≡ false = cc in
-    let t4 : reads field "family2" ≡ true = cc in
+    let fourth = c in
+    let third = fourth .before .before .before in
+    let second = third .before .before .before in
+    let first = second .before .before .before in
+    let field = first .before .before .before .before .args .field .now in
+    let t1 : reads field "trio" ≡ false = sym (first .before .is-text .ensures) ∙ first .if1 .left in
+    let t2 : reads field "family" ≡ false = sym (second .before .is-text2 .ensures) ∙ second .if2 .left in
+    let t3 : reads field "trio2" ≡ false = sym (third .before .is-text3 .ensures) ∙ third .if3 .left in
+    let t4 : reads field "family2" ≡ true = sym (fourth .before .is-text4 .ensures) ∙ fourth .if4 .taken in
     rw (t1, t2, t3, t4)
 
 animal-kind-requires : tie.Need-animal-kind-requires
@@ -71,11 +81,15 @@ animal-kind-requires c κs = search needs
 returns-5 : tie.Need-returns-5
 unfolding kindOf
 returns-5 c =
-    let field = c .before .before .before .before .before .before .before .before .before .before .before .before .before .before .args .field .now in
-    let t1 : reads field "trio" ≡ false = cc in
-    let t2 : reads field "family" ≡ false = cc in
-    let t3 : reads field "trio2" ≡ false = cc in
-    let t4 : reads field "family2" ≡ false = cc in
+    let fourth = c .before in
+    let third = fourth .before .before .before in
+    let second = third .before .before .before in
+    let first = second .before .before .before in
+    let field = first .before .before .before .before .args .field .now in
+    let t1 : reads field "trio" ≡ false = sym (first .before .is-text .ensures) ∙ first .if1 .left in
+    let t2 : reads field "family" ≡ false = sym (second .before .is-text2 .ensures) ∙ second .if2 .left in
+    let t3 : reads field "trio2" ≡ false = sym (third .before .is-text3 .ensures) ∙ third .if3 .left in
+    let t4 : reads field "family2" ≡ false = sym (fourth .before .is-text4 .ensures) ∙ fourth .if4 .left in
     rw (t1, t2, t3, t4) (c .animal-kind .ensures)
 
 pub kind-of-spec : {M : Type 1} → statement M

@@ -1,9 +1,9 @@
 -- `calls_settings::arguments::argument_named` meets its contract: each return is one name. Assumes nothing.
-use mathlib.Core.Path.{_≡_}
+use mathlib.Core.Path.{_≡_, sym, _∙_}
 use mathlib.Core.Bool.{true, false}
 use borrow.Author.Needs.{needs}
-use Rattle.calls_settings.specs.Arguments.{argumentOf}
 use Rattle.text_reading.specs.Texts.{reads}
+use Rattle.calls_settings.specs.Arguments.{argumentOf}
 use Rattle.calls_settings.proofs.arguments.argument_named.Statement.{statement}
 use Rattle.calls_settings.proofs.arguments.argument_named.Tie as tie
 
@@ -16,8 +16,9 @@ is-text-requires c κs = search needs
 returns : tie.Need-returns
 unfolding argumentOf
 returns c =
-    let name = c .before .before .before .before .args .name .now in
-    let t1 : reads name "--mode" ≡ true = cc in
+    let first = c in
+    let name = first .before .before .before .before .args .name .now in
+    let t1 : reads name "--mode" ≡ true = sym (first .before .is-text .ensures) ∙ first .if1 .taken in
     rw (t1)
 
 slice-aggregate-is-text-2 : tie.Need-slice-aggregate-is-text-2
@@ -29,10 +30,11 @@ is-text-requires-2 c κs = search needs
 returns-2 : tie.Need-returns-2
 unfolding argumentOf
 returns-2 c =
-    let past-mode = c .before .before .before in
-    let name = past-mode .before .before .before .before .args .name .now in
-    let t1 : reads name "--mode" ≡ false = cc in
-    let t2 : reads name "--fractions" ≡ true = cc in
+    let second = c in
+    let first = second .before .before .before in
+    let name = first .before .before .before .before .args .name .now in
+    let t1 : reads name "--mode" ≡ false = sym (first .before .is-text .ensures) ∙ first .if1 .left in
+    let t2 : reads name "--fractions" ≡ true = sym (second .before .is-text2 .ensures) ∙ second .if2 .taken in
     rw (t1, t2)
 
 slice-aggregate-is-text-3 : tie.Need-slice-aggregate-is-text-3
@@ -44,12 +46,13 @@ is-text-requires-3 c κs = search needs
 returns-3 : tie.Need-returns-3
 unfolding argumentOf
 returns-3 c =
-    let past-fractions = c .before .before .before in
-    let past-mode = past-fractions .before .before .before in
-    let name = past-mode .before .before .before .before .args .name .now in
-    let t1 : reads name "--mode" ≡ false = cc in
-    let t2 : reads name "--fractions" ≡ false = cc in
-    let t3 : reads name "--means" ≡ true = cc in
+    let third = c in
+    let second = third .before .before .before in
+    let first = second .before .before .before in
+    let name = first .before .before .before .before .args .name .now in
+    let t1 : reads name "--mode" ≡ false = sym (first .before .is-text .ensures) ∙ first .if1 .left in
+    let t2 : reads name "--fractions" ≡ false = sym (second .before .is-text2 .ensures) ∙ second .if2 .left in
+    let t3 : reads name "--means" ≡ true = sym (third .before .is-text3 .ensures) ∙ third .if3 .taken in
     rw (t1, t2, t3)
 
 slice-aggregate-is-text-4 : tie.Need-slice-aggregate-is-text-4
@@ -61,14 +64,15 @@ is-text-requires-4 c κs = search needs
 returns-4 : tie.Need-returns-4
 unfolding argumentOf
 returns-4 c =
-    let past-means = c .before .before .before in
-    let past-fractions = past-means .before .before .before in
-    let past-mode = past-fractions .before .before .before in
-    let name = past-mode .before .before .before .before .args .name .now in
-    let t1 : reads name "--mode" ≡ false = cc in
-    let t2 : reads name "--fractions" ≡ false = cc in
-    let t3 : reads name "--means" ≡ false = cc in
-    let t4 : reads name "--precisions" ≡ true = cc in
+    let fourth = c in
+    let third = fourth .before .before .before in
+    let second = third .before .before .before in
+    let first = second .before .before .before in
+    let name = first .before .before .before .before .args .name .now in
+    let t1 : reads name "--mode" ≡ false = sym (first .before .is-text .ensures) ∙ first .if1 .left in
+    let t2 : reads name "--fractions" ≡ false = sym (second .before .is-text2 .ensures) ∙ second .if2 .left in
+    let t3 : reads name "--means" ≡ false = sym (third .before .is-text3 .ensures) ∙ third .if3 .left in
+    let t4 : reads name "--precisions" ≡ true = sym (fourth .before .is-text4 .ensures) ∙ fourth .if4 .taken in
     rw (t1, t2, t3, t4)
 
 slice-aggregate-is-text-5 : tie.Need-slice-aggregate-is-text-5
@@ -80,16 +84,17 @@ is-text-requires-5 c κs = search needs
 returns-5 : tie.Need-returns-5
 unfolding argumentOf
 returns-5 c =
-    let past-precisions = c .before .before .before in
-    let past-means = past-precisions .before .before .before in
-    let past-fractions = past-means .before .before .before in
-    let past-mode = past-fractions .before .before .before in
-    let name = past-mode .before .before .before .before .args .name .now in
-    let t1 : reads name "--mode" ≡ false = cc in
-    let t2 : reads name "--fractions" ≡ false = cc in
-    let t3 : reads name "--means" ≡ false = cc in
-    let t4 : reads name "--precisions" ≡ false = cc in
-    let t5 : reads name "--table" ≡ true = cc in
+    let fifth = c in
+    let fourth = fifth .before .before .before in
+    let third = fourth .before .before .before in
+    let second = third .before .before .before in
+    let first = second .before .before .before in
+    let name = first .before .before .before .before .args .name .now in
+    let t1 : reads name "--mode" ≡ false = sym (first .before .is-text .ensures) ∙ first .if1 .left in
+    let t2 : reads name "--fractions" ≡ false = sym (second .before .is-text2 .ensures) ∙ second .if2 .left in
+    let t3 : reads name "--means" ≡ false = sym (third .before .is-text3 .ensures) ∙ third .if3 .left in
+    let t4 : reads name "--precisions" ≡ false = sym (fourth .before .is-text4 .ensures) ∙ fourth .if4 .left in
+    let t5 : reads name "--table" ≡ true = sym (fifth .before .is-text5 .ensures) ∙ fifth .if5 .taken in
     rw (t1, t2, t3, t4, t5)
 
 mosaic-argument-requires : tie.Need-mosaic-argument-requires
@@ -98,17 +103,17 @@ mosaic-argument-requires c κs = search needs
 returns-6 : tie.Need-returns-6
 unfolding argumentOf
 returns-6 c =
-    let past-table = c .before in
-    let past-precisions = past-table .before .before .before in
-    let past-means = past-precisions .before .before .before in
-    let past-fractions = past-means .before .before .before in
-    let past-mode = past-fractions .before .before .before in
-    let name = past-mode .before .before .before .before .args .name .now in
-    let t1 : reads name "--mode" ≡ false = cc in
-    let t2 : reads name "--fractions" ≡ false = cc in
-    let t3 : reads name "--means" ≡ false = cc in
-    let t4 : reads name "--precisions" ≡ false = cc in
-    let t5 : reads name "--table" ≡ false = cc in
+    let fifth = c .before in
+    let fourth = fifth .before .before .before in
+    let third = fourth .before .before .before in
+    let second = third .before .before .before in
+    let first = second .before .before .before in
+    let name = first .before .before .before .before .args .name .now in
+    let t1 : reads name "--mode" ≡ false = sym (first .before .is-text .ensures) ∙ first .if1 .left in
+    let t2 : reads name "--fractions" ≡ false = sym (second .before .is-text2 .ensures) ∙ second .if2 .left in
+    let t3 : reads name "--means" ≡ false = sym (third .before .is-text3 .ensures) ∙ third .if3 .left in
+    let t4 : reads name "--precisions" ≡ false = sym (fourth .before .is-text4 .ensures) ∙ fourth .if4 .left in
+    let t5 : reads name "--table" ≡ false = sym (fifth .before .is-text5 .ensures) ∙ fifth .if5 .left in
     rw (t1, t2, t3, t4, t5) (c .mosaic-argument .ensures)
 
 pub argument-named-spec : {M : Type 1} → statement M

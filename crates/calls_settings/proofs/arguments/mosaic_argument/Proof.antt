@@ -1,9 +1,9 @@
 -- `calls_settings::arguments::mosaic_argument` meets its contract: each return is one name. Assumes nothing.
-use mathlib.Core.Path.{_≡_}
+use mathlib.Core.Path.{_≡_, sym, _∙_}
 use mathlib.Core.Bool.{true, false}
 use borrow.Author.Needs.{needs}
-use Rattle.calls_settings.specs.Arguments.{mosaicArgument}
 use Rattle.text_reading.specs.Texts.{reads}
+use Rattle.calls_settings.specs.Arguments.{mosaicArgument}
 use Rattle.calls_settings.proofs.arguments.mosaic_argument.Statement.{statement}
 use Rattle.calls_settings.proofs.arguments.mosaic_argument.Tie as tie
 
@@ -16,8 +16,9 @@ is-text-requires c κs = search needs
 returns : tie.Need-returns
 unfolding mosaicArgument
 returns c =
-    let name = c .before .before .before .before .args .name .now in
-    let t1 : reads name "--alpha" ≡ true = cc in
+    let first = c in
+    let name = first .before .before .before .before .args .name .now in
+    let t1 : reads name "--alpha" ≡ true = sym (first .before .is-text .ensures) ∙ first .if1 .taken in
     rw (t1)
 
 slice-aggregate-is-text-2 : tie.Need-slice-aggregate-is-text-2
@@ -29,10 +30,11 @@ is-text-requires-2 c κs = search needs
 returns-2 : tie.Need-returns-2
 unfolding mosaicArgument
 returns-2 c =
-    let past-alpha = c .before .before .before in
-    let name = past-alpha .before .before .before .before .args .name .now in
-    let t1 : reads name "--alpha" ≡ false = cc in
-    let t2 : reads name "--beta" ≡ true = cc in
+    let second = c in
+    let first = second .before .before .before in
+    let name = first .before .before .before .before .args .name .now in
+    let t1 : reads name "--alpha" ≡ false = sym (first .before .is-text .ensures) ∙ first .if1 .left in
+    let t2 : reads name "--beta" ≡ true = sym (second .before .is-text2 .ensures) ∙ second .if2 .taken in
     rw (t1, t2)
 
 slice-aggregate-is-text-3 : tie.Need-slice-aggregate-is-text-3
@@ -44,12 +46,13 @@ is-text-requires-3 c κs = search needs
 returns-3 : tie.Need-returns-3
 unfolding mosaicArgument
 returns-3 c =
-    let past-beta = c .before .before .before in
-    let past-alpha = past-beta .before .before .before in
-    let name = past-alpha .before .before .before .before .args .name .now in
-    let t1 : reads name "--alpha" ≡ false = cc in
-    let t2 : reads name "--beta" ≡ false = cc in
-    let t3 : reads name "--highest-vaf" ≡ true = cc in
+    let third = c in
+    let second = third .before .before .before in
+    let first = second .before .before .before in
+    let name = first .before .before .before .before .args .name .now in
+    let t1 : reads name "--alpha" ≡ false = sym (first .before .is-text .ensures) ∙ first .if1 .left in
+    let t2 : reads name "--beta" ≡ false = sym (second .before .is-text2 .ensures) ∙ second .if2 .left in
+    let t3 : reads name "--highest-vaf" ≡ true = sym (third .before .is-text3 .ensures) ∙ third .if3 .taken in
     rw (t1, t2, t3)
 
 slice-aggregate-is-text-4 : tie.Need-slice-aggregate-is-text-4
@@ -61,27 +64,29 @@ is-text-requires-4 c κs = search needs
 returns-4 : tie.Need-returns-4
 unfolding mosaicArgument
 returns-4 c =
-    let past-highest-vaf = c .before .before .before in
-    let past-beta = past-highest-vaf .before .before .before in
-    let past-alpha = past-beta .before .before .before in
-    let name = past-alpha .before .before .before .before .args .name .now in
-    let t1 : reads name "--alpha" ≡ false = cc in
-    let t2 : reads name "--beta" ≡ false = cc in
-    let t3 : reads name "--highest-vaf" ≡ false = cc in
-    let t4 : reads name "--depth" ≡ true = cc in
+    let fourth = c in
+    let third = fourth .before .before .before in
+    let second = third .before .before .before in
+    let first = second .before .before .before in
+    let name = first .before .before .before .before .args .name .now in
+    let t1 : reads name "--alpha" ≡ false = sym (first .before .is-text .ensures) ∙ first .if1 .left in
+    let t2 : reads name "--beta" ≡ false = sym (second .before .is-text2 .ensures) ∙ second .if2 .left in
+    let t3 : reads name "--highest-vaf" ≡ false = sym (third .before .is-text3 .ensures) ∙ third .if3 .left in
+    let t4 : reads name "--depth" ≡ true = sym (fourth .before .is-text4 .ensures) ∙ fourth .if4 .taken in
     rw (t1, t2, t3, t4)
 
 returns-5 : tie.Need-returns-5
 unfolding mosaicArgument
 returns-5 c =
-    let past-highest-vaf = c .before .before .before in
-    let past-beta = past-highest-vaf .before .before .before in
-    let past-alpha = past-beta .before .before .before in
-    let name = past-alpha .before .before .before .before .args .name .now in
-    let t1 : reads name "--alpha" ≡ false = cc in
-    let t2 : reads name "--beta" ≡ false = cc in
-    let t3 : reads name "--highest-vaf" ≡ false = cc in
-    let t4 : reads name "--depth" ≡ false = cc in
+    let fourth = c in
+    let third = fourth .before .before .before in
+    let second = third .before .before .before in
+    let first = second .before .before .before in
+    let name = first .before .before .before .before .args .name .now in
+    let t1 : reads name "--alpha" ≡ false = sym (first .before .is-text .ensures) ∙ first .if1 .left in
+    let t2 : reads name "--beta" ≡ false = sym (second .before .is-text2 .ensures) ∙ second .if2 .left in
+    let t3 : reads name "--highest-vaf" ≡ false = sym (third .before .is-text3 .ensures) ∙ third .if3 .left in
+    let t4 : reads name "--depth" ≡ false = sym (fourth .before .is-text4 .ensures) ∙ fourth .if4 .left in
     rw (t1, t2, t3, t4)
 
 pub mosaic-argument-spec : {M : Type 1} → statement M

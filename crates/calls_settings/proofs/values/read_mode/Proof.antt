@@ -1,5 +1,5 @@
 -- `calls_settings::values::read_mode` meets its contract: each return is one name. Assumes nothing.
-use mathlib.Core.Path.{_≡_}
+use mathlib.Core.Path.{_≡_, sym, _∙_}
 use mathlib.Core.Bool.{true, false}
 use borrow.Author.Needs.{needs}
 use Rattle.text_reading.specs.Texts.{reads}
@@ -16,8 +16,9 @@ is-text-requires c κs = search needs
 returns : tie.Need-returns
 unfolding modeOf
 returns c =
-    let name = c .before .before .before .before .args .value .now in
-    let t1 : reads name "beta" ≡ true = cc in
+    let first = c in
+    let value = first .before .before .before .before .args .value .now in
+    let t1 : reads value "beta" ≡ true = sym (first .before .is-text .ensures) ∙ first .if1 .taken in
     rw (t1)
 
 slice-aggregate-is-text-2 : tie.Need-slice-aggregate-is-text-2
@@ -29,10 +30,11 @@ is-text-requires-2 c κs = search needs
 returns-2 : tie.Need-returns-2
 unfolding modeOf
 returns-2 c =
-    let past-beta = c .before .before .before in
-    let name = past-beta .before .before .before .before .args .value .now in
-    let t1 : reads name "beta" ≡ false = cc in
-    let t2 : reads name "bino" ≡ true = cc in
+    let second = c in
+    let first = second .before .before .before in
+    let value = first .before .before .before .before .args .value .now in
+    let t1 : reads value "beta" ≡ false = sym (first .before .is-text .ensures) ∙ first .if1 .left in
+    let t2 : reads value "bino" ≡ true = sym (second .before .is-text2 .ensures) ∙ second .if2 .taken in
     rw (t1, t2)
 
 slice-aggregate-is-text-3 : tie.Need-slice-aggregate-is-text-3
@@ -44,23 +46,25 @@ is-text-requires-3 c κs = search needs
 returns-3 : tie.Need-returns-3
 unfolding modeOf
 returns-3 c =
-    let past-bino = c .before .before .before in
-    let past-beta = past-bino .before .before .before in
-    let name = past-beta .before .before .before .before .args .value .now in
-    let t1 : reads name "beta" ≡ false = cc in
-    let t2 : reads name "bino" ≡ false = cc in
-    let t3 : reads name "phased" ≡ true = cc in
+    let third = c in
+    let second = third .before .before .before in
+    let first = second .before .before .before in
+    let value = first .before .before .before .before .args .value .now in
+    let t1 : reads value "beta" ≡ false = sym (first .before .is-text .ensures) ∙ first .if1 .left in
+    let t2 : reads value "bino" ≡ false = sym (second .before .is-text2 .ensures) ∙ second .if2 .left in
+    let t3 : reads value "phased" ≡ true = sym (third .before .is-text3 .ensures) ∙ third .if3 .taken in
     rw (t1, t2, t3)
 
 returns-4 : tie.Need-returns-4
 unfolding modeOf
 returns-4 c =
-    let past-bino = c .before .before .before in
-    let past-beta = past-bino .before .before .before in
-    let name = past-beta .before .before .before .before .args .value .now in
-    let t1 : reads name "beta" ≡ false = cc in
-    let t2 : reads name "bino" ≡ false = cc in
-    let t3 : reads name "phased" ≡ false = cc in
+    let third = c in
+    let second = third .before .before .before in
+    let first = second .before .before .before in
+    let value = first .before .before .before .before .args .value .now in
+    let t1 : reads value "beta" ≡ false = sym (first .before .is-text .ensures) ∙ first .if1 .left in
+    let t2 : reads value "bino" ≡ false = sym (second .before .is-text2 .ensures) ∙ second .if2 .left in
+    let t3 : reads value "phased" ≡ false = sym (third .before .is-text3 .ensures) ∙ third .if3 .left in
     rw (t1, t2, t3)
 
 pub read-mode-spec : {M : Type 1} → statement M

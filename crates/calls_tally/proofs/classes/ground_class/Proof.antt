@@ -1,5 +1,5 @@
 -- `calls_tally::classes::ground_class` meets its contract: each return is one name. Assumes nothing.
-use mathlib.Core.Path.{_≡_}
+use mathlib.Core.Path.{_≡_, sym, _∙_}
 use mathlib.Core.Bool.{true, false}
 use borrow.Author.Needs.{needs}
 use Rattle.text_reading.specs.Texts.{reads}
@@ -16,8 +16,9 @@ is-text-requires c κs = search needs
 returns : tie.Need-returns
 unfolding groundClass
 returns c =
-    let ground = c .before .before .before .before .args .ground .now in
-    let t1 : reads ground "Won" ≡ true = cc in
+    let first = c in
+    let ground = first .before .before .before .before .args .ground .now in
+    let t1 : reads ground "Won" ≡ true = sym (first .before .is-text .ensures) ∙ first .if1 .taken in
     rw (t1)
 
 slice-aggregate-is-text-2 : tie.Need-slice-aggregate-is-text-2
@@ -29,10 +30,11 @@ is-text-requires-2 c κs = search needs
 returns-2 : tie.Need-returns-2
 unfolding groundClass
 returns-2 c =
-    let past-won = c .before .before .before in
-    let ground = past-won .before .before .before .before .args .ground .now in
-    let t1 : reads ground "Won" ≡ false = cc in
-    let t2 : reads ground "Tied" ≡ true = cc in
+    let second = c in
+    let first = second .before .before .before in
+    let ground = first .before .before .before .before .args .ground .now in
+    let t1 : reads ground "Won" ≡ false = sym (first .before .is-text .ensures) ∙ first .if1 .left in
+    let t2 : reads ground "Tied" ≡ true = sym (second .before .is-text2 .ensures) ∙ second .if2 .taken in
     rw (t1, t2)
 
 slice-aggregate-is-text-3 : tie.Need-slice-aggregate-is-text-3
@@ -44,12 +46,13 @@ is-text-requires-3 c κs = search needs
 returns-3 : tie.Need-returns-3
 unfolding groundClass
 returns-3 c =
-    let past-tied = c .before .before .before in
-    let past-won = past-tied .before .before .before in
-    let ground = past-won .before .before .before .before .args .ground .now in
-    let t1 : reads ground "Won" ≡ false = cc in
-    let t2 : reads ground "Tied" ≡ false = cc in
-    let t3 : reads ground "Inferred" ≡ true = cc in
+    let third = c in
+    let second = third .before .before .before in
+    let first = second .before .before .before in
+    let ground = first .before .before .before .before .args .ground .now in
+    let t1 : reads ground "Won" ≡ false = sym (first .before .is-text .ensures) ∙ first .if1 .left in
+    let t2 : reads ground "Tied" ≡ false = sym (second .before .is-text2 .ensures) ∙ second .if2 .left in
+    let t3 : reads ground "Inferred" ≡ true = sym (third .before .is-text3 .ensures) ∙ third .if3 .taken in
     rw (t1, t2, t3)
 
 slice-aggregate-is-text-4 : tie.Need-slice-aggregate-is-text-4
@@ -61,27 +64,29 @@ is-text-requires-4 c κs = search needs
 returns-4 : tie.Need-returns-4
 unfolding groundClass
 returns-4 c =
-    let past-inferred = c .before .before .before in
-    let past-tied = past-inferred .before .before .before in
-    let past-won = past-tied .before .before .before in
-    let ground = past-won .before .before .before .before .args .ground .now in
-    let t1 : reads ground "Won" ≡ false = cc in
-    let t2 : reads ground "Tied" ≡ false = cc in
-    let t3 : reads ground "Inferred" ≡ false = cc in
-    let t4 : reads ground "Unread" ≡ true = cc in
+    let fourth = c in
+    let third = fourth .before .before .before in
+    let second = third .before .before .before in
+    let first = second .before .before .before in
+    let ground = first .before .before .before .before .args .ground .now in
+    let t1 : reads ground "Won" ≡ false = sym (first .before .is-text .ensures) ∙ first .if1 .left in
+    let t2 : reads ground "Tied" ≡ false = sym (second .before .is-text2 .ensures) ∙ second .if2 .left in
+    let t3 : reads ground "Inferred" ≡ false = sym (third .before .is-text3 .ensures) ∙ third .if3 .left in
+    let t4 : reads ground "Unread" ≡ true = sym (fourth .before .is-text4 .ensures) ∙ fourth .if4 .taken in
     rw (t1, t2, t3, t4)
 
 returns-5 : tie.Need-returns-5
 unfolding groundClass
 returns-5 c =
-    let past-inferred = c .before .before .before in
-    let past-tied = past-inferred .before .before .before in
-    let past-won = past-tied .before .before .before in
-    let ground = past-won .before .before .before .before .args .ground .now in
-    let t1 : reads ground "Won" ≡ false = cc in
-    let t2 : reads ground "Tied" ≡ false = cc in
-    let t3 : reads ground "Inferred" ≡ false = cc in
-    let t4 : reads ground "Unread" ≡ false = cc in
+    let fourth = c in
+    let third = fourth .before .before .before in
+    let second = third .before .before .before in
+    let first = second .before .before .before in
+    let ground = first .before .before .before .before .args .ground .now in
+    let t1 : reads ground "Won" ≡ false = sym (first .before .is-text .ensures) ∙ first .if1 .left in
+    let t2 : reads ground "Tied" ≡ false = sym (second .before .is-text2 .ensures) ∙ second .if2 .left in
+    let t3 : reads ground "Inferred" ≡ false = sym (third .before .is-text3 .ensures) ∙ third .if3 .left in
+    let t4 : reads ground "Unread" ≡ false = sym (fourth .before .is-text4 .ensures) ∙ fourth .if4 .left in
     rw (t1, t2, t3, t4)
 
 pub ground-class-spec : {M : Type 1} → statement M
