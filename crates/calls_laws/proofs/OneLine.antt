@@ -6,8 +6,8 @@ use Prim.Native.Nat.{ℕ, zero, suc, _+_, _*_}
 use Prim.Native.String as text
 use lib.Dec.{eqb, ltb, T}
 use lib.Ieee.Fits.{and-i, and-l, and-r}
-use lib.ListN.{length, getD, take, drop, length-map}
-use Rattle.lists.specs.Every.{every, Each}
+use lib.ListN.{length, take, drop, length-map}
+use Rattle.lists.specs.Every.{Each}
 use Rattle.lists.specs.Lists.{someIn}
 use Rattle.text_reading.specs.Fields.{onFirst, fieldsOf}
 use Rattle.text_reading.specs.Texts.{bytesOf}
@@ -20,17 +20,17 @@ use Rattle.calls_lines.specs.Lines.{tab, carriageReturn, body, isNote}
 use Rattle.calls_writing.specs.Trio.{trioFields, trioText}
 use Rattle.calls_writing.specs.Diploid.{diploidFields, diploidText}
 use Rattle.calls_writing.specs.Mosaic.{mosaicFields, mosaicText}
-use Rattle.calls_writing.proofs.FieldLaws.{without}
-use Rattle.calls_writing.proofs.PlainLaws.{Plain, trio-plain, diploid-plain, mosaic-plain, answer-line, unreadable-line}
+use Rattle.calls_laws.proofs.PlainLaws.{Plain, trio-plain, diploid-plain, mosaic-plain, answer-line, unreadable-line}
 use Rattle.calls_answers.specs.declared.kinds.Kind.{Kind}
 use Rattle.calls_answers.specs.declared.kinds.Kind.the-variants.{Trio, Trio2, Family, Family2, Diploid, Mosaic, Unknown}
 use Rattle.calls_answers.specs.Numbers.{isCount, countValue, isWeight, leading}
 use Rattle.calls_answers.specs.Kinds.{kindOf}
 use Rattle.calls_answers.specs.Families.{callIn}
 use Rattle.calls_answers.specs.Answers.{fieldAt, bad, clustersText, familyText, threeCountsText, allelesText, numbersText, isKnown}
 use Rattle.calls_answers.specs.Answers.{fieldsText, tooLongText, bodyText, answerText}
-use Rattle.calls_answers.specs.Inputs.{unendedLine, linesOf, answersTo, answersText}
-use Rattle.calls_answers.proofs.InputLaws.{ends-newline, nothing-behind, lines-parted}
+use Rattle.calls_laws.specs.Inputs.{unendedLine, linesOf, answersTo, answersText}
+use Rattle.calls_laws.proofs.InputLaws.{ends-newline, nothing-behind, lines-parted}
+use Rattle.calls_laws.specs.Written.{without}
 
 -- no newline
 abbrev pub Single : List ℕ → Type 0

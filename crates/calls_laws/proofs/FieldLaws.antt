@@ -8,11 +8,8 @@ use lib.Dec.{eqb, T}
 use lib.Ieee.Fits.{and-l, and-r}
 use Rattle.lists.specs.Every.{every}
 use Rattle.text_reading.specs.Fields.{onFirst, fieldsOf}
 use Rattle.calls_writing.specs.Words.{joined, behindEach}
-
--- no byte of a text is b
-abbrev pub without : ℕ → List ℕ → Bool
-without b = every (λ x. not (eqb x b))
+use Rattle.calls_laws.specs.Written.{without}
 
 differs : (t : Bool) → T (not t) → t ≡ false
 differs true h = absurd h

@@ -1,6 +1,6 @@
 -- No byte of an answer is a tab or a newline but the tabs between its fields: its fields come back, and it is one line. Assumes nothing.
-use mathlib.Core.Path.{_≡_, refl, sym, ap, subst}
-use mathlib.Core.Bool.{Bool, true, false, not, cond, _&&_, _||_}
+use mathlib.Core.Path.{_≡_, refl, sym, subst}
+use mathlib.Core.Bool.{Bool, true, false, not, cond, _||_}
 use mathlib.Core.List.{List, [], _∷_, _++_, map}
 use Prim.Native.Nat.{ℕ, _+_, _/_, _%_, _<_}
 use native.Mathlib.Omega.{arith}
@@ -37,14 +37,15 @@ use Rattle.trio_family.specs.declared.pair.Triple.{Triple}
 use Rattle.trio_reads.specs.declared.flags.PairRead.{PairRead}
 use Rattle.trio_reads.specs.declared.flags.TripleRead.{TripleRead}
 use Rattle.trio_triples.specs.Genotypes.{tripleOf}
 use Rattle.calls_writing.specs.Words.{tab, comma, slash, colon, behindEach, joined, dash, listText, pairText, figure, siteAnswer}
 use Rattle.calls_writing.specs.Unreadable.{siteText, unreadableText}
 use Rattle.calls_writing.specs.Trio.{groundName, pairFields, alleleText, notReadOf, notRead, runnerFields, nothingCompared, scoreFields}
 use Rattle.calls_writing.specs.Trio.{trioFields, trioText}
 use Rattle.calls_writing.specs.Diploid.{stateName, diploidFields, diploidText}
 use Rattle.calls_writing.specs.Mosaic.{germlinePair, vafText, somaticTexts, mosaicFields, mosaicText}
-use Rattle.calls_writing.proofs.FieldLaws.{without, fields-back}
-use Rattle.calls_writing.proofs.WrittenBack.{whole-digits}
+use Rattle.calls_laws.proofs.FieldLaws.{fields-back}
+use Rattle.calls_laws.proofs.WrittenBack.{whole-digits}
+use Rattle.calls_laws.specs.Written.{without}
 
 -- ---- plain texts: every byte is a space or a later one
 
@@ -285,6 +286,20 @@ unfolding siteAnswer
 answer-back kind site k s r call plain =
     fields-back tab kind (site ∷ wholeText (numberOf r) ∷ bytesOf (spelled r) ∷ cond (eqb (numberOf r) 0) call [])
     (fields-without tab (omega arith) kind site k s r call plain)
+
+-- A13 to A15: so do those of each kind's
+module _ (kind site : List ℕ) (k : T (without tab kind)) (s : T (without tab site)) where
+  pub trio-back : (n : ℕ) (c : Closed) → fieldsOf tab (trioText kind site n c) ≡ answerFields kind site (c .refusal) (trioFields n c)
+  unfolding trioText
+  trio-back n c = answer-back kind site k s (c .refusal) (trioFields n c) (trio-plain n c)
+
+  pub diploid-back : (r : GenotypeResult) → fieldsOf tab (diploidText kind site r) ≡ answerFields kind site (r .refusal) (diploidFields r)
+  unfolding diploidText
+  diploid-back r = answer-back kind site k s (r .refusal) (diploidFields r) (diploid-plain r)
+
+  pub mosaic-back : (r : MosaicResult) → fieldsOf tab (mosaicText kind site r) ≡ answerFields kind site (r .refusal) (mosaicFields r)
+  unfolding mosaicText
+  mosaic-back r = answer-back kind site k s (r .refusal) (mosaicFields r) (mosaic-plain r)
 
 -- A12: an answer is one line, where kind and site have no newline
 pub answer-line : (kind site : List ℕ) → T (without newline kind) → T (without newline site) → (r : Refusal) (call : List (List ℕ))

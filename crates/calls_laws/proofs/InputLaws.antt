@@ -2,7 +2,7 @@
 use mathlib.Core.Path.{_≡_, refl, sym, ap, _∙_}
 use mathlib.Core.Bool.{Bool, true, false, cond}
 use mathlib.Core.List.{List, [], _∷_, _++_, map, append-nil, append-assoc}
-use Prim.Native.Nat.{ℕ, suc, _≤_, _<_, min}
+use Prim.Native.Nat.{ℕ, suc, _≤_, _<_}
 use native.Mathlib.Omega.{arith}
 use borrow.Author.Tests.{lt-ltb, leb-true, leb-false}
 use lib.Dec.{eqb, leb, T}
@@ -15,12 +15,12 @@ use Rattle.text_lines.proofs.LineLaws.{lines-cut, rest-cut}
 use Rattle.calls_settings.specs.declared.settings.Settings.{Settings}
 use Rattle.calls_lines.specs.Lines.{carriageReturn, body}
 use Rattle.calls_lines.proofs.LineLaws.{body-taken, note-long}
 use Rattle.calls_answers.specs.Answers.{tooLongText, bodyText, answerText}
-use Rattle.calls_answers.specs.Inputs.{unendedLine, linesOf, answersTo, answersText, endsLine, cutBehindLines}
+use Rattle.calls_laws.specs.Inputs.{unendedLine, linesOf, answersTo, answersText, endsLine, cutBehindLines}
 
 -- ---- cut behind lines
 
-answers-append : (s : Settings) (a b : List (List ℕ)) → answersTo s (a ++ b) ≡ answersTo s a ++ answersTo s b
+pub answers-append : (s : Settings) (a b : List (List ℕ)) → answersTo s (a ++ b) ≡ answersTo s a ++ answersTo s b
 answers-append s [] b = refl
 answers-append s (l ∷ a) b =
     ap (λ (m : List ℕ). answerText s l ++ (newline ∷ m)) (answers-append s a b)

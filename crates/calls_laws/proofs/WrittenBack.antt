@@ -23,8 +23,9 @@ use Rattle.text_reading.proofs.DecimalBack.{point-read}
 use Rattle.text_writing.specs.Laying.{glyphOf, textOf, wholeText}
 use Rattle.text_writing.specs.Figures.{figureText}
 use Rattle.trio_family.specs.declared.pair.Pair.{Pair}
 use Rattle.calls_writing.specs.Words.{slash, pairText}
-use Rattle.calls_writing.proofs.FieldLaws.{without, fields-back}
+use Rattle.calls_laws.proofs.FieldLaws.{fields-back}
+use Rattle.calls_laws.specs.Written.{without}
 
 -- ---- digits
 

@@ -1,14 +1,13 @@
 -- A site that was written as a line is read back: its answer is that of the call of its counts. Assumes nothing.
-use mathlib.Core.Path.{_≡_, refl, sym, ap, _∙_, subst}
-use mathlib.Core.Bool.{Bool, true, false, not, cond, _&&_, and-false}
+use mathlib.Core.Path.{_≡_, refl, sym, ap, _∙_}
+use mathlib.Core.Bool.{Bool, true, false, not, cond, and-false}
 use mathlib.Core.List.{List, [], _∷_, _++_, map, append-assoc}
-use Prim.Native.Nat.{ℕ, suc, _+_, _-_, _*_, _^_, _≤_, _<_, min}
+use Prim.Native.Nat.{ℕ, suc, _-_, _*_, _^_, _≤_, _<_, min}
 use Prim.Native.String as text
 use native.Mathlib.Nat.{lt-of-lt-of-le, le-of-eq}
 use native.Mathlib.Omega.{arith}
 use borrow.Author.Tests.{le-leb, le-ltb}
-use lib.Dec.{eqb, leb, ltb, lit≤, T}
-use lib.Ieee.{Float}
+use lib.Dec.{eqb, leb, lit≤, T}
 use lib.Ieee.Fits.{and-i, and-l, and-r}
 use lib.ListN.{length, take, drop, replicate, length-map, drop-of-length-le}
 use lib.Seq.{take-all}
@@ -24,13 +23,14 @@ use Rattle.calls_settings.specs.declared.settings.Settings.{Settings}
 use Rattle.calls_lines.specs.Lines.{carriageReturn, body, isNote}
 use Rattle.calls_writing.specs.Words.{tab, behindEach, joined}
 use Rattle.calls_writing.specs.Trio.{trioText}
-use Rattle.calls_writing.proofs.FieldLaws.{without, fields-back}
-use Rattle.calls_writing.proofs.PlainLaws.{Plain, each-without, whole-plain, without-behind}
-use Rattle.calls_writing.proofs.WrittenBack.{whole-number, whole-short, all-digits}
+use Rattle.calls_laws.proofs.FieldLaws.{fields-back}
+use Rattle.calls_laws.proofs.PlainLaws.{Plain, each-without, whole-plain, without-behind}
+use Rattle.calls_laws.proofs.WrittenBack.{whole-number, whole-short, all-digits}
 use Rattle.calls_answers.specs.Kinds.{kindOf, animalKind}
-use Rattle.calls_answers.specs.Numbers.{isCount, countValue, isWeight, leading}
+use Rattle.calls_answers.specs.Numbers.{isCount, countValue, leading}
 use Rattle.calls_answers.specs.Families.{ordered, callIn}
 use Rattle.calls_answers.specs.Answers.{clustersText, familyText, fieldsText, bodyText, answerText}
+use Rattle.calls_laws.specs.Written.{without, Small, siteLine, familyName, ruleNumber}
 
 -- ---- the numbers
 
@@ -49,10 +49,6 @@ count-back n h =
 
     least : (n : ℕ) → n ≤ 2 ^ 32 - 1 → min n (2 ^ 32 - 1) ≡ n
     least n h = omega arith
-
--- a count that a call can take
-abbrev pub Small : ℕ → Type 0
-Small c = c ≤ 2 ^ 32 - 1
 
 pub counts-pass : (counts : List ℕ) → Each Small counts → leading isCount (map wholeText counts) ≡ length counts
 counts-pass [] h = refl
@@ -101,10 +97,6 @@ module _ (animals : Bool) (rule n : ℕ) (counts : List ℕ) (small : Each Small
 
 -- ---- a whole line
 
--- A10: the line of a site whose counts have no weights: the kind, the site, n, the counts
-abbrev pub siteLine : List ℕ → List ℕ → ℕ → List ℕ → List ℕ
-siteLine kind site n counts = joined tab (kind ∷ site ∷ wholeText n ∷ map wholeText counts)
-
 numbers-plain : (counts : List ℕ) → Each Plain (map wholeText counts)
 numbers-plain [] = tt
 numbers-plain (c ∷ counts) = (whole-plain c, numbers-plain counts)
@@ -149,17 +141,6 @@ body-line kind site n counts =
         body-whole tab last
         (without-behind carriageReturn tab tt (wholeText n ∷ map wholeText counts)
         (each-without carriageReturn (wholeText n ∷ map wholeText counts) (omega arith) (whole-plain n, numbers-plain counts)))
-
--- A10: the names of the kinds of families: counts cluster by cluster or animal by animal, under rule 1 or 2
-abbrev pub familyName : Bool → Bool → text.String
-familyName false false = "trio"
-familyName false true = "trio2"
-familyName true false = "family"
-familyName true true = "family2"
-
-abbrev pub ruleNumber : Bool → ℕ
-ruleNumber false = 1
-ruleNumber true = 2
 
 no-note : (animals second : Bool) (l : List ℕ) → isNote (bytesOf (familyName animals second) ++ l) ≡ false
 unfolding isNote
