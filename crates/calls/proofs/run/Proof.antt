@@ -7,11 +7,11 @@ use Rattle.calls.proofs.run.Statement.{statement}
 use Rattle.calls.proofs.run.Tie as tie
 
 abbrev Inv-loop : tie.InvT-loop
-Inv-loop settings input₀ line₀ text₀ told carried₀ shown₀ turns₀ more₀ input line text carried shown turns more = 
+Inv-loop settings input₀ line₀ text₀ told carried₀ shown₀ turns₀ more₀ input line text carried shown turns more =
     (65536 ≡ length input) × (65536 ≡ length line) × (65536 ≡ length text)
 
 abbrev μ-loop : tie.MeasureT-loop
-μ-loop settings input₀ line₀ text₀ told carried₀ shown₀ turns₀ more₀ input line text carried shown turns more = 
+μ-loop settings input₀ line₀ text₀ told carried₀ shown₀ turns₀ more₀ input line text carried shown turns more =
     turns
 
 large-buffer-requires : tie.Need-large-buffer-requires Inv-loop μ-loop
