@@ -111,7 +111,8 @@ module _ (animals : Bool) (rule n : ℕ) (fields : List (List ℕ)) (many weighe
     weights-right : n ≤ 8 → (weighed ≡ 0) ⊎ (weighed ≡ n) → (l : List (List ℕ)) → weightFields ≡ l → take n weights ≡ weightsOf n l
     weights-right h o [] e =
         let none : weighed ≡ 0 = r .weights-many-are ∙ ap length e in
-        let ones : weights ≡ replicate 8 (nat 1) = subst (λ (k : ℕ). drop k weights ≡ drop k (replicate 8 (nat 1))) none (r .weights-else) in
+        let ones : weights ≡ replicate 8 (nat 1) =
+        subst (λ (k : ℕ). drop k weights ≡ drop k (replicate 8 (nat 1))) none (r .weights-else) in
         let eight : 8 ≡ n + (8 - n) = omega arith in
         ap (take n) ones ∙ ap (λ (k : ℕ). take n (replicate k (nat 1))) eight ∙ take-ones (nat 1) n (8 - n)
     weights-right h (inl z) (w ∷ ws) e = let no : ⊥ = omega (arith, r .weights-many-are ∙ ap length e) in absurd no
@@ -142,7 +143,8 @@ module _ (animals : Bool) (rule n : ℕ) (fields : List (List ℕ)) (many weighe
 
         other-weights : (weighed ≡ 0 → ⊥) → (weighed ≡ n → ⊥) → length theirWeights ≡ n → ⊥
         other-weights zero-no n-no q =
-            n-no (r .weights-many-are ∙ sym (weights-many n weightFields (more (length weightFields) (λ z. zero-no (r .weights-many-are ∙ z)))) ∙ q)
+            let some = more (length weightFields) (λ z. zero-no (r .weights-many-are ∙ z)) in
+            n-no (r .weights-many-are ∙ sym (weights-many n weightFields some) ∙ q)
 
         go : (s : Bool) → eqb many (3 * n) ≡ s → (t : Bool) → eqb weighed 0 ≡ t → (u : Bool) → eqb weighed n ≡ u
             → (s && (t || u)) ≡ false

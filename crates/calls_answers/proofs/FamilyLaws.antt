@@ -153,8 +153,10 @@ shaped-right n c w e = go (leb n 8) refl (eqb c (3 * n)) refl (eqb w 0) refl (eq
   where
     go : (s : Bool) → leb n 8 ≡ s → (t : Bool) → eqb c (3 * n) ≡ t → (u : Bool) → eqb w 0 ≡ u → (v : Bool) → eqb w n ≡ v
         → (s && (t && (u || v))) ≡ true → Shape n c w
-    go true p true q true r v z f = record { few-clusters = leb-true n 8 p; counted = eqb-true c (3 * n) q; weighing = inl (eqb-true w 0 r) }
-    go true p true q false r true z f = record { few-clusters = leb-true n 8 p; counted = eqb-true c (3 * n) q; weighing = inr (eqb-true w n z) }
+    go true p true q true r v z f =
+        record { few-clusters = leb-true n 8 p; counted = eqb-true c (3 * n) q; weighing = inl (eqb-true w 0 r) }
+    go true p true q false r true z f =
+        record { few-clusters = leb-true n 8 p; counted = eqb-true c (3 * n) q; weighing = inr (eqb-true w n z) }
     go true p true q false r false z f = absurd (true≢false (sym f))
     go true p false q u r v z f = absurd (true≢false (sym f))
     go false p t q u r v z f = absurd (true≢false (sym f))

@@ -43,7 +43,8 @@ module _ (l : List ℕ) where
   unfolding shortWholeOf countOf
   count-none e = go (isCount l) e
     where
-      go : (t : Bool) → cond t (whole.Is (number l)) whole.Unreadable ≡ whole.Unreadable → Unreadable ≡ cond t (Is (countValue l)) Unreadable
+      go : (t : Bool) → cond t (whole.Is (number l)) whole.Unreadable ≡ whole.Unreadable
+          → Unreadable ≡ cond t (Is (countValue l)) Unreadable
       go true e = absurd (never (number l) (sym e))
       go false e = refl
 
@@ -51,7 +52,8 @@ module _ (l : List ℕ) where
   unfolding shortWholeOf countOf
   count-read n e = go (isCount l) e
     where
-      go : (t : Bool) → cond t (whole.Is (number l)) whole.Unreadable ≡ whole.Is n → Is (min n (2 ^ 32 - 1)) ≡ cond t (Is (countValue l)) Unreadable
+      go : (t : Bool) → cond t (whole.Is (number l)) whole.Unreadable ≡ whole.Is n
+          → Is (min n (2 ^ 32 - 1)) ≡ cond t (Is (countValue l)) Unreadable
       go false e = absurd (never n e)
       go true e = ap (λ (w : Whole). Is (min (digitsOf w) (2 ^ 32 - 1))) (sym e)
 

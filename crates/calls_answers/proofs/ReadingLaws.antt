@@ -1,4 +1,5 @@
--- A run of fields, read one by one until so many are read, one does not pass or the line ends: over any test and any value. Assumes nothing.
+-- A run of fields, read one by one until so many are read, one does not pass or the line ends: over any test and any value.
+-- Assumes nothing.
 use mathlib.Core.Path.{_≡_, refl, sym, ap, _∙_, subst}
 use mathlib.Core.Bool.{Bool, true, false, cond}
 use mathlib.Core.List.{List, [], _∷_, _++_, map}

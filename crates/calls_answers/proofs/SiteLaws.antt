@@ -104,7 +104,8 @@ module _ {A : Type 0} (passes : List ℕ → Bool) (value : List ℕ → A) (bef
   pub all-pass : (wanted ≤ run .many) ⊎ (length line < run .next) → ltb (leading passes asked) (length asked) ≡ false
   all-pass o = ap (λ (k : ℕ). ltb k (length asked)) (sym (r .many-are) ∙ all-many o) ∙ le-ltb (length asked) (length asked) (omega arith)
 
-  pub behind-all : (wanted ≤ run .many) ⊎ (length line < run .next) → fieldsFrom tab (run .next) line ≡ drop wanted (fieldsFrom tab start line)
+  pub behind-all : (wanted ≤ run .many) ⊎ (length line < run .next)
+      → fieldsFrom tab (run .next) line ≡ drop wanted (fieldsFrom tab start line)
   behind-all (inl h) =
       let g = many-within in
       let same : run .many ≡ wanted = omega arith in
@@ -128,7 +129,8 @@ module _ (animals : Bool) (rule n : ℕ) (kind site line : List ℕ) (start : �
   unfolding clustersText
   bad-count h g = rw (stopped _ _ counts₀ line start (3 * n) c counts r h g, r .many-are)
 
-  module _ (o : (3 * n ≤ c .many) ⊎ (length line < c .next)) (few : length line ≤ 4096) (weights₀ : List Float) (w : Run) (weights : List Float)
+  module _ (o : (3 * n ≤ c .many) ⊎ (length line < c .next)) (few : length line ≤ 4096) (weights₀ : List Float) (w : Run)
+      (weights : List Float)
       (s : WeightsRead weights₀ line (c .next) 4097 w weights) where
     abbrev later : List (List ℕ)
     later = drop (3 * n) numbers

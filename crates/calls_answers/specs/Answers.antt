@@ -92,8 +92,8 @@ fieldsText s fields =
     (cond (someIn site) (numbersText s (kindOf kind) kind site (drop 2 fields)) (bad [] 2 "a site"))
     (numbersText s Unknown kind site (drop 2 fields))
 
--- A9, A11: of a line that is too long the first 4,096 bytes are looked at: the last of their fields is the bad one, and the site is known if
--- it is not the second
+-- A9, A11: of a line that is too long the first 4,096 bytes are looked at: the last of their fields is the bad one, and the site is known
+-- if it is not the second
 unfoldable pub tooLongText : List ℕ → List ℕ
 tooLongText line =
     let fields = fieldsOf tab (take 4096 line) in

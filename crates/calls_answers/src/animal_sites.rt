@@ -32,7 +32,13 @@ fn genotyped(model: Model, table: [f64; 34], used: usize, counts: [u32; 24]) -> 
     diploid::genotype::genotype(model, &table[..used], counts[0], counts[1], counts[2])
 }
 
-pub fn diploid(settings: Settings, line: &[u8], site: usize, text: &mut [u8], at: usize) -> usize
+pub(crate) fn diploid(
+    settings: Settings,
+    line: &[u8],
+    site: usize,
+    text: &mut [u8],
+    at: usize,
+) -> usize
     ensures { λ r. ⌜ LaidAt (now (text .entry)) at (threeCountsText settings (upTo tab (now (line .entry)))
         (upTo tab (drop site (now (line .entry)))) (drop 1 (fieldsFrom tab site (now (line .entry))))) r (now (text .exit)) ⌝ }
 {
@@ -67,7 +73,13 @@ fn called(params: Params, many: usize, counts: [u32; 24]) -> MosaicResult
     mosaic::genotype::genotype(params, &counts[..many])
 }
 
-pub fn mosaic(settings: Settings, line: &[u8], site: usize, text: &mut [u8], at: usize) -> usize
+pub(crate) fn mosaic(
+    settings: Settings,
+    line: &[u8],
+    site: usize,
+    text: &mut [u8],
+    at: usize,
+) -> usize
     requires { ⌜ length (now line) ≤ 4096 ⌝ }
     ensures { λ r. ⌜ LaidAt (now (text .entry)) at (allelesText settings (upTo tab (now (line .entry)))
         (upTo tab (drop site (now (line .entry)))) (drop 1 (fieldsFrom tab site (now (line .entry))))) r (now (text .exit)) ⌝ }

@@ -46,7 +46,7 @@ fn call_in_order(n: u64, counts: [u32; 24], weights: [f64; 8], rule: u64) -> Clo
 }
 
 // The call of what was read: so many counts and weights in their places.
-pub fn call_from(
+pub(crate) fn call_from(
     by_animal: bool,
     rule: u64,
     n: u64,

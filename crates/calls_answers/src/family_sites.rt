@@ -63,7 +63,7 @@ fn clusters(
 }
 
 // The answer to a site of a kind that starts at a place.
-pub fn family(
+pub(crate) fn family(
     line: &[u8],
     site: usize,
     by_animal: bool,

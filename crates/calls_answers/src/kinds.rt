@@ -26,7 +26,7 @@ fn animal_kind(field: &[u8]) -> Kind
     Kind::Unknown
 }
 
-pub fn kind_of(field: &[u8]) -> Kind
+pub(crate) fn kind_of(field: &[u8]) -> Kind
     ensures { λ r. ⌜ r ≡ kindOf (now (field .entry)) ⌝ }
 {
     if is_text(field, b"trio") {

@@ -22,7 +22,7 @@ pub struct Run {
 }
 
 // A whole number of at most 15 digits.
-pub fn short_whole(digits: &[u8]) -> Whole
+pub(crate) fn short_whole(digits: &[u8]) -> Whole
     ensures { λ r. ⌜ r ≡ shortWholeOf (now (digits .entry)) ⌝ }
 {
     if digits.len() > 15 {
@@ -32,7 +32,7 @@ pub fn short_whole(digits: &[u8]) -> Whole
 }
 
 // A count. What no u32 holds is handed on as the largest one, and so gets its refusal.
-pub fn read_count(digits: &[u8]) -> Count
+pub(crate) fn read_count(digits: &[u8]) -> Count
     ensures { λ r. ⌜ r ≡ countOf (now (digits .entry)) ⌝ }
 {
     let Whole::Is(n) = short_whole(digits) else {
@@ -52,8 +52,9 @@ fn put_count(counts: &mut [u32], i: usize, x: u32)
     }
 }
 
-// Reads counts, from the field that starts at a place on, until so many are read, the line ends or a field is none. As many as there are places for are kept.
-pub fn read_counts(line: &[u8], start: usize, wanted: usize, counts: &mut [u32]) -> Run
+// Reads counts, from the field that starts at a place on, until so many are read, the line ends or a field is none. As many
+// as there are places for are kept.
+pub(crate) fn read_counts(line: &[u8], start: usize, wanted: usize, counts: &mut [u32]) -> Run
     ensures { λ r. ⌜ CountsRead (now (counts .entry)) (now (line .entry)) start wanted r (now (counts .exit)) ⌝ }
 {
     let mut at = start;
@@ -78,7 +79,7 @@ fn put_weight(weights: &mut [f64], i: usize, x: f64)
 }
 
 // The same of weights.
-pub fn read_weights(line: &[u8], start: usize, wanted: usize, weights: &mut [f64]) -> Run
+pub(crate) fn read_weights(line: &[u8], start: usize, wanted: usize, weights: &mut [f64]) -> Run
     ensures { λ r. ⌜ WeightsRead (now (weights .entry)) (now (line .entry)) start wanted r (now (weights .exit)) ⌝ }
 {
     let mut at = start;

@@ -160,7 +160,9 @@ unfolding tooLongText
 long-single line h =
     let fields = fieldsOf tab (take 4096 line) in
     unreadable-line (cond (ltb 2 (length fields)) (fieldAt 1 fields) []) (length fields) (bytesOf "a shorter line")
-    (either (ltb 2 (length fields)) (fieldAt 1 fields) [] (single-at fields 1 (single-fields (take 4096 line) (single-take 4096 line h))) tt) tt
+    (either (ltb 2 (length fields)) (fieldAt 1 fields) []
+    (single-at fields 1 (single-fields (take 4096 line) (single-take 4096 line h))) tt)
+    tt
 
 body-single : (s : Settings) (line : List ℕ) → Single line → Single (bodyText s line)
 unfolding bodyText
@@ -186,7 +188,8 @@ lines-single : (l bs : List ℕ) → Single l → Each Single (linesFrom l bs)
 lines-single l [] h = tt
 lines-single l (b ∷ bs) h = go (eqb b newline) refl (lines-single [] bs tt) (λ g. lines-single (l ++ (b ∷ [])) bs g)
   where
-    go : (t : Bool) → eqb b newline ≡ t → Each Single (linesFrom [] bs) → (Single (l ++ (b ∷ [])) → Each Single (linesFrom (l ++ (b ∷ [])) bs))
+    go : (t : Bool) → eqb b newline ≡ t → Each Single (linesFrom [] bs)
+        → (Single (l ++ (b ∷ [])) → Each Single (linesFrom (l ++ (b ∷ [])) bs))
         → Each Single (cond t (l ∷ linesFrom [] bs) (linesFrom (l ++ (b ∷ [])) bs))
     go true e ended going = (h, ended)
     go false e ended going = going (single-more l b h e)

@@ -85,7 +85,8 @@ each-without b (f ∷ fs) h p = and-i (without b f) (every (without b) fs) (with
 
 plain-behind : (b : ℕ) (fs : List (List ℕ)) → T (leb 32 b) → Each Plain fs → Plain (behindEach b fs)
 plain-behind b [] h p = tt
-plain-behind b (f ∷ fs) h p = plain-both (b ∷ f) (behindEach b fs) (and-i (leb 32 b) (every (leb 32) f) h (p .0)) (plain-behind b fs h (p .1))
+plain-behind b (f ∷ fs) h p =
+    plain-both (b ∷ f) (behindEach b fs) (and-i (leb 32 b) (every (leb 32) f) h (p .0)) (plain-behind b fs h (p .1))
 
 plain-joined : (b : ℕ) (fs : List (List ℕ)) → T (leb 32 b) → Each Plain fs → Plain (joined b fs)
 plain-joined b [] h p = tt
@@ -232,7 +233,10 @@ somatic-plain vafs (i ∷ l) = (
 pub mosaic-plain : (r : MosaicResult) → Each Plain (mosaicFields r)
 mosaic-plain r = (
   pair-plain (germlinePair (r .ploidy) (r .germline)),
-  (plain-list (somaticTexts (r .somatic) (r .vafs)) (somatic-plain (r .vafs) (passing (λ i. getD (r .somatic) i false) (numbers 0 8))), (figure-plain (r .quality), tt)),
+  (
+    plain-list (somaticTexts (r .somatic) (r .vafs)) (somatic-plain (r .vafs) (passing (λ i. getD (r .somatic) i false) (numbers 0 8))),
+    (figure-plain (r .quality), tt),
+  ),
 )
 
 -- ---- an answer

@@ -33,7 +33,8 @@ pub counted-more : (line : List ℕ) (at many : ℕ) → Counted line at many �
 counted-more line at many s h next e = record {
   all-fields =
       ap (λ (k : ℕ). many + 1 + length (fieldsFrom tab k line)) e
-      ∙ one (length (fieldsFrom tab (fieldEnd tab at line + 1) line)) (length (fieldsFrom tab at line)) (ap length (fields-step tab at line h))
+      ∙ one (length (fieldsFrom tab (fieldEnd tab at line + 1) line)) (length (fieldsFrom tab at line))
+      (ap length (fields-step tab at line h))
       ∙ s .all-fields;
   behind = let past = field-end-past at line h in omega (arith, s .behind);
 }

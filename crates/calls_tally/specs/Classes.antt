@@ -30,8 +30,8 @@ groundClass f =
 abbrev pub fieldAt : ℕ → List ℕ → List ℕ
 fieldAt i l = getD (fieldsOf tab l) i []
 
--- A17: a note; `?` in the first field: it cannot be read; another number than `0` in the third: it is refused; else a call, whose ground would
--- be the eighth
+-- A17: a note; `?` in the first field: it cannot be read; another number than `0` in the third: it is refused; else a call, whose ground
+-- would be the eighth
 unfoldable pub classOf : List ℕ → Class
 classOf l =
     cond (startsNote l) Note

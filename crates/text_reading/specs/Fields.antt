@@ -30,7 +30,7 @@ fieldsOf b (x ∷ l) = cond (eqb x b) ([] ∷ fieldsOf b l) (onFirst x (fieldsOf
 
 -- ---- for the code
 
--- A1: the fields from the one that starts at a place on; none where that lies past the end. The field at the place is the first of them, and
--- the others start where `next_field` says: `fields-step`, `fields-none` (proofs/FieldLaws.antt)
+-- A1: the fields from the one that starts at a place on; none where that lies past the end. The field at the place is the first of them,
+-- and the others start where `next_field` says: `fields-step`, `fields-none` (proofs/FieldLaws.antt)
 abbrev pub fieldsFrom : ℕ → ℕ → List ℕ → List (List ℕ)
 fieldsFrom b start l = cond (leb start (length l)) (fieldsOf b (drop start l)) []

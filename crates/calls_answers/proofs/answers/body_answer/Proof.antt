@@ -36,7 +36,8 @@ returns-2 c =
     let long = said .before .before in
     let other = long .before in
     let a = other .before .before .before .before .args in
-    rw (sym (other .before .is-note .ensures) ∙ other .if1 .left, lt-ltb 4096 (length (a .line .now)) (search needs)) (said .too-long .ensures)
+    rw (sym (other .before .is-note .ensures) ∙ other .if1 .left, lt-ltb 4096 (length (a .line .now)) (search needs))
+    (said .too-long .ensures)
 
 site-answer-requires : tie.Need-site-answer-requires
 site-answer-requires c κs = search needs

@@ -105,10 +105,11 @@ returns-2 c =
     let l = a .line .now in
     let counts = read .read-counts .result in
     let weights = weighed .read-weights .result in
-    let went : (3 * a .n ≤ counts .many) ⊎ (length l < counts .next) = ⊎-elim (λ w. inr (leb-false (counts .next) (length l) (w .2 .left))) (λ w. inl (w .left)) (on .if1 .came) in
+    let went : (3 * a .n ≤ counts .many) ⊎ (length l < counts .next) =
+    ⊎-elim (λ w. inr (leb-false (counts .next) (length l) (w .2 .left))) (λ w. inl (w .left)) (on .if1 .came) in
     let right =
-    bad-weight (a .by-animal) (a .rule) (a .n) (upTo tab l) (upTo tab (drop (a .site) l)) l (a .start) _ counts _ (read .read-counts .ensures)
-    went (start .pre .0) _ weights _ (weighed .read-weights .ensures) (search needs) in
+    bad-weight (a .by-animal) (a .rule) (a .n) (upTo tab l) (upTo tab (drop (a .site) l)) l (a .start) _ counts _
+    (read .read-counts .ensures) went (start .pre .0) _ weights _ (weighed .read-weights .ensures) (search needs) in
     laid-as _ _ _ _ _ _ (said .lay-unreadable2 .ensures)
     (ap (λ (s : List ℕ). unreadableText s (4 + (counts .many + weights .many)) (bytesOf "a weight")) (shown .field2 .ensures) ∙ right)
 
@@ -144,7 +145,8 @@ returns-3 c =
     let counts = read .read-counts .result in
     let weights = weighed .read-weights .result in
     let closed = made .call-from .result in
-    let went : (3 * a .n ≤ counts .many) ⊎ (length l < counts .next) = ⊎-elim (λ w. inr (leb-false (counts .next) (length l) (w .2 .left))) (λ w. inl (w .left)) (on .if1 .came) in
+    let went : (3 * a .n ≤ counts .many) ⊎ (length l < counts .next) =
+    ⊎-elim (λ w. inr (leb-false (counts .next) (length l) (w .2 .left))) (λ w. inl (w .left)) (on .if1 .came) in
     let right =
     called-clusters (a .by-animal) (a .rule) (a .n) (upTo tab l) (upTo tab (drop (a .site) l)) l (a .start) _ counts _
     (read .read-counts .ensures) went (start .pre .0) _ weights _ (weighed .read-weights .ensures) (search needs) refl refl closed

@@ -92,7 +92,8 @@ returns-2 c =
     let first : fielded .field .result .now ≡ fieldAt 0 numbers =
     fielded .field .ensures ∙ fields-head tab (begun .next-field .result) l ∙ ap (fieldAt 0) at-first in
     let rest : fieldsFrom tab (next .next-field2 .result) l ≡ drop 1 numbers =
-    ap (λ (k : ℕ). fieldsFrom tab k l) (next .next-field2 .ensures) ∙ fields-rest tab (begun .next-field .result) l ∙ ap (drop 1) at-first in
+    ap (λ (k : ℕ). fieldsFrom tab k l) (next .next-field2 .ensures) ∙ fields-rest tab (begun .next-field .result) l
+    ∙ ap (drop 1) at-first in
     let some = sym (ap shortWholeOf first) ∙ sym (read .short-whole .ensures) ∙ told .n .given .1 in
     laid-as _ _ _ _ _ _ (said .clusters .ensures)
     (ap (clustersText (a .by-animal) (a .rule) (upTo tab l) (upTo tab (drop (a .site) l)) n) rest

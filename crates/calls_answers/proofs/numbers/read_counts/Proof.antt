@@ -70,7 +70,8 @@ loop-again c =
     let is : countOf (upTo tab (drop (turn .loop .at) (a .line .now))) ≡ _ =
     sym (ap countOf (read .before .field .ensures)) ∙ sym (read .read-count .ensures) ∙ told .x .given .1 in
     let passed = count-passes _ _ is in
-    subst (λ (n : ℕ). SoFar isCount countValue (a .counts .now) (a .line .now) (a .start) (a .wanted) n (turn .loop .i + 1) (put .put-count .last .0))
+    subst (λ (n : ℕ). SoFar isCount countValue (a .counts .now) (a .line .now) (a .start) (a .wanted) n (turn .loop .i + 1)
+    (put .put-count .last .0))
     (sym (c .next-field .ensures))
     (so-far-more isCount countValue (a .counts .now) (a .line .now) (a .start) (a .wanted) (turn .loop .inv) (search needs) (search needs)
     (passed .passing) _ (passed .valued) _ (put .put-count .ensures))

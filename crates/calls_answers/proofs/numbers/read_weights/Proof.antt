@@ -71,10 +71,11 @@ loop-again c =
     let is : decimalOf (upTo tab (drop (turn .loop .at) (a .line .now))) ≡ _ =
     sym (ap decimalOf (read .before .field .ensures)) ∙ sym (read .read-decimal .ensures) ∙ told .x .given .1 in
     let passed = weight-passes _ _ is in
-    subst (λ (n : ℕ). SoFar isWeight weightValue (a .weights .now) (a .line .now) (a .start) (a .wanted) n (turn .loop .i + 1) (put .put-weight .last .0))
+    subst (λ (n : ℕ). SoFar isWeight weightValue (a .weights .now) (a .line .now) (a .start) (a .wanted) n (turn .loop .i + 1)
+    (put .put-weight .last .0))
     (sym (c .next-field .ensures))
-    (so-far-more isWeight weightValue (a .weights .now) (a .line .now) (a .start) (a .wanted) (turn .loop .inv) (search needs) (search needs)
-    (passed .passing) _ (passed .valued) _ (put .put-weight .ensures))
+    (so-far-more isWeight weightValue (a .weights .now) (a .line .now) (a .start) (a .wanted) (turn .loop .inv) (search needs)
+    (search needs) (passed .passing) _ (passed .valued) _ (put .put-weight .ensures))
 
 same-length-2 : tie.Need-same-length-2 Inv-loop μ-loop
 same-length-2 c = c .before .before .loop .inv .size

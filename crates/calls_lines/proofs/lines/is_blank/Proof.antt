@@ -30,7 +30,8 @@ returns c =
     let turn = asked .before .before .before in
     let a = turn .before .before .args in
     let f = asked .is-space in
-    every-bad isSpace 0 (a .line .now) (turn .loop .i) (search needs) (sym (f .ensures) ∙ not-true (f .result) (c .if1 .taken)) ∙ turn .loop .inv .1
+    every-bad isSpace 0 (a .line .now) (turn .loop .i) (search needs) (sym (f .ensures) ∙ not-true (f .result) (c .if1 .taken))
+    ∙ turn .loop .inv .1
 
 add-i : tie.Need-add-i Inv-loop μ-loop
 add-i c = search needs
@@ -45,7 +46,8 @@ loop-again c =
     let a = turn .before .before .args in
     let f = asked .is-space in (
       search needs,
-      every-more isSpace 0 (a .line .now) (turn .loop .i) (search needs) (sym (f .ensures) ∙ not-false (f .result) (c .if1 .left)) ∙ turn .loop .inv .1,
+      every-more isSpace 0 (a .line .now) (turn .loop .i) (search needs) (sym (f .ensures) ∙ not-false (f .result) (c .if1 .left))
+          ∙ turn .loop .inv .1,
     )
 
 returns-2 : tie.Need-returns-2 Inv-loop μ-loop
