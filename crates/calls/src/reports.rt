@@ -20,8 +20,11 @@ pub fn now() -> u64 {
 
 // Says how many sites there were so far, if the clock's whole seconds since it was last said are two or more, so that more than a second
 // has passed; answers when it was last said.
-pub fn progress(told: bool, tally: Tally, shown: u64) -> u64 {
+pub fn progress(told: bool, answers_seen: bool, tally: Tally, shown: u64) -> u64 {
     if !told {
+        return shown;
+    }
+    if answers_seen {
         return shown;
     }
     let seconds = now();

@@ -1,24 +1,24 @@
 -- The call of what was read is the call of the fields that it was read from. Assumes nothing.
 use mathlib.Core.Path.{_≡_, refl, sym, ap, _∙_, subst}
 use mathlib.Core.Logic.{_⊎_, inl, inr}
-use mathlib.Core.Bool.{Bool, true, false, cond, not, _&&_, _||_, true≢false, and-false}
+use mathlib.Core.Bool.{Bool, true, false, cond, _&&_, _||_, true≢false, and-false}
 use mathlib.Core.List.{List, [], _∷_, map}
 use Prim.Native.Nat.{ℕ, zero, suc, _+_, _-_, _*_, _≤_, _<_}
 use native.Mathlib.Nat.{le-of-eq, le-trans}
 use native.Mathlib.Omega.{arith}
-use borrow.Author.Tests.{eq-eqb, ne-eqb, le-leb, lt-leb, lt-ltb, le-ltb, ltb-true, ltb-false, leb-false, eqb-true, eqb-false}
-use lib.Dec.{eqb, leb, ltb}
+use borrow.Author.Tests.{eq-eqb, ne-eqb, le-leb, lt-ltb, le-ltb, ltb-true, ltb-false, eqb-false}
+use lib.Dec.{eqb, ltb}
 use lib.ListN.{length, take, drop, replicate, length-drop, length-map}
 use lib.Ieee.{Float}
-use lib.Seq.{length-take-le, take-all}
+use lib.Seq.{take-all}
 use Rattle.floats.specs.F64.{nat}
 use Rattle.refusals.specs.declared.Refusal.the-variants.{NoCluster, TooMany, Shape as WrongShape}
 use Rattle.trio_parts.specs.Part.{emptyPart, gives}
 use Rattle.trio_opening.specs.Opening.{openStep}
 use Rattle.trio_desks.specs.Call.{calledBy, callOf}
 use Rattle.calls_answers.specs.Numbers.{countValue, weightValue}
-use Rattle.calls_answers.specs.Families.{interleaved, byAnimal, ordered, weightsOf, callIn, shaped, calledFrom}
-use Rattle.calls_answers.proofs.FamilyLaws.{Shape, shaped-right}
+use Rattle.calls_answers.specs.Families.{interleaved, ordered, weightsOf, callIn, shaped, calledFrom}
+use Rattle.calls_answers.proofs.FamilyLaws.{shaped-right}
 
 -- ---- refusals that only the number of clusters, of counts and of weights decides
 

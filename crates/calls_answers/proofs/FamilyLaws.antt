@@ -1,16 +1,15 @@
 -- Counts animal by animal and cluster by cluster, the shape of what was read, and the call of it. Assumes nothing.
 use mathlib.Core.Path.{_≡_, refl, sym, ap, _∙_}
-use mathlib.Core.Bool.{Bool, true, false, cond, not, _&&_, _||_, and-false, true≢false}
+use mathlib.Core.Bool.{Bool, true, false, _&&_, _||_, true≢false}
 use mathlib.Core.Logic.{_⊎_, inl, inr}
-use mathlib.Core.List.{List, [], _∷_, _++_, map, append-assoc, append-nil}
+use mathlib.Core.List.{List, [], _∷_, _++_, append-assoc, append-nil}
 use Prim.Native.Nat.{ℕ, zero, suc, _+_, _-_, _*_, _≤_, _<_}
 use native.Mathlib.Nat.{zero-add}
-use native.Mathlib.Numerals.{add-one}
 use native.Mathlib.Omega.{arith}
-use borrow.Author.Tests.{eq-eqb, ne-eqb, le-leb, lt-leb, leb-true, eqb-true}
-use lib.Dec.{eqb, leb, ltb}
+use borrow.Author.Tests.{leb-true, eqb-true}
+use lib.Dec.{eqb, leb}
 use lib.ListN.{length, getD, take, drop, set, length-set, length-drop, drop-of-length-le}
-use lib.Seq.{length-take-le, take-take, take-suc-set, getD-take, getD-drop, drop-nil, take-nil}
+use lib.Seq.{length-take-le, take-take, take-suc-set, getD-take, getD-drop, take-nil}
 use Rattle.lists.proofs.PlaceLaws.{drop-next}
 use Rattle.calls_answers.specs.Families.{interleaved, byAnimal, shaped}
 

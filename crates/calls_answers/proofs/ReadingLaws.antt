@@ -1,10 +1,10 @@
 -- A run of fields, read one by one until so many are read, one does not pass or the line ends: over any test and any value.
 -- Assumes nothing.
-use mathlib.Core.Path.{_≡_, refl, sym, ap, _∙_, subst}
+use mathlib.Core.Path.{_≡_, refl, sym, ap, _∙_}
 use mathlib.Core.Bool.{Bool, true, false, cond}
 use mathlib.Core.List.{List, [], _∷_, _++_, map}
 use Prim.Native.Nat.{ℕ, zero, suc, _+_, _-_, _≤_, _<_}
-use native.Mathlib.Nat.{sub-zero, sub-self}
+use native.Mathlib.Nat.{sub-zero}
 use native.Mathlib.Numerals.{add-one}
 use native.Mathlib.Omega.{arith}
 use borrow.Author.Tests.{lt-ltb}
@@ -13,7 +13,6 @@ use lib.ListN.{length, take, drop, set, length-set}
 use lib.Seq.{take-suc-set, drop-set-lt, drop-drop}
 use Rattle.text_reading.specs.Fields.{upTo, fieldEnd, fieldsFrom}
 use Rattle.text_reading.proofs.FieldLaws.{fields-none, fields-step}
-use Rattle.calls_answers.specs.declared.numbers.Run.{Run}
 use Rattle.calls_lines.specs.Lines.{tab}
 use Rattle.calls_answers.specs.Numbers.{leading}
 use Rattle.calls_answers.specs.Reading.{putAt, RunRead}

@@ -9,7 +9,7 @@ use native.Mathlib.Omega.{arith}
 use borrow.Author.Tests.{lt-ltb, le-ltb}
 use lib.Dec.{T, eqb, leb, ltb, leb→le, lit≤}
 use lib.Ieee.Fits.{and-l, and-r}
-use lib.ListN.{length, getD, take, drop, replicate, length-take, length-drop, drop-of-length-le, length-map}
+use lib.ListN.{length, take, drop, replicate, length-take, length-drop, drop-of-length-le}
 use lib.Seq.{take-all}
 use lib.Ieee.{Float}
 use Rattle.floats.specs.F64.{nat}
@@ -27,7 +27,7 @@ use Rattle.calls_writing.specs.Trio.{trioText}
 use Rattle.calls_answers.specs.declared.numbers.Run.{Run}
 use Rattle.calls_lines.specs.Lines.{tab}
 use Rattle.calls_answers.specs.Numbers.{isCount, isWeight, weightValue, leading, shortWholeOf}
-use Rattle.calls_answers.specs.Families.{callIn, calledFrom}
+use Rattle.calls_answers.specs.Families.{calledFrom}
 use Rattle.calls_answers.specs.Reading.{RunRead, CountsRead, WeightsRead, LaidAt}
 use Rattle.calls_answers.specs.Answers.{fieldAt, clustersText, familyText}
 use Rattle.calls_answers.proofs.CallLaws.{ReadFrom, call-read}

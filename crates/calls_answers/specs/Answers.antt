@@ -2,8 +2,8 @@
 use Prim.Native.Nat.{ℕ, _+_, _*_}
 use Prim.Native.String as text
 use mathlib.Core.Bool.{Bool, true, false, cond}
-use mathlib.Core.List.{List, [], _∷_, map}
-use lib.Dec.{eqb, ltb}
+use mathlib.Core.List.{List, [], map}
+use lib.Dec.{ltb}
 use lib.ListN.{length, getD, take, drop}
 use Rattle.lists.specs.Lists.{someIn}
 use Rattle.text_reading.specs.Fields.{fieldsOf}
@@ -64,6 +64,10 @@ allelesText s kind site numbers =
     cond (ltb c (length numbers)) (bad site (3 + c) "a count")
     (mosaicText kind site (mosaicOf (s .params) (map countValue numbers)))
 
+-- A11: what is expected of a first field
+abbrev pub kindNames : text.String
+kindNames = "trio, trio2, family, family2, diploid or mosaic"
+
 -- A10: what a kind makes of the numbers, which its site stands before
 abbrev pub numbersText : Settings → Kind → List ℕ → List ℕ → List (List ℕ) → List ℕ
 numbersText s Trio kind site numbers = familyText false 1 kind site numbers
@@ -72,7 +76,7 @@ numbersText s Family kind site numbers = familyText true 1 kind site numbers
 numbersText s Family2 kind site numbers = familyText true 2 kind site numbers
 numbersText s Diploid kind site numbers = threeCountsText s kind site numbers
 numbersText s Mosaic kind site numbers = allelesText s kind site numbers
-numbersText s Unknown kind site numbers = bad site 1 "trio, trio2, family, family2, diploid or mosaic"
+numbersText s Unknown kind site numbers = bad site 1 kindNames
 
 abbrev pub isKnown : Kind → Bool
 isKnown Trio = true
@@ -90,7 +94,7 @@ fieldsText s fields =
     let site = fieldAt 1 fields in
     cond (isKnown (kindOf kind))
     (cond (someIn site) (numbersText s (kindOf kind) kind site (drop 2 fields)) (bad [] 2 "a site"))
-    (numbersText s Unknown kind site (drop 2 fields))
+    (bad site 1 kindNames)
 
 -- A9, A11: of a line that is too long the first 4,096 bytes are looked at: the last of their fields is the bad one, and the site is known
 -- if it is not the second

@@ -1,6 +1,6 @@
 -- The fields of a text that is joined from fields are these fields. Assumes nothing.
-use mathlib.Core.Path.{_≡_, refl, sym, ap, _∙_}
-use mathlib.Core.Bool.{Bool, true, false, not, true≢false}
+use mathlib.Core.Path.{_≡_, refl, ap, _∙_}
+use mathlib.Core.Bool.{Bool, true, false, not}
 use mathlib.Core.List.{List, [], _∷_, _++_, append-nil}
 use Prim.Native.Nat.{ℕ}
 use borrow.Author.Tests.{eq-eqb}
@@ -8,7 +8,7 @@ use lib.Dec.{eqb, T}
 use lib.Ieee.Fits.{and-l, and-r}
 use Rattle.lists.specs.Every.{every}
 use Rattle.text_reading.specs.Fields.{onFirst, fieldsOf}
-use Rattle.calls_writing.specs.Words.{joined, behindEach}
+use Rattle.calls_writing.specs.Words.{joined}
 use Rattle.calls_laws.specs.Written.{without}
 
 differs : (t : Bool) → T (not t) → t ≡ false

@@ -21,7 +21,7 @@ use Rattle.text_writing.specs.Laying.{wholeText}
 use Rattle.trio_desks.specs.Call.{callOf}
 use Rattle.calls_settings.specs.declared.settings.Settings.{Settings}
 use Rattle.calls_lines.specs.Lines.{carriageReturn, body, isNote}
-use Rattle.calls_writing.specs.Words.{tab, behindEach, joined}
+use Rattle.calls_writing.specs.Words.{tab, behindEach}
 use Rattle.calls_writing.specs.Trio.{trioText}
 use Rattle.calls_laws.proofs.FieldLaws.{fields-back}
 use Rattle.calls_laws.proofs.PlainLaws.{Plain, each-without, whole-plain, without-behind}
@@ -165,14 +165,14 @@ by-kind s true false site numbers h = rw h
 by-kind s true true site numbers h = rw h
 
 -- A10, A13: the answer to a line of a family that was written is that of the call of its counts
-pub line-back : (s : Settings) (animals second : Bool) (site : List ℕ) (n : ℕ) (counts : List ℕ)
+pub site-back : (s : Settings) (animals second : Bool) (site : List ℕ) (n : ℕ) (counts : List ℕ)
     → someIn site ≡ true → T (without tab site) → n < 10 ^ 15 → Each Small counts → length counts ≡ 3 * n
     → let kind = bytesOf (familyName animals second) in
     length (siteLine kind site n counts) ≤ 4096
     → answerText s (siteLine kind site n counts)
     ≡ trioText kind site n (callOf n (ordered animals n counts) (replicate n (nat 1)) (ruleNumber second))
 unfolding answerText bodyText
-line-back s animals second site n counts some whole few small many short =
+site-back s animals second site n counts some whole few small many short =
     let kind = bytesOf (familyName animals second) in
     let line = siteLine kind site n counts in
     rw (

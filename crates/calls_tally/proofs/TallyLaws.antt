@@ -2,7 +2,7 @@
 use mathlib.Core.Path.{_≡_, refl, sym, ap, _∙_}
 use mathlib.Core.Bool.{true}
 use mathlib.Core.List.{List, [], _∷_}
-use Prim.Native.Nat.{ℕ, suc, _+_, _-_, _^_, _<_, min, zero-le}
+use Prim.Native.Nat.{ℕ, suc, _+_, _-_, _^_, _<_, zero-le}
 use native.Mathlib.Nat.{not-suc-le-zero, add-zero}
 use native.Mathlib.Omega.{arith}
 use borrow.Author.Tests.{eq-eqb, ne-eqb, le-leb}
@@ -16,7 +16,7 @@ use Rattle.calls_tally.specs.declared.classes.Class.{Class}
 use Rattle.calls_tally.specs.declared.classes.Class.the-variants.{Note, Unreadable, Refused, Won, Tied, Inferred, Unread, Other}
 use Rattle.calls_tally.specs.declared.tally.Tally.{Tally}
 use Rattle.calls_tally.specs.Classes.{tab, noteByte, startsNote, groundClass, fieldAt, classOf, classNumber}
-use Rattle.calls_tally.specs.Tallies.{noTally, more, grown, grownSites, countedOf, callsText, tallyText}
+use Rattle.calls_tally.specs.Tallies.{answersOf, sitesOf, noTally, more, grown, grownSites, countedOf, callsText, tallyText}
 
 pub starts-empty : (l : List ℕ) → length l ≡ 0 → true ≡ startsNote l
 starts-empty [] h = refl
@@ -62,10 +62,6 @@ module _ (class : Class) (n x y : ℕ) (is-class : x ≡ classNumber class) (is-
 
 -- ---- what a tally says
 
--- all its counts together
-abbrev pub answersOf : Tally → ℕ
-answersOf t = t .notes + t .unreadable + t .refused + t .won + t .tied + t .inferred + t .unread + t .others
-
 -- an answer more is one more, in one count alone: each answer is of one class
 pub one-more : (t : Tally) (answer : List ℕ) → answersOf t < 2 ^ 64 - 1 → answersOf (countedOf t answer) ≡ answersOf t + 1
 unfolding countedOf
@@ -90,10 +86,6 @@ one-more t answer h = go (classOf answer)
     go Inferred = omega arith
     go Unread = omega arith
     go Other = omega arith
-
--- all its counts but that of notes
-abbrev pub sitesOf : Tally → ℕ
-sitesOf t = t .unreadable + t .refused + t .won + t .tied + t .inferred + t .unread + t .others
 
 -- the number of sites stays what the other counts come to
 pub sites-kept : (t : Tally) (answer : List ℕ) → t .sites < 2 ^ 64 - 1 → t .sites ≡ sitesOf t

@@ -1,5 +1,5 @@
 -- How many answers of each class there were, and this as a text. Definitions only (RULES.md, A17).
-use Prim.Native.Nat.{ℕ, suc, _^_, _-_, min}
+use Prim.Native.Nat.{ℕ, suc, _+_, _^_, _-_, min}
 use Prim.Native.String as text
 use mathlib.Core.Bool.{cond}
 use mathlib.Core.List.{List, [], _∷_, _++_}
@@ -59,3 +59,13 @@ unfoldable pub tallyText : Tally → List ℕ
 tallyText t =
     counted "sites " (t .sites) ++ callsText t ++ counted "no calls: refused " (t .refused)
     ++ counted ", unreadable " (t .unreadable) ++ counted ", notes " (t .notes) ++ newline
+
+-- ---- for the laws
+
+-- A17: all its counts together
+abbrev pub answersOf : Tally → ℕ
+answersOf t = t .notes + t .unreadable + t .refused + t .won + t .tied + t .inferred + t .unread + t .others
+
+-- A17: all its counts but that of notes
+abbrev pub sitesOf : Tally → ℕ
+sitesOf t = t .unreadable + t .refused + t .won + t .tied + t .inferred + t .unread + t .others

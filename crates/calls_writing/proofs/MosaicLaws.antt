@@ -9,7 +9,7 @@ use lib.ListN.{getD}
 use Rattle.lists.specs.Lists.{numbers, passing}
 use Rattle.lists.proofs.PassingLaws.{passing-append}
 use Rattle.text_writing.specs.Laying.{wholeText}
-use Rattle.calls_writing.specs.Words.{tab, comma, colon, joined, behindEach, figure, memberText}
+use Rattle.calls_writing.specs.Words.{tab, comma, colon, joined, figure, memberText}
 use Rattle.calls_writing.specs.Mosaic.{vafText}
 
 -- an allele that joins the list

@@ -7,7 +7,7 @@ use native.Mathlib.Nat.{le-trans, le-of-eq, le-of-suc-le-suc, zero-lt-suc, mul-l
 use native.Mathlib.Numerals.{add-one}
 use native.Mathlib.Omega.{arith}
 use borrow.Author.Tests.{eq-eqb, ne-eqb, le-leb, lt-leb, leb-true}
-use lib.Dec.{leb, eqb, lit≤}
+use lib.Dec.{leb, lit≤}
 use lib.ListN.{length, getD, drop, drop-of-length-le}
 use Rattle.lists.proofs.PlaceLaws.{drop-next}
 use Rattle.lists.specs.Every.{every}

@@ -7,11 +7,11 @@ use Rattle.calls.proofs.run.Statement.{statement}
 use Rattle.calls.proofs.run.Tie as tie
 
 abbrev Inv-loop : tie.InvT-loop
-Inv-loop settings input₀ line₀ text₀ told carried₀ shown₀ turns₀ more₀ input line text carried shown turns more =
+Inv-loop settings input₀ line₀ text₀ told answers-seen carried₀ shown₀ turns₀ more₀ input line text carried shown turns more =
     (65536 ≡ length input) × (65536 ≡ length line) × (65536 ≡ length text)
 
 abbrev μ-loop : tie.MeasureT-loop
-μ-loop settings input₀ line₀ text₀ told carried₀ shown₀ turns₀ more₀ input line text carried shown turns more =
+μ-loop settings input₀ line₀ text₀ told answers-seen carried₀ shown₀ turns₀ more₀ input line text carried shown turns more =
     turns
 
 large-buffer-requires : tie.Need-large-buffer-requires Inv-loop μ-loop
@@ -25,6 +25,9 @@ large-buffer-requires-3 c κs = search needs
 
 isatty-requires : tie.Need-isatty-requires Inv-loop μ-loop
 isatty-requires c κs = search needs
+
+isatty-requires-2 : tie.Need-isatty-requires-2 Inv-loop μ-loop
+isatty-requires-2 c κs = search needs
 
 nothing-carried-requires : tie.Need-nothing-carried-requires Inv-loop μ-loop
 nothing-carried-requires c κs = search needs
@@ -99,6 +102,7 @@ run-spec =
     large-buffer-requires-2
     large-buffer-requires-3
     isatty-requires
+    isatty-requires-2
     nothing-carried-requires
     now-requires
     loop-holds

@@ -1,11 +1,9 @@
 -- `calls_answers::answers::answer` meets its contract: the line without its carriage return is answered. Assumes nothing.
-use mathlib.Core.Path.{_≡_, sym, ap, _∙_}
-use mathlib.Core.List.{List}
+use mathlib.Core.Path.{sym, ap, _∙_}
 use Prim.Native.Nat.{ℕ}
 use lib.ListN.{take}
 use lib.Seq.{length-take-le}
 use borrow.Author.Needs.{needs}
-use Rattle.calls_lines.specs.Lines.{body}
 use Rattle.calls_answers.specs.Answers.{bodyText, answerText}
 use Rattle.calls_lines.proofs.LineLaws.{body-taken, body-short}
 use Rattle.calls_answers.proofs.SiteLaws.{laid-as}

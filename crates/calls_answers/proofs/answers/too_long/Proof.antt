@@ -1,14 +1,11 @@
 -- `calls_answers::answers::too_long` meets its contract: with the site or without. Assumes nothing.
-use mathlib.Core.Path.{_≡_, sym, ap, _∙_}
-use mathlib.Core.List.{List, []}
+use mathlib.Core.Path.{sym, ap, _∙_}
+use mathlib.Core.List.{List}
 use Prim.Native.Nat.{ℕ}
-use lib.ListN.{take, drop}
 use lib.Seq.{length-take-le}
 use borrow.Author.Needs.{needs}
-use Rattle.text_reading.specs.Fields.{upTo, fieldsOf}
 use Rattle.text_reading.specs.Texts.{bytesOf}
 use Rattle.calls_writing.specs.Unreadable.{unreadableText}
-use Rattle.calls_lines.specs.Lines.{tab}
 use Rattle.calls_answers.proofs.SiteLaws.{laid-as}
 use Rattle.calls_answers.proofs.AnswerLaws.{long-sited, long-alone}
 use Rattle.calls_answers.proofs.answers.too_long.Statement.{statement}

@@ -1,5 +1,5 @@
 -- `calls_answers::families::call_in_order` meets its contract. Assumes nothing.
-use mathlib.Core.Path.{_≡_, sym}
+use mathlib.Core.Path.{sym}
 use Prim.Native.Nat.{_*_}
 use borrow.Author.Needs.{needs}
 use lib.Seq.{length-take-le}

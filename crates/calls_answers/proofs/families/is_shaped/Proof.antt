@@ -1,6 +1,5 @@
 -- `calls_answers::families::is_shaped` meets its contract: each return is one case of the definition. Assumes nothing.
 use Prim.Native.Nat.{_*_}
-use mathlib.Core.Bool.{and-false}
 use borrow.Author.Needs.{needs}
 use borrow.Author.Tests.{eq-eqb, ne-eqb, le-leb, lt-leb}
 use Rattle.calls_answers.specs.Families.{shaped}

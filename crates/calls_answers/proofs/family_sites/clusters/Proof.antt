@@ -1,5 +1,5 @@
 -- `calls_answers::family_sites::clusters` meets its contract: a field that is no count or no weight, or the call. Assumes nothing.
-use mathlib.Core.Path.{_≡_, refl, sym, ap, _∙_}
+use mathlib.Core.Path.{refl, ap, _∙_}
 use mathlib.Core.Logic.{_⊎_, inl, inr, ⊎-elim}
 use mathlib.Core.List.{List}
 use Prim.Native.Nat.{ℕ, _+_, _*_, _≤_, _<_}
@@ -8,7 +8,7 @@ use lib.ListN.{length, drop}
 use lib.Ieee.{ofInt, ofBits}
 use borrow.Author.Needs.{needs}
 use borrow.Author.Tests.{leb-false}
-use Rattle.text_reading.specs.Fields.{upTo, fieldsFrom}
+use Rattle.text_reading.specs.Fields.{upTo}
 use Rattle.text_reading.specs.Texts.{bytesOf}
 use Rattle.calls_writing.specs.Unreadable.{unreadableText}
 use Rattle.calls_writing.specs.Trio.{trioText}

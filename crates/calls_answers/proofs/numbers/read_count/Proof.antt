@@ -1,5 +1,5 @@
 -- `calls_answers::numbers::read_count` meets its contract. Assumes nothing.
-use mathlib.Core.Path.{_≡_, sym, ap, _∙_}
+use mathlib.Core.Path.{sym, ap, _∙_}
 use borrow.Author.Needs.{needs}
 use Rattle.calls_answers.specs.declared.numbers.Count.the-variants.{Is}
 use Rattle.calls_answers.proofs.NumberLaws.{count-none, count-read, count-large, count-small}

@@ -1,11 +1,8 @@
 -- `calls_lines::lines::field_count` meets its contract. The loop's invariant: the fields so far and those that are left. Assumes nothing.
-use mathlib.Core.Path.{_≡_, sym, ap, _∙_}
-use Prim.Native.Nat.{ℕ, _+_, _-_, _≤_}
+use Prim.Native.Nat.{_+_, _-_}
 use native.Mathlib.Omega.{arith}
 use borrow.Author.Needs.{needs}
 use lib.ListN.{length}
-use Rattle.text_reading.specs.Fields.{fieldsOf, fieldsFrom, fieldEnd}
-use Rattle.calls_lines.specs.Lines.{tab}
 use Rattle.calls_lines.proofs.CountLaws.{Counted, counted-none, counted-more, counted-all, field-end-past}
 use Rattle.calls_lines.proofs.lines.field_count.Statement.{statement}
 use Rattle.calls_lines.proofs.lines.field_count.Tie as tie

@@ -1,6 +1,6 @@
 -- `calls_writing::mosaic_site::germline` meets its contract: by whether there is one allele. Assumes nothing.
 use mathlib.Core.Path.{refl}
-use borrow.Author.Tests.{eq-eqb, ne-eqb}
+use borrow.Author.Tests.{ne-eqb}
 use borrow.Author.Needs.{needs}
 use Rattle.calls_writing.proofs.mosaic_site.germline.Statement.{statement}
 use Rattle.calls_writing.proofs.mosaic_site.germline.Tie as tie

@@ -2,7 +2,7 @@
 use mathlib.Core.Path.{refl}
 use mathlib.Core.List.{[], _∷_}
 use Rattle.calls_writing.specs.Words.{tab, comma}
-use Rattle.calls_writing.proofs.ChainLaws.{first-laid, next-laid, all-laid}
+use Rattle.calls_writing.proofs.ChainLaws.{first-laid, all-laid}
 use borrow.Author.Needs.{needs}
 use Rattle.calls_writing.proofs.shown.lay_mark.Statement.{statement}
 use Rattle.calls_writing.proofs.shown.lay_mark.Tie as tie

@@ -5,7 +5,7 @@ use mathlib.Core.List.{List, _∷_}
 use Rattle.text_reading.specs.Fields.{upTo}
 use Rattle.calls_writing.specs.Words.{tab}
 use Rattle.calls_writing.proofs.NameLaws.{ground-name}
-use Rattle.calls_writing.proofs.ChainLaws.{first-laid, next-laid, all-laid}
+use Rattle.calls_writing.proofs.ChainLaws.{first-laid, all-laid}
 use borrow.Author.Needs.{needs}
 use Rattle.calls_writing.proofs.trio_site.lay_ground.Statement.{statement}
 use Rattle.calls_writing.proofs.trio_site.lay_ground.Tie as tie

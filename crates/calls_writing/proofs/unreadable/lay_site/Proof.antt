@@ -2,7 +2,7 @@
 use mathlib.Core.List.{_∷_}
 use Rattle.calls_writing.specs.Words.{tab, dash}
 use Rattle.calls_writing.proofs.SiteLaws.{no-site, some-site}
-use Rattle.calls_writing.proofs.ChainLaws.{first-laid, next-laid, all-laid}
+use Rattle.calls_writing.proofs.ChainLaws.{first-laid, all-laid}
 use borrow.Author.Needs.{needs}
 use Rattle.calls_writing.proofs.unreadable.lay_site.Statement.{statement}
 use Rattle.calls_writing.proofs.unreadable.lay_site.Tie as tie
