@@ -23,7 +23,7 @@ pub fn binomial(line: &mut Line, answers: &mut Answers) -> Option<()> {
 pub fn key(line: &mut Line, answers: &mut Answers) -> Option<()> {
     let x = line.float()?;
     line.end()?;
-    if x != x {
+    if x.is_nan() {
         answers.float(x);
     } else {
         answers.signed(floats::key::key(x));

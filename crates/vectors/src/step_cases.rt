@@ -1,5 +1,6 @@
 // The cases of the steps of a trio, which work with the parts of registers.
 use crate::answers::Answers;
+use crate::inputs::Rooms;
 use crate::line::Line;
 use crate::registers::Registers;
 use crate::trio_cases::lay_closed;
@@ -17,13 +18,11 @@ pub fn stepped(answers: &mut Answers, register: &mut Part, step: Stepped) {
 
 // An opening under a rule.
 fn opened(line: &mut Line, answers: &mut Answers, register: &mut Part, rule: u64) -> Option<()> {
-    let mut counts = [0u32; 2048];
-    let mut weights = [0.0f64; 2048];
-    let n = u64::from(line.number()?);
-    let counts = line.list(&mut counts)?;
-    let weights = line.list(&mut weights)?;
+    let mut rooms = Rooms::new();
+    let input = rooms.read(line)?;
     line.end()?;
-    stepped(answers, register, open_part(n, counts, weights, rule));
+    let step = open_part(input.clusters, input.counts, input.weights, rule);
+    stepped(answers, register, step);
     Some(())
 }
 
