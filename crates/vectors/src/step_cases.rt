@@ -13,7 +13,7 @@ use trio_parts::part::{Part, Stepped};
 // What came back from a step goes into a register.
 pub fn stepped(answers: &mut Answers, register: &mut Part, step: Stepped) {
     *register = step.part;
-    answers.whole(u64::from(refusals::number(step.refusal)));
+    answers.whole(u64::from(refusals::outcome_number(&step.outcome)));
 }
 
 // An opening under a rule.
@@ -21,8 +21,8 @@ fn opened(line: &mut Line, answers: &mut Answers, register: &mut Part, rule: u64
     let mut rooms = Rooms::new();
     let input = rooms.read(line)?;
     line.end()?;
-    let step = open_part(input.clusters, input.counts, input.weights, rule);
-    stepped(answers, register, step);
+    let made = open_part(input.clusters, input.counts, input.weights, rule);
+    stepped(answers, register, Stepped::from(made));
     Some(())
 }
 
