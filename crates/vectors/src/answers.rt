@@ -24,7 +24,7 @@ impl Answers {
         self.waiting.count = lay(&mut self.text, end, b" ");
     }
 
-    pub fn text(&mut self, word: &[u8]) {
+    pub fn word(&mut self, word: &[u8]) {
         let end = lay(&mut self.text, self.waiting.count, word);
         self.space(end);
     }

@@ -1,11 +1,11 @@
 // What an opening is given.
-use crate::line::Line;
+use crate::line::{Line, MOST};
 
 // Room for the lists of any line.
 #[derive(Clone, Copy)]
-pub struct Rooms {
-    counts: [u32; 2048],
-    weights: [f64; 2048],
+pub struct Room {
+    counts: [u32; MOST],
+    weights: [f64; MOST],
 }
 
 // How many clusters, and the two lists.
@@ -16,16 +16,16 @@ pub struct Input<'a> {
     pub weights: &'a [f64],
 }
 
-impl Rooms {
-    pub fn new() -> Rooms {
-        Rooms {
-            counts: [0; 2048],
-            weights: [0.0; 2048],
+impl Room {
+    pub fn new() -> Room {
+        Room {
+            counts: [0; MOST],
+            weights: [0.0; MOST],
         }
     }
 
     pub fn read<'a>(&'a mut self, line: &mut Line) -> Option<Input<'a>> {
-        let Rooms { counts, weights } = self;
+        let Room { counts, weights } = self;
         Some(Input {
             clusters: u64::from(line.number()?),
             counts: line.list(counts)?,

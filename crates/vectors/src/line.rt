@@ -8,6 +8,9 @@ use text_reading::wholes::{Whole, read_whole};
 // What parts two words.
 const SPACE: u8 = b' ';
 
+// No line has so many words, the shortest of which is ` 0`.
+pub const MOST: usize = 2048;
+
 // A line, and where its next word starts: past its end where it has no more.
 #[derive(Clone, Copy)]
 pub struct Line<'a> {
@@ -55,11 +58,7 @@ impl<'a> Line<'a> {
 
     // Nothing, where no word is left.
     pub fn end(&self) -> Option<()> {
-        if self.bytes.len() < self.next {
-            Some(())
-        } else {
-            None
-        }
+        (self.bytes.len() < self.next).then_some(())
     }
 
     pub fn whole(&mut self) -> Option<u64> {
@@ -88,7 +87,7 @@ impl<'a> Line<'a> {
         Some(self.up_to(1)? == 1)
     }
 
-    // The bits of a float.
+    // The bits of a float; those of every NaN are written `nan`.
     pub fn bits(&mut self) -> Option<u64> {
         let word = self.word();
         if is_text(word, b"nan") {

@@ -1,6 +1,6 @@
 // The cases of the steps of a trio, which work with the parts of registers.
 use crate::answers::Answers;
-use crate::inputs::Rooms;
+use crate::inputs::Room;
 use crate::line::Line;
 use crate::registers::Registers;
 use crate::trio_cases::lay_closed;
@@ -18,8 +18,8 @@ pub fn stepped(answers: &mut Answers, register: &mut Part, step: Stepped) {
 
 // An opening under a rule.
 fn opened(line: &mut Line, answers: &mut Answers, register: &mut Part, rule: u64) -> Option<()> {
-    let mut rooms = Rooms::new();
-    let input = rooms.read(line)?;
+    let mut room = Room::new();
+    let input = room.read(line)?;
     line.end()?;
     let made = open_part(input.clusters, input.counts, input.weights, rule);
     stepped(answers, register, Stepped::from(made));
