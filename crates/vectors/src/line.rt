@@ -3,7 +3,7 @@ use floats::bits::of_bits;
 use text_reading::fields::{field, next_field};
 use text_reading::hexadecimals::{hex_digit, read_hexadecimal};
 use text_reading::texts::is_text;
-use text_reading::wholes::{Whole, read_whole};
+use text_reading::wholes::read_whole;
 
 // What parts two words.
 const SPACE: u8 = b' ';
@@ -37,11 +37,7 @@ impl Member for f64 {
 
 // The byte that two hexadecimal digits write.
 fn byte_of(high: u8, low: u8) -> Option<u8> {
-    let (h, l) = (hex_digit(high), hex_digit(low));
-    if h > 15 || l > 15 {
-        return None;
-    }
-    u8::try_from(16 * h + l).ok()
+    u8::try_from(hex_digit(high)? << 4 | hex_digit(low)?).ok()
 }
 
 impl<'a> Line<'a> {
@@ -62,10 +58,7 @@ impl<'a> Line<'a> {
     }
 
     pub fn whole(&mut self) -> Option<u64> {
-        match read_whole(self.word()) {
-            Whole::Is(n) => Some(n),
-            Whole::Unreadable => None,
-        }
+        read_whole(self.word())
     }
 
     // A whole number of at most so much.
@@ -93,10 +86,7 @@ impl<'a> Line<'a> {
         if is_text(word, b"nan") {
             return Some(0x7FF8_0000_0000_0000);
         }
-        match read_hexadecimal(word) {
-            Whole::Is(bits) => Some(bits),
-            Whole::Unreadable => None,
-        }
+        read_hexadecimal(word)
     }
 
     pub fn float(&mut self) -> Option<f64> {
