@@ -1,0 +1,2 @@
+-- What belongs to no one function of `diploid_qualities`.
+mod ScoreLaws
