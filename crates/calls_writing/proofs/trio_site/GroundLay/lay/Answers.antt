@@ -1,11 +1,8 @@
 -- `calls_writing::trio_site::GroundLay::lay` meets its contract: each arm lays the bytes of its case's name. Assumes nothing.
 use Rattle.calls_writing.proofs.trio_site.GroundLay.lay.Goals as goal
 
-pub returns-in-NoGround : goal.returns-in-NoGround
-returns-in-NoGround c = rw c.in-NoGround.is c.lay.ensures
-
 pub returns-in-Won : goal.returns-in-Won
-returns-in-Won c = rw c.in-Won.is c.lay-in-Won.ensures
+returns-in-Won c = rw c.in-Won.is c.lay.ensures
 
 pub returns-in-Tied : goal.returns-in-Tied
 returns-in-Tied c = rw c.in-Tied.is c.lay-in-Tied.ensures

@@ -1,0 +1,2 @@
+-- The laws of `trio_c`: what is written of a refusal.
+pub mod RefusedLaws
