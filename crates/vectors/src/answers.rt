@@ -1,5 +1,6 @@
 // The answers that wait to be written: words, and a space behind each but the last of an answer, which a newline follows.
 use floats::bits::bits;
+use refusals::{Refusal, outcome_number};
 use std::io::Stdout;
 use text_lines::waiting::{Waiting, is_due, may_go, written};
 use text_writing::hexadecimals::lay_bits;
@@ -32,6 +33,11 @@ impl Answers {
     pub fn whole(&mut self, n: u64) {
         let end = lay_whole(&mut self.text, self.waiting.count, n);
         self.space(end);
+    }
+
+    // The number of a refusal, 0 where there is none.
+    pub fn outcome<T: Drop>(&mut self, outcome: &Result<T, Refusal>) {
+        self.whole(u64::from(outcome_number(outcome)));
     }
 
     pub fn signed(&mut self, z: i64) {

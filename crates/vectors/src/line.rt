@@ -3,7 +3,7 @@ use floats::bits::of_bits;
 use text_reading::fields::{field, next_field};
 use text_reading::hexadecimals::{hex_digit, read_hexadecimal};
 use text_reading::texts::is_text;
-use text_reading::wholes::read_whole;
+use text_reading::wholes::{read_up_to, read_whole};
 
 // What parts two words.
 const SPACE: u8 = b' ';
@@ -63,8 +63,7 @@ impl<'a> Line<'a> {
 
     // A whole number of at most so much.
     pub fn up_to(&mut self, most: u64) -> Option<u64> {
-        let n = self.whole()?;
-        if n > most { None } else { Some(n) }
+        read_up_to(self.word(), most)
     }
 
     pub fn number(&mut self) -> Option<u32> {

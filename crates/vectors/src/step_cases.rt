@@ -13,7 +13,7 @@ use trio_parts::part::{Part, Stepped};
 // What came back from a step goes into a register.
 pub fn stepped(answers: &mut Answers, register: &mut Part, step: Stepped) {
     *register = step.part;
-    answers.whole(u64::from(refusals::outcome_number(&step.outcome)));
+    answers.outcome(&step.outcome);
 }
 
 // An opening under a rule.
