@@ -67,6 +67,7 @@ impl<'a> Hypothesis<'a> {
 
     // The log likelihood of VAFs whose terms are given: from the log factorial of the total, each allele's log factorial taken off and then
     // its term added. A germline allele's term is made with the logarithm of the germline share.
+    #[tactic(auto, unfolding(crate::specs::Progress::likelihood_by, crate::specs::Progress::term_at))]
     pub(crate) fn likelihood(&self, vafs: &[f64; 8], terms: &[f64; 8]) -> f64
         ensures { result ≡ likelihood_here self.now.counts.now self.now.pair self.now.shared.now vafs.now terms.now }
     {
