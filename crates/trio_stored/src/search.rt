@@ -57,6 +57,8 @@ pub(crate) struct Search<'a> {
     ghost highest: { AtMost child.now g top },
 }
 
+// Stays: that what is held lies past a position is asked of each step. The position falls with every step, so a type with the fact would
+// have to carry it, and each step to make the type anew.
 impl<'a> Search<'a> {
     // The search over the scores of n clusters.
     pub(crate) fn new(n: u64, rule: u64, scores: &'a Scores) -> Search<'a>
