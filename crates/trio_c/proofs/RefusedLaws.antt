@@ -1,5 +1,5 @@
--- O2: of a closing that is refused, of any part, and of the call of an input that is refused, zeros are written, so that no flag is set; and
--- zero is written for the ground of nothing else. Assumes nothing.
+-- O2: of a closing that is refused, of any part, and of the call of an input that is refused, zeros are written, so that no flag is set;
+-- and zero is written for the ground of nothing else. Assumes nothing.
 use Prim.Native.Nat.{ℕ, ◌≤◌}
 use mathlib.Core.Bool.{true≢false}
 use mathlib.Core.List.{List}
