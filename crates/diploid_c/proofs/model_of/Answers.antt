@@ -1,7 +1,7 @@
 -- `diploid_c::model_of` meets its contract: each `?` hands on what the definition hands on. Assumes nothing.
 use Rattle.std.proofs.Common.{◌≡◌, Ok, Err, rules}
 use Rattle.diploid_models.specs.Models.{mode_of}
-use Rattle.diploid_c.specs.Diploid.{three_of, model_of}
+use Rattle.diploid_c.specs.Diploid.{three_given, model_of}
 use Rattle.diploid_c.proofs.model_of.Goals as goal
 
 pub returns-in_err-try_from : goal.returns-in_err-try_from
@@ -17,7 +17,7 @@ unfolding model_of
 returns-in_err-three c =
     let r = c.in_err-three.field-0.0 in
     let mode : mode_of c.args.mode ≡ Ok c.in_ok-try_from.field-0 = search rules in
-    let fractions : three_of c.args.fractions.now ≡ Err r = search rules in
+    let fractions : three_given c.args.fractions.now ≡ Err r = search rules in
     let left : c.from_residual-in_err-three.result ≡ Err r = search rules in
     rw (left, mode, fractions)
 
@@ -26,8 +26,8 @@ unfolding model_of
 returns-in_err-three-2 c =
     let r = c.in_err-three-2.field-0.0 in
     let mode : mode_of c.args.mode ≡ Ok c.in_ok-try_from.field-0 = search rules in
-    let fractions : three_of c.args.fractions.now ≡ Ok c.in_ok-three.field-0 = search rules in
-    let means : three_of c.args.means.now ≡ Err r = search rules in
+    let fractions : three_given c.args.fractions.now ≡ Ok c.in_ok-three.field-0 = search rules in
+    let means : three_given c.args.means.now ≡ Err r = search rules in
     let left : c.from_residual-in_err-three-2.result ≡ Err r = search rules in
     rw (left, mode, fractions, means)
 
@@ -36,9 +36,9 @@ unfolding model_of
 returns-in_err-three-3 c =
     let r = c.in_err-three-3.field-0.0 in
     let mode : mode_of c.args.mode ≡ Ok c.in_ok-try_from.field-0 = search rules in
-    let fractions : three_of c.args.fractions.now ≡ Ok c.in_ok-three.field-0 = search rules in
-    let means : three_of c.args.means.now ≡ Ok c.in_ok-three-2.field-0 = search rules in
-    let precisions : three_of c.args.precisions.now ≡ Err r = search rules in
+    let fractions : three_given c.args.fractions.now ≡ Ok c.in_ok-three.field-0 = search rules in
+    let means : three_given c.args.means.now ≡ Ok c.in_ok-three-2.field-0 = search rules in
+    let precisions : three_given c.args.precisions.now ≡ Err r = search rules in
     let left : c.from_residual-in_err-three-3.result ≡ Err r = search rules in
     rw (left, mode, fractions, means, precisions)
 
@@ -46,7 +46,7 @@ pub returns : goal.returns
 unfolding model_of
 returns c =
     let mode : mode_of c.args.mode ≡ Ok c.in_ok-try_from.field-0 = search rules in
-    let fractions : three_of c.args.fractions.now ≡ Ok c.in_ok-three.field-0 = search rules in
-    let means : three_of c.args.means.now ≡ Ok c.in_ok-three-2.field-0 = search rules in
-    let precisions : three_of c.args.precisions.now ≡ Ok c.in_ok-three-3.field-0 = search rules in
+    let fractions : three_given c.args.fractions.now ≡ Ok c.in_ok-three.field-0 = search rules in
+    let means : three_given c.args.means.now ≡ Ok c.in_ok-three-2.field-0 = search rules in
+    let precisions : three_given c.args.precisions.now ≡ Ok c.in_ok-three-3.field-0 = search rules in
     rw (mode, fractions, means, precisions)
