@@ -1,7 +1,7 @@
 -- O2: of a closing that is refused, of any part, and of the call of an input that is refused, zeros are written, so that no flag is set
 -- and the quality is 0; zero is written for the ground of nothing else. T9: so is what is written where there is no runner-up. Assumes
 -- nothing.
-use Prim.Native.Nat.{ℕ, ◌≤◌}
+use Prim.Native.Nat.{ℕ}
 use mathlib.Core.Bool.{true≢false}
 use mathlib.Core.List.{List}
 use mathlib.Core.Logic.{◌↔◌, ◌≢◌}
@@ -63,4 +63,7 @@ refused_nothing (Err r) e = refl
 -- T9: where there is no runner-up, its places are zero
 pub no_runner_written : (k : Call) → k.runner ≡ None → ((call_numbers k).position ≡ 0) × ((call_numbers k).second ≡ of_bits binary64 0)
 unfolding of_bits
-no_runner_written k e = (ap (λ (r : Option Entry). (unwrap_or r no_entry).position) e, ap (λ (r : Option Entry). (unwrap_or r no_entry).score) e)
+no_runner_written k e = (
+  ap (λ (r : Option Entry). (unwrap_or r no_entry).position) e,
+  ap (λ (r : Option Entry). (unwrap_or r no_entry).score) e,
+)

@@ -35,12 +35,6 @@ impl Answers {
         self.space(end);
     }
 
-    pub fn zeros(&mut self, n: usize) {
-        for _ in 0..n {
-            self.whole(0);
-        }
-    }
-
     // The number of a refusal, 0 where there is none.
     pub fn outcome<T: Drop>(&mut self, outcome: &Result<T, Refusal>) {
         self.whole(u64::from(outcome_number(outcome)));

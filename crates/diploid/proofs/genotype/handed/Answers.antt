@@ -1,6 +1,6 @@
--- `mosaic_c::handed` meets its contract. Assumes nothing.
+-- `diploid::genotype::handed` meets its contract. Assumes nothing.
 use lib.Ieee.{of_int, of_bits}
-use Rattle.mosaic_c.proofs.handed.Goals as goal
+use Rattle.diploid.proofs.genotype.handed.Goals as goal
 
 pub returns-in-Err : goal.returns-in-Err
 unfolding of_int of_bits
