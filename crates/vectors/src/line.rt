@@ -1,6 +1,6 @@
 // The words of a line, read one behind the other (docs/VECTORS.md, "A line").
 use floats::bits::of_bits;
-use text_reading::fields::{field, next_field};
+use text_reading::fields::field;
 use text_reading::hexadecimals::{hex_digit, read_hexadecimal};
 use text_reading::texts::is_text;
 use text_reading::wholes::{read_up_to, read_whole};
@@ -45,10 +45,10 @@ impl<'a> Line<'a> {
         Line { bytes, next: 0 }
     }
 
-    // The next word; a word that is not there is empty, and nothing reads that.
+    // The next word, for whose end the line is walked once; a word that is not there is empty, and nothing reads that.
     pub fn word(&mut self) -> &'a [u8] {
         let word = field(self.bytes, self.next, SPACE);
-        self.next = next_field(self.bytes, self.next, SPACE);
+        self.next = self.next.saturating_add(word.len()).saturating_add(1);
         word
     }
 
