@@ -45,10 +45,6 @@ impl Answers {
         self.space(end);
     }
 
-    pub fn flag(&mut self, b: bool) {
-        self.whole(u64::from(b));
-    }
-
     pub fn bits(&mut self, bits: u64) {
         let end = lay_bits(&mut self.text, self.waiting.count, bits);
         self.space(end);
